@@ -1,0 +1,15 @@
+-- What the judge promises, from the top. A folder beside a file holds the laws of what the file defines.
+--   Word, Types, Verdict           the words of document 001, its types, and what a verdict says
+--   Bytes, Tree, Syntax, Limits    model text: bytes, trees, and which text spells which tree
+--   Fault                          what is wrong with a text, and the answer to it
+--   Model, Rule                    models, the nodes of a rule, and the type that it means
+pub mod Word
+pub mod Types
+pub mod Verdict
+pub mod Bytes
+pub mod Tree
+pub mod Syntax
+pub mod Limits
+pub mod Fault
+pub mod Model
+pub mod Rule

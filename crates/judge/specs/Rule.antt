@@ -1,0 +1,35 @@
+-- Rules: which model text reads into which rule, and the type that a rule means.
+use mathlib.Core.Path.{_≡_}
+use mathlib.Core.List.{List, _++_}
+use Prim.Native.Nat.{ℕ, _-_}
+use lib.ListN.{length, replicate}
+use Rattle.judge.specs.declared.rule.Sign.the-variants.{None}
+use Rattle.judge.specs.declared.rule.Mark.the-variants.{Plain}
+use Rattle.judge.specs.declared.rule.Kind.the-variants.{Group}
+use Rattle.judge.specs.declared.rule.Node.{Node}
+use Rattle.judge.specs.declared.rule.Rule.{Rule}
+use Rattle.judge.specs.Bytes.{Text}
+use Rattle.judge.specs.Syntax.{Syntax}
+use Rattle.judge.specs.Fault.{Answers, accepted}
+use Rattle.judge.specs.Types.{Ty}
+use Rattle.judge.specs.Model.{Model, modelOf, encode, typeOf}
+use Rattle.judge.specs.Limits.{maxNodes}
+
+-- what a place holds that no node fills: the node of `()`
+abbrev pub unused : Node
+unused = record { kind = Group None 0; mark = Plain }
+
+abbrev pub ruleOf : Model → Rule
+ruleOf t = record { nodes = encode t ++ replicate (maxNodes - length (encode t)) unused; len = length (encode t) }
+
+-- the text is accepted, and r is the rule of its tree
+pub record ReadsInto (x : Text) (r : Rule) : Type 0 where
+  pub tree : Syntax
+  pub answered : Answers x (accepted tree)
+  pub rule-is : r ≡ ruleOf (modelOf tree)
+
+-- some model text reads into r, and A is the type that it means (`Rule.Laws.means-once`: there is no second one)
+pub record Means (r : Rule) (A : Ty) : Type 0 where
+  pub text : Text
+  pub reads : ReadsInto text r
+  pub type-is : A ≡ typeOf (modelOf (reads .tree))

@@ -1,0 +1,5 @@
+// The judge: rules, and what they say of rows.
+
+pub mod fault;
+pub mod rule;
+pub mod verdict;
