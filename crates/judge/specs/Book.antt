@@ -41,7 +41,7 @@ pub data Enters (n : ℕ) : Book → Call → Reply → Book → Type 0 where
   no-room : {b : Book} {x : ℕ} → x ≤ names (b .rule) → length (b .row) ≡ room n → Enters n b (adding x) (refuses NoRoom) b
   added : {b : Book} {x : ℕ} → x ≤ names (b .rule) → length (b .row) < room n → Enters n b (adding x) nothing (record { rule = b .rule; row = b .row ++ (x ∷ []) })
   none-left : {b : Book} → b .row ≡ [] → Enters n b takingBack (refuses NoChildren) b
-  taken : {b : Book} {w : Word} {x : ℕ} → b .row ≡ w ++ (x ∷ []) → Enters n b takingBack nothing (record { rule = b .rule; row = w })
+  taken : {b : Book} {w : Word} (x : ℕ) → b .row ≡ w ++ (x ∷ []) → Enters n b takingBack nothing (record { rule = b .rule; row = w })
   asked : {b : Book} {A : Ty} {v : Verdict} → Means (b .rule) A → Says A (b .row) v → Enters n b asking (says v) b
 
 -- the same for a list of calls, with a reply to each
