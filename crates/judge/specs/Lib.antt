@@ -4,7 +4,6 @@
 --   Fault                          what is wrong with a text, and the answer to it
 --   Model, Rule                    models, the nodes of a rule, and the type that it means
 --   Judge                          what a row is answered
---   Book, Session                  what a list of calls is answered, and what each method of a session does
 pub mod Word
 pub mod Types
 pub mod Verdict
@@ -16,4 +15,3 @@ pub mod Fault
 pub mod Model
 pub mod Rule
 pub mod Judge
-pub mod Book

@@ -2,5 +2,4 @@
 
 pub mod fault;
 pub mod rule;
-pub mod session;
 pub mod verdict;
