@@ -3,13 +3,18 @@ use mathlib.Core.Path.{_≡_, refl, sym, ap, _∙_}
 use mathlib.Core.Bool.{true, cond, true≢false, or-comm}
 use mathlib.Core.List.{[], _∷_, _++_, cons≢nil}
 use Prim.Native.Nat.{ℕ}
+use lib.ListN.{length}
 use Rattle.judge.specs.Tests.{by-test}
-use Rattle.judge.specs.Word.{Word, Names, either, Apart, Over, Shuffle, none, left, right}
+use Rattle.judge.specs.Word.{Word, Names, only, either, Apart, Over, Shuffle, none, left, right}
 use Rattle.judge.specs.Word.Laws.{either-left, either-right, apart-sym, apart-no, shuffle-swap}
 
 unfoldable pub keep : Names → Word → Word
 keep p [] = []
 keep p (x ∷ w) = cond (p x) (x ∷ keep p w) (keep p w)
+
+-- how often a stands in w
+abbrev pub count : ℕ → Word → ℕ
+count a w = length (keep (only a) w)
 
 pub keep-append : (p : Names) (u v : Word) → keep p (u ++ v) ≡ keep p u ++ keep p v
 unfolding keep
