@@ -4,6 +4,7 @@
 --   Fault                          what is wrong with a text, and the answer to it
 --   Model, Rule                    models, the nodes of a rule, and the type that it means
 --   Judge                          what a row is answered
+pub mod Tests
 pub mod Word
 pub mod Types
 pub mod Verdict

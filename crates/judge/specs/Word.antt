@@ -1,4 +1,7 @@
 -- Words over name numbers, and their shuffles: document 001, section 2.1.
+pub mod Laws
+pub mod Projection
+pub mod Order
 use mathlib.Core.Path.{_≡_}
 use mathlib.Core.Bool.{Bool, true, _||_}
 use mathlib.Core.List.{List, [], _∷_, _++_}
