@@ -1,6 +1,6 @@
 -- What an algebra gives for a model, computed over its list of nodes from the last to the first: the trees read so far stand on a stack, and a
 -- group takes its members from it. And the same way the numbers of the atoms.
-use mathlib.Core.Path.{_≡_, refl, ap, ap₂, _∙_}
+use mathlib.Core.Path.{_≡_, refl, ap, _∙_}
 use mathlib.Core.List.{List, [], _∷_, _++_, map, append-assoc, append-nil}
 use Prim.Native.Nat.{ℕ, zero, suc, _+_, _-_, _≤_, _<_}
 use native.Mathlib.Nat.{zero-add, add-zero, add-assoc, min-eq-left}
@@ -14,7 +14,7 @@ use Rattle.judge.specs.declared.rule.Mark.{Mark}
 use Rattle.judge.specs.declared.rule.Kind.{Kind}
 use Rattle.judge.specs.declared.rule.Kind.the-variants.{Atom, Group}
 use Rattle.judge.specs.declared.rule.Node.{Node as RuleNode}
-use Rattle.judge.specs.Tree.{Node, leaf, group, Tree, marked, Members, none, _▹_, size, weight, nodeWeight, membersWeight}
+use Rattle.judge.specs.Tree.{Node, leaf, group, marked, Members, none, _▹_, size, weight, nodeWeight, membersWeight}
 use Rattle.judge.specs.Model.{Model, Counts, Algebra, encode, encodeNode, encodeAll, fold, foldNode, foldAll}
 
 -- the number of the next atom behind a node that stands at atom k
