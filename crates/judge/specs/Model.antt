@@ -2,6 +2,7 @@
 -- document 01, "Model text".
 pub mod Eval
 pub mod Laws
+pub mod Types
 use mathlib.Core.List.{List, [], _∷_, _++_}
 use Prim.Native.Nat.{ℕ, zero, suc, _+_, _≤_}
 use Rattle.judge.specs.declared.rule.Upper.{Upper}
