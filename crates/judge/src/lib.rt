@@ -1,5 +1,6 @@
 // The judge: rules, and what they say of rows.
 
 pub mod fault;
+pub mod row;
 pub mod rule;
 pub mod verdict;
