@@ -2,6 +2,8 @@
 
 pub const MAX_NODES: usize = 128;
 
+pub const MAX_ATOMS: usize = 64;
+
 // The upper end of a count: a number, or none (`*`).
 pub enum Upper {
     Number(u16),
