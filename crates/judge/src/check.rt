@@ -1,11 +1,11 @@
 // Whether a rule is that of a model within the limits: refusal 40.
 
 ghost use mathlib.Core.Path.{_≡_};
-ghost use Prim.Native.Nat.{_+_, _≤_, max, min};
+ghost use Prim.Native.Nat.{_≤_, max, min};
 ghost use lib.ListN.{drop};
-ghost use Rattle.judge.specs.Limits.{maxDepth, maxNodes};
+ghost use Rattle.judge.specs.Limits.{maxNodes};
 ghost use Rattle.judge.specs.Model.Eval.{after, needed};
-ghost use Rattle.judge.specs.Rule.Test.{upperFits, signFits, kindFits, plain, isUnused, allUnused, highest, depthOf, wellFormed};
+ghost use Rattle.judge.specs.Rule.Test.{upperFits, signFits, kindFits, plain, isUnused, allUnused, highest, deeper, depthOf, wellFormed};
 use crate::rule::Kind;
 use crate::rule::MAX_ATOMS;
 use crate::rule::MAX_COUNT;
@@ -114,7 +114,7 @@ fn deepest(depths: &[u8]) -> u8
 
 // One more than its deepest member, but no more than one over the limit.
 fn one_deeper(depth: u8) -> u8
-    ensures { λ r. ⌜ r ≡ min (maxDepth + 1) (depth + 1) ⌝ }
+    ensures { λ r. ⌜ r ≡ deeper depth ⌝ }
 {
     if depth < MAX_DEPTH {
         depth + 1

@@ -24,11 +24,11 @@ use Rattle.judge.specs.Limits.{maxCount, maxDepth, maxAtoms, maxNodes}
 use Rattle.judge.specs.Tree.{Node, leaf, group, marked, Members, none, _▹_, SignFits, size, weight, atoms, nodes, depth, nodeDepth, membersDepth}
 use Rattle.judge.specs.Tree.{NodeFormed, Formed, MembersFormed}
 use Rattle.judge.specs.Model.{Model, Counts, Algebra, encode, encodeNode, encodeAll, fold, foldNode, foldAll}
-use Rattle.judge.specs.Model.Eval.{after, needed, count, eval, eval-tree, length-eval, number, number-encode}
+use Rattle.judge.specs.Model.Eval.{after, needed, count, eval, length-eval, number, number-encode}
 use Rattle.judge.specs.Model.Laws.{Enough, count-encodeAll, decode, length-encode}
 use Rattle.judge.specs.Model.Types.{UpperFits, CountsFit}
 use Rattle.judge.specs.Rule.{unused, ruleOf}
-use Rattle.judge.specs.Rule.Laws.{used, used-is}
+use Rattle.judge.specs.Rule.Laws.{used, used-is, rule-eval}
 
 pub record WellFormed (r : Rule) : Type 0 where
   pub model : Model
@@ -159,13 +159,16 @@ abbrev pub highest : List ℕ → ℕ
 highest [] = 0
 highest (d ∷ l) = max d (highest l)
 
+abbrev pub deeper : ℕ → ℕ
+deeper d = min (maxDepth + 1) (d + 1)
+
 -- a node, by the greatest depth of its members
 abbrev pub depthOf : Kind → ℕ → ℕ
 depthOf (Atom lo hi) d = 0
-depthOf (Group s n) d = min (maxDepth + 1) (d + 1)
+depthOf (Group s n) d = deeper d
 
 abbrev pub depthBy : Algebra ℕ
-depthBy = record { onAtom = λ k lo hi. 0; onGroup = λ k s l. min (maxDepth + 1) (highest l + 1); onMark = λ m d. d }
+depthBy = record { onAtom = λ k lo hi. 0; onGroup = λ k s l. deeper (highest l); onMark = λ m d. d }
 
 mutual
   depth-node : (n : Node Counts) (k : ℕ) → foldNode depthBy n k ≡ min (maxDepth + 1) (nodeDepth n)
@@ -236,7 +239,7 @@ module _ (t : Model) where
   shallow-is : (shallowTree (eval depthBy (used (ruleOf t)) 0) ≡ true) ↔ (depth t ≤ maxDepth)
   shallow-is =
       let d = min (maxDepth + 1) (depth t) in
-      rw (used-is t, eval-tree depthBy t 0, depth-is t 0) (λ h. omega (arith, leb-true d maxDepth h), λ h. le-leb d maxDepth (omega arith))
+      rw (rule-eval depthBy t 0, depth-is t 0) (λ h. omega (arith, leb-true d maxDepth h), λ h. le-leb d maxDepth (omega arith))
 
   atoms-is : (leb (number (used (ruleOf t)) 0) maxAtoms ≡ true) ↔ (atoms t ≤ maxAtoms)
   atoms-is = rw (used-is t, number-encode t 0, zero-add) (leb-is (atoms t) maxAtoms)
