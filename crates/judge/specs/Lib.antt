@@ -4,6 +4,7 @@
 --   Bytes, Tree, Syntax, Limits    model text: bytes, trees, and which text spells which tree
 --   Fault                          what is wrong with a text, and the answer to it
 --   Model, Rule                    models, the nodes of a rule, and the type that it means
+--   Stack                          lists: a stack that grows down in an array
 --   Judge                          what a row is answered
 pub mod Tests
 pub mod Word
@@ -17,3 +18,4 @@ pub mod Fault
 pub mod Model
 pub mod Rule
 pub mod Judge
+pub mod Stack
