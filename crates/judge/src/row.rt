@@ -1,15 +1,25 @@
 // What two passes over a row compute: the first of each name, the second of each node.
 
 ghost use mathlib.Core.Path.{_≡_};
+ghost use mathlib.Core.List.{[]};
 ghost use Prim.Native.Nat.{_+_, _≤_, _<_, max, min};
-ghost use lib.ListN.{length};
-ghost use Rattle.judge.specs.Limits.{maxAtoms, maxRow};
+ghost use lib.ListN.{length, getD};
+ghost use Rattle.judge.specs.Limits.{maxAtoms, maxNodes, maxRow};
 ghost use Rattle.judge.specs.Types.Decide.{under, joined, begun};
 ghost use Rattle.judge.specs.Types.Attribute.{emptyAttribute, atomAttribute, pairAttribute, countedAttribute, markedAttribute};
 ghost use Rattle.judge.specs.Model.{operator};
+ghost use Rattle.judge.specs.Rule.{names};
 ghost use Rattle.judge.specs.Judge.Tally.{unseen, noting, Tallied};
+ghost use Rattle.judge.specs.Judge.Pass.{partAttribute, grownAttribute, rootAttribute};
+use crate::check::atoms_of;
+use crate::check::members_of;
+use crate::check::name_count;
+use crate::check::smaller;
+use crate::rule::Kind;
 use crate::rule::MAX_ATOMS;
+use crate::rule::MAX_NODES;
 use crate::rule::Mark;
+use crate::rule::Rule;
 use crate::rule::Sign;
 use crate::rule::Upper;
 
@@ -192,4 +202,59 @@ fn marked(length: u16, mark: Mark, x: Attribute) -> Attribute
         Mark::Plain => x,
         Mark::Optional => pair(Sign::Choice, empty(length), x),
     }
+}
+
+// A node with none of its members yet.
+fn begin(length: u16, kind: Kind, seen: Seen) -> Attribute
+    ensures { λ r. ⌜ r ≡ partAttribute length kind seen [] ⌝ }
+{
+    match kind {
+        Kind::Atom { min, max } => counted(length, min, max, seen),
+        Kind::Group {
+            sign: _,
+            members: _,
+        } => empty(length),
+    }
+}
+
+// With a member more: the first is taken as it is, each other is joined.
+fn grown(kind: Kind, first: bool, x: Attribute, y: Attribute) -> Attribute
+    ensures { λ r. ⌜ r ≡ grownAttribute kind first x y ⌝ }
+{
+    match kind {
+        Kind::Atom { min: _, max: _ } => x,
+        Kind::Group { sign, members: _ } => if first { y } else { pair(sign, x, y) },
+    }
+}
+
+// The attribute of the first node, by what is seen of each name in a row of this length. Nodes from the last to the first: the attributes of the
+// trees that are read stand on a stack that grows down, and a group takes its members from it. Names are counted down with the atoms.
+fn root(rule: Rule, length: u16, seen: [Seen; MAX_ATOMS + 1]) -> Attribute
+    requires { ⌜ (rule .len ≤ maxNodes) × (names rule ≤ maxAtoms) ⌝ }
+    ensures { λ r. ⌜ r ≡ rootAttribute rule length (λ k. getD seen k (unseen 0)) ⌝ }
+{
+    let none = empty(length);
+    let mut stack = [none; MAX_NODES];
+    let mut top = MAX_NODES;
+    let mut name = name_count(rule);
+    let mut i = rule.len;
+    while 0 < i {
+        i -= 1;
+        let node = rule.nodes[i];
+        let kind = node.kind;
+        let mark = node.mark;
+        let end = smaller(members_of(kind), MAX_NODES - top) + top;
+        let here = seen[name];
+        let mut x = begin(length, kind, here);
+        let mut at = top;
+        while at < end {
+            let y = stack[at];
+            x = grown(kind, at == top, x, y);
+            at += 1;
+        }
+        name -= atoms_of(kind);
+        top = end - 1;
+        stack[top] = marked(length, mark, x);
+    }
+    if top < MAX_NODES { stack[top] } else { none }
 }
