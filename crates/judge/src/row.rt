@@ -10,7 +10,7 @@ ghost use Rattle.judge.specs.Types.Attribute.{emptyAttribute, atomAttrib
 ghost use Rattle.judge.specs.Model.{operator};
 ghost use Rattle.judge.specs.Rule.{names};
 ghost use Rattle.judge.specs.Judge.Tally.{unseen, noting, Tallied};
-ghost use Rattle.judge.specs.Judge.Pass.{partAttribute, grownAttribute, rootAttribute};
+ghost use Rattle.judge.specs.Judge.Root.{partAttribute, grownAttribute, rootAttribute};
 use crate::check::atoms_of;
 use crate::check::members_of;
 use crate::check::name_count;

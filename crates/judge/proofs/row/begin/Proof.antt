@@ -1,5 +1,5 @@
 use borrow.Author.Needs.{needs}
-use Rattle.judge.specs.Judge.Pass.{partAttribute}
+use Rattle.judge.specs.Judge.Root.{partAttribute}
 use Rattle.judge.proofs.row.begin.Statement.{statement}
 use Rattle.judge.proofs.row.begin.Tie as tie
 

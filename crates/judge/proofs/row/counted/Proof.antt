@@ -2,7 +2,7 @@ use borrow.Author.Needs.{needs}
 use mathlib.Core.Path.{ap₂, _∙_}
 use Rattle.judge.specs.Types.{choice}
 use Rattle.judge.specs.Types.Attribute.{pairAttribute}
-use Rattle.judge.specs.Judge.Pass.{counted-from}
+use Rattle.judge.specs.Judge.Root.{counted-from}
 use Rattle.judge.proofs.row.counted.Statement.{statement}
 use Rattle.judge.proofs.row.counted.Tie as tie
 

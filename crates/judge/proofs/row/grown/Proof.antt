@@ -1,5 +1,5 @@
 use borrow.Author.Needs.{needs}
-use Rattle.judge.specs.Judge.Pass.{grownAttribute}
+use Rattle.judge.specs.Judge.Root.{grownAttribute}
 use Rattle.judge.proofs.row.grown.Statement.{statement}
 use Rattle.judge.proofs.row.grown.Tie as tie
 

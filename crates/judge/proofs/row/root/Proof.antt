@@ -5,7 +5,7 @@ use Prim.Native.Nat.{_-_, _≤_, _+_}
 use lib.ListN.{length, take, drop, getD}
 use Rattle.judge.specs.Stack.{unmapped}
 use Rattle.judge.specs.Judge.Tally.{unseen}
-use Rattle.judge.specs.Judge.Pass.{partAttribute, part-none, part-turn, name-turn, Passed, pass-none, pass-turn, pass-top, pass-empty}
+use Rattle.judge.specs.Judge.Root.{partAttribute, part-none, part-turn, name-turn, Passed, pass-none, pass-turn, pass-top, pass-empty}
 use Rattle.judge.proofs.row.root.Statement.{statement}
 use Rattle.judge.proofs.row.root.Tie as tie
 
