@@ -68,6 +68,10 @@ pub data State : Type 0 where
   dead : State
   at : List Frame → Focus → State
 
+abbrev pub Alive : State → Type 0
+Alive dead = ⊥
+Alive (at k f) = Unit {0}
+
 -- by the sign that b is
 abbrev pub bySign : ℕ → (Operator → State) → State
 bySign b f = cond (eqb b (code ",")) (f sequence) (cond (eqb b (code "|")) (f choice) (cond (eqb b (code "&")) (f interleaving) dead))
