@@ -3,6 +3,7 @@
 --   Bytes, Tree, Syntax, Limits    model text: bytes, trees, and which text spells which tree
 --   Fault                          what is wrong with a text, and the answer to it
 --   Model, Rule                    models, the nodes of a rule, and the type that it means
+pub mod Tests
 pub mod Word
 pub mod Types
 pub mod Verdict
