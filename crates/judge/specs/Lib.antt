@@ -12,5 +12,6 @@ pub mod Tree
 pub mod Syntax
 pub mod Limits
 pub mod Fault
+pub mod Accept
 pub mod Model
 pub mod Rule
