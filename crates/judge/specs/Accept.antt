@@ -1,5 +1,7 @@
 -- Trees within the limits of document 01's table. Their texts are just the texts in which no fault stands: `Accept.Laws.accepted-is`.
 pub mod Scan
+pub mod Places
+pub mod Starts
 use mathlib.Core.Path.{_≡_}
 use mathlib.Core.Bool.{false}
 use mathlib.Core.List.{List, [], map, List·Memᴰ}

@@ -1,7 +1,7 @@
 -- A text read from its last byte to its first, into what may be any type: over the text of a tree, only names, counts and round brackets tell.
 use mathlib.Core.Path.{_≡_, refl, ap, _∙_}
 use mathlib.Core.Bool.{Bool, true, false, not, _&&_, _||_, or-true}
-use mathlib.Core.List.{List, [], _∷_, _++_, append-assoc}
+use mathlib.Core.List.{List, [], _∷_, _++_, append-assoc, append-nil}
 use Prim.Native.Nat.{ℕ, suc, _≤_}
 use Prim.Native.Char.{code}
 use native.Mathlib.Omega.{arith}
@@ -33,25 +33,31 @@ module _ {R : Type 0} (stop : R) (on : Bool → Text → R → R) where
   scan e [] = stop
   scan e (b ∷ y) = on e (b ∷ y) (scan (isOpener b) y)
 
--- nothing is read but at the first byte of a name, at the `[` of a count and at a round bracket, and there not further than its end
-pub record Steady (R : Type 0) (on : Bool → Text → R → R) : Type 0 where
-  pub quiet : (b : ℕ) (y : Text) (r : R) → (eqb b (code "(") || eqb b (code ")") || eqb b (code "[")) ≡ false → on false (b ∷ y) r ≡ r
-  pub named : (n w : Text) (r : R) → T (isName n) → T (stops isInner w) → on true (n ++ w) r ≡ on true n r
-  pub counted : (u w : Text) (r : R) → T (all isCounting u) → on false (code "[" ∷ (u ++ (code "]" ∷ w))) r ≡ on false (code "[" ∷ (u ++ bytes "]")) r
-  pub opened : (w : Text) (r : R) → on true (code "(" ∷ w) r ≡ on true (bytes "(") r
-  pub closed : (e : Bool) (w : Text) (r : R) → on e (code ")" ∷ w) r ≡ on true (bytes ")") r
+-- a way to read in which nothing tells but the first byte of a name, the `[` of a count and the round brackets, and there nothing behind its end
+pub record Reading (R : Type 0) : Type 0 where
+  pub stop : R
+  pub on : Bool → Text → R → R
+  pub nameOn : Text → R → R
+  pub insideOn : Text → R → R
+  pub openOn : R → R
+  pub closeOn : R → R
+  pub quiet : (b : ℕ) (y : Text) (r : R) → eqb b (code "(") ≡ false → eqb b (code ")") ≡ false → eqb b (code "[") ≡ false → on false (b ∷ y) r ≡ r
+  pub named : (n w : Text) (r : R) → T (isName n) → T (stops isInner w) → on true (n ++ w) r ≡ nameOn n r
+  pub counted : (u w : Text) (r : R) → T (all isCounting u) → on false (code "[" ∷ (u ++ (code "]" ∷ w))) r ≡ insideOn u r
+  pub opened : (w : Text) (r : R) → on true (code "(" ∷ w) r ≡ openOn r
+  pub closed : (e : Bool) (w : Text) (r : R) → on e (code ")" ∷ w) r ≡ closeOn r
 
--- what the scan of a tree's text makes of what is behind it
-module _ {R : Type 0} (on : Bool → Text → R → R) where
+-- what the text of a tree makes of what is behind it
+module _ {R : Type 0} (s : Reading R) where
   abbrev pub countOn : Count → R → R
   countOn unwritten r = r
-  countOn (between m n) r = on false (countText (between m n)) r
-  countOn (onward m) r = on false (countText (onward m)) r
+  countOn (between m n) r = s .insideOn (m ++ (bytes ".." ++ n)) r
+  countOn (onward m) r = s .insideOn (m ++ bytes "..*") r
 
   abbrev mutual
     pub nodeOn : Node Spelling → R → R
-    nodeOn (leaf a) r = on true (a .name) (countOn (a .count) r)
-    nodeOn (group s ts) r = on true (bytes "(") (membersOn ts (on true (bytes ")") r))
+    nodeOn (leaf a) r = s .nameOn (a .name) (countOn (a .count) r)
+    nodeOn (group g ts) r = s .openOn (membersOn ts (s .closeOn r))
 
     pub treeOn : Tree Spelling → R → R
     treeOn (marked m n) r = nodeOn n r
@@ -93,9 +99,6 @@ numeral-digits (d ∷ e ∷ es) h =
 numeral-counting : (n : Text) → T (isNumeral n) → T (all isCounting n)
 numeral-counting n h = all-map isDigit isCounting (λ b p. or-left (isDigit b || eqb b (code ".")) (eqb b (code "*")) (or-left (isDigit b) (eqb b (code ".")) p)) n (numeral-digits n h)
 
-still-quiet : (b : ℕ) → T (isStill b) → (eqb b (code "(") || eqb b (code ")") || eqb b (code "[")) ≡ false
-still-quiet b h = rw (apart isStill b (code "(") h tt, apart isStill b (code ")") h tt, apart isStill b (code "[") h tt)
-
 still-opens : (b : ℕ) → T (isStill b) → isOpener b ≡ false
 still-opens b h = rw (apart isStill b (code "(") h tt, apart isStill b (code ",") h tt, apart isStill b (code "|") h tt, apart isStill b (code "&") h tt)
 
@@ -135,26 +138,30 @@ more-stops (t ▹ ts) Sequence w h = tt
 more-stops (t ▹ ts) Choice w h = tt
 more-stops (t ▹ ts) Interleaving w h = tt
 
-module _ {R : Type 0} (stop : R) (on : Bool → Text → R → R) (s : Steady R on) where
-  still-scan : (u w : Text) → T (all isStill u) → scan stop on false (u ++ w) ≡ scan stop on false w
+module _ {R : Type 0} (s : Reading R) where
+  abbrev over : Bool → Text → R
+  over e x = scan (s .stop) (s .on) e x
+
+  still-scan : (u w : Text) → T (all isStill u) → over false (u ++ w) ≡ over false w
   still-scan [] w h = refl
   still-scan (b ∷ u) w h =
       let q = and-yes (isStill b) (all isStill u) h in
-      s .quiet b (u ++ w) _ (still-quiet b (q .0)) ∙ rw (still-opens b (q .0)) (still-scan u w (q .1))
+      s .quiet b (u ++ w) _ (apart isStill b (code "(") (q .0) tt) (apart isStill b (code ")") (q .0) tt) (apart isStill b (code "[") (q .0) tt)
+      ∙ rw (still-opens b (q .0)) (still-scan u w (q .1))
 
-  name-scan : (n w : Text) → T (isName n) → T (stops isInner w) → scan stop on true (n ++ w) ≡ on true n (scan stop on false w)
+  name-scan : (n w : Text) → T (isName n) → T (stops isInner w) → over true (n ++ w) ≡ s .nameOn n (over false w)
   name-scan [] w h e = absurd h
   name-scan (b ∷ bs) w h e =
       let q = and-yes (isLetter b) (all isInner bs) h in
       s .named (b ∷ bs) w _ h e
       ∙ rw (still-opens b (or-left (isInner b) (isCounting b) (letter-inner b (q .0))), still-scan bs w (all-map isInner isStill (λ c p. or-left (isInner c) (isCounting c) p) bs (q .1)))
 
-  inside-scan : (u w : Text) → T (all isCounting u) → scan stop on false (code "[" ∷ (u ++ (code "]" ∷ w))) ≡ on false (code "[" ∷ (u ++ bytes "]")) (scan stop on false w)
+  inside-scan : (u w : Text) → T (all isCounting u) → over false (code "[" ∷ (u ++ (code "]" ∷ w))) ≡ s .insideOn u (over false w)
   inside-scan u w h =
       s .counted u w _ h
-      ∙ rw (still-scan u (code "]" ∷ w) (all-map isCounting isStill (λ c p. or-right (isInner c) (isCounting c) p) u h), s .quiet (code "]") w (scan stop on false w) refl)
+      ∙ rw (still-scan u (code "]" ∷ w) (all-map isCounting isStill (λ c p. or-right (isInner c) (isCounting c) p) u h), s .quiet (code "]") w (over false w) refl refl refl)
 
-  count-scan : (c : Count) (w : Text) → CountFormed c → scan stop on false (countText c ++ w) ≡ countOn on c (scan stop on false w)
+  count-scan : (c : Count) (w : Text) → CountFormed c → over false (countText c ++ w) ≡ countOn s c (over false w)
   count-scan unwritten w h = refl
   count-scan (between m n) w h =
       simp append-assoc (simp append-assoc at (inside-scan (m ++ (bytes ".." ++ n)) w
@@ -162,36 +169,39 @@ module _ {R : Type 0} (stop : R) (on : Bool → Text → R → R) (s : Steady R 
   count-scan (onward m) w h =
       simp append-assoc (simp append-assoc at (inside-scan (m ++ bytes "..*") w (all-append isCounting m (bytes "..*") (numeral-counting m h) tt)))
 
-  mark-scan : (m : Mark) (w : Text) → scan stop on false (markText m ++ w) ≡ scan stop on false w
+  mark-scan : (m : Mark) (w : Text) → over false (markText m ++ w) ≡ over false w
   mark-scan Plain w = refl
-  mark-scan Optional w = s .quiet (code "?") w (scan stop on false w) refl
+  mark-scan Optional w = s .quiet (code "?") w (over false w) refl refl refl
 
-  sign-scan : (g : Sign) (n : ℕ) (w : Text) → Parts g (suc n) → scan stop on false (signText g ++ w) ≡ scan stop on true w
+  sign-scan : (g : Sign) (n : ℕ) (w : Text) → Parts g (suc n) → over false (signText g ++ w) ≡ over true w
   sign-scan None n w h = absurd (omega arith)
-  sign-scan Sequence n w h = s .quiet (code ",") w (scan stop on true w) refl
-  sign-scan Choice n w h = s .quiet (code "|") w (scan stop on true w) refl
-  sign-scan Interleaving n w h = s .quiet (code "&") w (scan stop on true w) refl
+  sign-scan Sequence n w h = s .quiet (code ",") w (over true w) refl refl refl
+  sign-scan Choice n w h = s .quiet (code "|") w (over true w) refl refl refl
+  sign-scan Interleaving n w h = s .quiet (code "&") w (over true w) refl refl refl
 
   mutual
-    node-scan : (n : Node Spelling) (w : Text) → NodeFormed SpellingFormed n → T (stops isInner w) → scan stop on true (nodeText n ++ w) ≡ nodeOn on n (scan stop on false w)
+    node-scan : (n : Node Spelling) (w : Text) → NodeFormed SpellingFormed n → T (stops isInner w) → over true (nodeText n ++ w) ≡ nodeOn s n (over false w)
     node-scan (leaf a) w h e =
         rw append-assoc (name-scan (a .name) (countText (a .count) ++ w) (h .0) (count-stops (a .count) w e) ∙ rw (count-scan (a .count) w (h .1)))
     node-scan (group g ts) w h e =
         s .opened _ _ ∙ rw (append-assoc (membersText ts g) (bytes ")") w, members-scan ts g w (h .0) (h .1))
 
-    pub text-scan : (t : Tree Spelling) (w : Text) → Formed SpellingFormed t → T (stops isInner w) → scan stop on true (text t ++ w) ≡ treeOn on t (scan stop on false w)
+    text-scan : (t : Tree Spelling) (w : Text) → Formed SpellingFormed t → T (stops isInner w) → over true (text t ++ w) ≡ treeOn s t (over false w)
     text-scan (marked m n) w h e = rw append-assoc (node-scan n (markText m ++ w) h (mark-stops m w e) ∙ rw (mark-scan m w))
 
     members-scan : (ts : Members Spelling) (g : Sign) (w : Text) → SignFits g (size ts) → MembersFormed SpellingFormed ts
-        → scan stop on true (membersText ts g ++ (code ")" ∷ w)) ≡ membersOn on ts (on true (bytes ")") (scan stop on false w))
+        → over true (membersText ts g ++ (code ")" ∷ w)) ≡ membersOn s ts (s .closeOn (over false w))
     members-scan none g w f h = s .closed true w _
     members-scan (t ▹ ts) g w f h =
         rw append-assoc (text-scan t (moreText ts g ++ (code ")" ∷ w)) (h .0) (more-stops ts g w (fits-parts g (size ts) f)) ∙ rw (more-scan ts g w (fits-parts g (size ts) f) (h .1)))
 
     more-scan : (ts : Members Spelling) (g : Sign) (w : Text) → Parts g (size ts) → MembersFormed SpellingFormed ts
-        → scan stop on false (moreText ts g ++ (code ")" ∷ w)) ≡ membersOn on ts (on true (bytes ")") (scan stop on false w))
+        → over false (moreText ts g ++ (code ")" ∷ w)) ≡ membersOn s ts (s .closeOn (over false w))
     more-scan none g w f h = s .closed false w _
     more-scan (t ▹ ts) g w f h =
         let r = parts-less g (size ts) f in
         rw (append-assoc (signText g) (text t ++ moreText ts g) (code ")" ∷ w), sign-scan g (size ts) ((text t ++ moreText ts g) ++ (code ")" ∷ w)) f)
         (rw append-assoc (text-scan t (moreText ts g ++ (code ")" ∷ w)) (h .0) (more-stops ts g w r) ∙ rw (more-scan ts g w r (h .1))))
+
+  pub scan-text : (t : Syntax) → Formed SpellingFormed t → scan (s .stop) (s .on) true (text t) ≡ treeOn s t (s .stop)
+  scan-text t h = rw append-nil at (text-scan t [] h tt)
