@@ -104,7 +104,7 @@ mark-run : (k : List Frame) (n : Node Spelling) (m : Mark) → run (at k (behind
 mark-run k n Plain = refl
 mark-run k n Optional = node-step k n (code "?") refl refl
 
-after-parts : (k : List Frame) (t : Syntax) (b : ℕ) → markOf b ≡ Plain → stepAfter k t b ≡ close k t b
+pub after-parts : (k : List Frame) (t : Syntax) (b : ℕ) → markOf b ≡ Plain → stepAfter k t b ≡ close k t b
 after-parts k (marked m n) b e = rw (e, and-false)
 
 -- one that is no mark either closes a group or parts two members
