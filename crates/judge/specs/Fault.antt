@@ -2,6 +2,7 @@
 -- Each fault looks at the bytes alone; places count from 0.
 pub mod Search
 pub mod Decide
+pub mod Answered
 use mathlib.Core.Path.{_≡_}
 use mathlib.Core.Logic.{_⊎_}
 use mathlib.Core.Bool.{Bool, true, false, cond, _&&_, _||_}
