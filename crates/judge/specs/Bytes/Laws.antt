@@ -46,3 +46,7 @@ digit-inner b h = rw (T-true (isDigit b) h) (rw or-true tt)
 
 pub letter-inner : (b : ℕ) → T (isLetter b) → T (isInner b)
 letter-inner b h = rw (T-true (isLetter b) h) tt
+
+pub cond-true : {A : Type 0} (c : Bool) (x y : A) → T c → cond c x y ≡ x
+cond-true true x y h = refl
+cond-true false x y h = absurd h
