@@ -4,10 +4,10 @@ use mathlib.Core.Logic.{by-cases}
 use mathlib.Core.Bool.{Bool, true, false, cond, _&&_, _||_}
 use mathlib.Core.List.{List, [], _∷_, _++_}
 use Prim.Native.Nat.{ℕ, zero, suc, _≤_, _<_}
-use native.Mathlib.Decide.{decLe, decLt}
+use native.Mathlib.Decide.{decLe}
 use native.Mathlib.Omega.{arith}
 use lib.Dec.{T}
-use lib.ListN.{length, drop, getD, List·getD-eq-default}
+use lib.ListN.{length, drop, getD}
 use Rattle.judge.specs.Tests.{by-test}
 use Rattle.judge.specs.Bytes.{Text}
 use Rattle.judge.specs.Bytes.Laws.{T-true}
@@ -87,14 +87,8 @@ module _ {A : Type 0} (f : Bool → ℕ → Bool) (g : Text → A) where
 
   -- a test F that says the same of each place
   module _ (x : Text) (F : ℕ → Bool) (same : (p : ℕ) → F p ≡ at true x p) where
-    -- no byte 0 passes, so behind the end no place does
-    pub start-at : ((e : Bool) → f e 0 ≡ false) → (d : A) (p : ℕ) → T (F p)
-        → (tally F p < length (listed true x)) × (getD (listed true x) (tally F p) d ≡ g (drop p x))
-    start-at blank d p h =
-        let t : T (at true x p) = rw same at h in
-        rw (tally-same F (at true x) same p)
-        (by-cases (decLt p (length x)) (λ i. listed-at d true x p i t)
-        (λ i. let o : length x ≤ p = omega arith in let z : T (f (freshFrom true x p) 0) = rw (List·getD-eq-default x 0 {n = p} o) at t in absurd (rw blank at z)))
+    pub start-at : (d : A) (p : ℕ) → p < length x → T (F p) → (tally F p < length (listed true x)) × (getD (listed true x) (tally F p) d ≡ g (drop p x))
+    start-at d p h t = rw (tally-same F (at true x) same p) (listed-at d true x p h (rw same at t))
 
     pub start-place : (k : ℕ) → k < length (listed true x) → (p : ℕ) × T (F p) × (tally F p ≡ k)
     start-place k h =

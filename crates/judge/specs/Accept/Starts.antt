@@ -17,6 +17,7 @@ use Rattle.judge.specs.Tree.{Node, leaf, group, Tree, marked, Members, n
 use Rattle.judge.specs.Tree.{NodeFormed, Formed, MembersFormed}
 use Rattle.judge.specs.Syntax.{Count, unwritten, between, onward, Spelling, Syntax, countText, text, CountFormed, SpellingFormed}
 use Rattle.judge.specs.Fault.{isOpener, is, fresh, nameAt, nodeAt, nameFrom, tally}
+use Rattle.judge.specs.Fault.Answered.{byte-inside, name-inside}
 use Rattle.judge.specs.Accept.{names}
 use Rattle.judge.specs.Accept.Scan.{isCounting, stops, Reading, countOn, nodeOn, treeOn, membersOn, scan-text}
 use Rattle.judge.specs.Accept.Places.{tally-same, at, listOn, listed, start-at, start-place}
@@ -135,6 +136,9 @@ node-same : (x : Text) (p : ℕ) → nodeAt x p ≡ at nodeTest (λ x. tt {0}) t
 node-same x zero = refl
 node-same x (suc p) = refl
 
+node-inside : (x : Text) (p : ℕ) → T (nodeAt x p) → p < length x
+node-inside x p h = byte-inside (nodeTest true) x p tt (and-yes (fresh x p) (nodeTest true (getD x p 0)) h .1)
+
 module _ (t : Syntax) (formed : Formed SpellingFormed t) where
   names-listed : listed nameTest (front isInner) true (text t) ≡ names t
   names-listed = scan-text nameReading t formed ∙ tree-names t [] ∙ append-nil (names t)
@@ -142,7 +146,7 @@ module _ (t : Syntax) (formed : Formed SpellingFormed t) where
   -- the name that begins at p is the one before which as many stand as before p
   pub name-at : (p : ℕ) → T (nameAt (text t) p)
       → (tally (nameAt (text t)) p < length (names t)) × (getD (names t) (tally (nameAt (text t)) p) [] ≡ nameFrom (text t) p)
-  name-at p h = rw names-listed at (start-at nameTest (front isInner) (text t) (nameAt (text t)) (name-same (text t)) (λ e. and-false e) [] p h)
+  name-at p h = rw names-listed at (start-at nameTest (front isInner) (text t) (nameAt (text t)) (name-same (text t)) [] p (name-inside (text t) p h) h)
 
   pub name-place : (k : ℕ) → k < length (names t) → (p : ℕ) × T (nameAt (text t) p) × (tally (nameAt (text t)) p ≡ k)
   name-place k h = start-place nameTest (front isInner) (text t) (nameAt (text t)) (name-same (text t)) k (rw names-listed h)
@@ -151,7 +155,7 @@ module _ (t : Syntax) (formed : Formed SpellingFormed t) where
   nodes-listed = ap length (scan-text nodeReading t formed) ∙ tree-nodes t [] ∙ omega arith
 
   pub node-at : (p : ℕ) → T (nodeAt (text t) p) → tally (nodeAt (text t)) p < nodes t
-  node-at p h = rw nodes-listed at (start-at nodeTest (λ x. tt {0}) (text t) (nodeAt (text t)) (node-same (text t)) (λ e. and-false e) tt p h .0)
+  node-at p h = rw nodes-listed at (start-at nodeTest (λ x. tt {0}) (text t) (nodeAt (text t)) (node-same (text t)) tt p (node-inside (text t) p h) h .0)
 
   pub node-place : (k : ℕ) → k < nodes t → (p : ℕ) × T (nodeAt (text t) p) × (tally (nodeAt (text t)) p ≡ k)
   node-place k h = start-place nodeTest (λ x. tt {0}) (text t) (nodeAt (text t)) (node-same (text t)) k (rw nodes-listed h)
