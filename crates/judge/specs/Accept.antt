@@ -2,6 +2,8 @@
 pub mod Scan
 pub mod Places
 pub mod Starts
+pub mod Depth
+pub mod Counts
 use mathlib.Core.Path.{_≡_}
 use mathlib.Core.Bool.{false}
 use mathlib.Core.List.{List, [], map, List·Memᴰ}

@@ -205,3 +205,9 @@ module _ {R : Type 0} (s : Reading R) where
 
   pub scan-text : (t : Syntax) → Formed SpellingFormed t → scan (s .stop) (s .on) true (text t) ≡ treeOn s t (s .stop)
   scan-text t h = rw append-nil at (text-scan t [] h tt)
+
+-- a reading that passes over counts
+pub uncounted : {R : Type 0} (s : Reading R) → ((u : Text) (r : R) → s .insideOn u r ≡ r) → (c : Count) (r : R) → countOn s c r ≡ r
+uncounted s h unwritten r = refl
+uncounted s h (between m n) r = h _ r
+uncounted s h (onward m) r = h _ r

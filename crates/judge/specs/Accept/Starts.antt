@@ -19,7 +19,7 @@ use Rattle.judge.specs.Syntax.{Count, unwritten, between, onward, Spelli
 use Rattle.judge.specs.Fault.{isOpener, is, fresh, nameAt, nodeAt, nameFrom, tally}
 use Rattle.judge.specs.Fault.Answered.{byte-inside, name-inside}
 use Rattle.judge.specs.Accept.{names}
-use Rattle.judge.specs.Accept.Scan.{isCounting, stops, Reading, countOn, nodeOn, treeOn, membersOn, scan-text}
+use Rattle.judge.specs.Accept.Scan.{isCounting, stops, Reading, uncounted, nodeOn, treeOn, membersOn, scan-text}
 use Rattle.judge.specs.Accept.Places.{tally-same, at, listOn, listed, start-at, start-place}
 
 pub front-stops : (f : ℕ → Bool) (u w : Text) → T (all f u) → T (stops f w) → front f (u ++ w) ≡ u
@@ -97,12 +97,6 @@ countReading = record {
   opened = λ w r. refl;
   closed = λ e w r. refl;
 }
-
--- a reading that passes over counts
-uncounted : {R : Type 0} (s : Reading R) → ((u : Text) (r : R) → s .insideOn u r ≡ r) → (c : Count) (r : R) → countOn s c r ≡ r
-uncounted s h unwritten r = refl
-uncounted s h (between m n) r = h _ r
-uncounted s h (onward m) r = h _ r
 
 mutual
   node-names : (n : Node Spelling) (r : List Text) → nodeOn nameReading n r ≡ map (λ a. a .name) (nodeLeaves n) ++ r
