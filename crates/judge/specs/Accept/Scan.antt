@@ -22,6 +22,12 @@ use Rattle.judge.specs.Fault.{isOpener}
 abbrev pub isCounting : ℕ → Bool
 isCounting b = isDigit b || eqb b (code ".") || eqb b (code "*")
 
+-- the bytes between `[` and `]`
+abbrev pub inside : Count → Text
+inside unwritten = []
+inside (between m n) = m ++ (bytes ".." ++ n)
+inside (onward m) = m ++ bytes "..*"
+
 -- no byte that passes the test comes first
 abbrev pub stops : (ℕ → Bool) → Text → Bool
 stops f [] = true
@@ -51,8 +57,8 @@ pub record Reading (R : Type 0) : Type 0 where
 module _ {R : Type 0} (s : Reading R) where
   abbrev pub countOn : Count → R → R
   countOn unwritten r = r
-  countOn (between m n) r = s .insideOn (m ++ (bytes ".." ++ n)) r
-  countOn (onward m) r = s .insideOn (m ++ bytes "..*") r
+  countOn (between m n) r = s .insideOn (inside (between m n)) r
+  countOn (onward m) r = s .insideOn (inside (onward m)) r
 
   abbrev mutual
     pub nodeOn : Node Spelling → R → R
@@ -98,6 +104,11 @@ numeral-digits (d ∷ e ∷ es) h =
 
 numeral-counting : (n : Text) → T (isNumeral n) → T (all isCounting n)
 numeral-counting n h = all-map isDigit isCounting (λ b p. or-left (isDigit b || eqb b (code ".")) (eqb b (code "*")) (or-left (isDigit b) (eqb b (code ".")) p)) n (numeral-digits n h)
+
+pub inside-counting : (c : Count) → CountFormed c → T (all isCounting (inside c))
+inside-counting unwritten h = tt
+inside-counting (between m n) h = all-append isCounting m (bytes ".." ++ n) (numeral-counting m (h .0)) (numeral-counting n (h .1))
+inside-counting (onward m) h = all-append isCounting m (bytes "..*") (numeral-counting m h) tt
 
 still-opens : (b : ℕ) → T (isStill b) → isOpener b ≡ false
 still-opens b h = rw (apart isStill b (code "(") h tt, apart isStill b (code ",") h tt, apart isStill b (code "|") h tt, apart isStill b (code "&") h tt)
@@ -163,11 +174,8 @@ module _ {R : Type 0} (s : Reading R) where
 
   count-scan : (c : Count) (w : Text) → CountFormed c → over false (countText c ++ w) ≡ countOn s c (over false w)
   count-scan unwritten w h = refl
-  count-scan (between m n) w h =
-      simp append-assoc (simp append-assoc at (inside-scan (m ++ (bytes ".." ++ n)) w
-      (all-append isCounting m (bytes ".." ++ n) (numeral-counting m (h .0)) (numeral-counting n (h .1)))))
-  count-scan (onward m) w h =
-      simp append-assoc (simp append-assoc at (inside-scan (m ++ bytes "..*") w (all-append isCounting m (bytes "..*") (numeral-counting m h) tt)))
+  count-scan (between m n) w h = simp append-assoc (simp append-assoc at (inside-scan (inside (between m n)) w (inside-counting (between m n) h)))
+  count-scan (onward m) w h = simp append-assoc (simp append-assoc at (inside-scan (inside (onward m)) w (inside-counting (onward m) h)))
 
   mark-scan : (m : Mark) (w : Text) → over false (markText m ++ w) ≡ over false w
   mark-scan Plain w = refl

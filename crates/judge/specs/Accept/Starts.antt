@@ -1,4 +1,4 @@
--- What begins in the text of a tree, and where: its names, its nodes, its counts.
+-- Where names and nodes begin in the text of a tree.
 use mathlib.Core.Path.{_≡_, refl, sym, ap, _∙_}
 use mathlib.Core.Logic.{_⊎_, by-cases}
 use mathlib.Core.Bool.{Bool, true, false, not, cond, _&&_, _||_, and-false}
@@ -31,7 +31,7 @@ front-stops f (b ∷ u) w h e =
 
 -- a name, read at a place where it may begin
 module _ {A : Type 0} (f : Bool → ℕ → Bool) (g : Text → A) where
-  on-name : (n w : Text) (r : List A) (c : Bool) → ((b : ℕ) → T (isLetter b) → f true b ≡ c) → T (isName n)
+  pub on-name : (n w : Text) (r : List A) (c : Bool) → ((b : ℕ) → T (isLetter b) → f true b ≡ c) → T (isName n)
       → listOn f g true (n ++ w) r ≡ cond c (g (n ++ w) ∷ r) r
   on-name [] w r c e h = absurd h
   on-name (b ∷ bs) w r c e h = rw (e b (and-yes (isLetter b) (all isInner bs) h .0))
@@ -47,9 +47,6 @@ nameTest e b = e && isLetter b
 
 abbrev nodeTest : Bool → ℕ → Bool
 nodeTest e b = e && (isLetter b || eqb b (code "("))
-
-abbrev countTest : Bool → ℕ → Bool
-countTest e b = eqb b (code "[")
 
 abbrev nameReading : Reading (List Text)
 nameReading = record {
@@ -80,22 +77,6 @@ nodeReading = record {
   counted = λ u w r h. refl;
   opened = λ w r. refl;
   closed = λ e w r. rw and-false;
-}
-
--- the bytes between `[` and `]`
-abbrev countReading : Reading (List Text)
-countReading = record {
-  stop = [];
-  on = listOn countTest (λ x. front isCounting (drop 1 x));
-  nameOn = λ n r. r;
-  insideOn = λ u r. u ∷ r;
-  openOn = λ r. r;
-  closeOn = λ r. r;
-  quiet = λ b y r h i j. rw j;
-  named = λ n w r h e. on-name countTest (λ x. front isCounting (drop 1 x)) n w r false (λ b l. apart isLetter b (code "[") l tt) h;
-  counted = λ u w r h. ap (λ m. m ∷ r) (front-stops isCounting u (code "]" ∷ w) h tt);
-  opened = λ w r. refl;
-  closed = λ e w r. refl;
 }
 
 mutual
