@@ -4,8 +4,9 @@ use mathlib.Core.Bool.{Bool, true, false, cond, not, _&&_, _||_, or-true}
 use mathlib.Core.List.{List, [], _∷_, _++_}
 use Prim.Native.Nat.{ℕ}
 use lib.Dec.{T, T-not, eqb, eqb→eq}
+use lib.ListN.{length, take}
 use mir.Facts.{and-yes, yes-and}
-use Rattle.judge.specs.Bytes.{Text, isLetter, isDigit, isInner, all, isName}
+use Rattle.judge.specs.Bytes.{Text, isLetter, isDigit, isInner, all, isName, front}
 
 -- what both branches have
 pub cond-cases : {A : Type 0} (P : A → Type 0) (c : Bool) (x y : A) → (T c → P x) → (T (not c) → P y) → P (cond c x y)
@@ -50,3 +51,12 @@ letter-inner b h = rw (T-true (isLetter b) h) tt
 pub cond-true : {A : Type 0} (c : Bool) (x y : A) → T c → cond c x y ≡ x
 cond-true true x y h = refl
 cond-true false x y h = absurd h
+
+-- the longest beginning that passes a test
+pub front-take : (f : ℕ → Bool) (y : Text) → take (length (front f y)) y ≡ front f y
+front-take f [] = refl
+front-take f (b ∷ bs) = cond-cases (λ (r : Text). take (length r) (b ∷ bs) ≡ r) (f b) _ _ (λ _. rw (front-take f bs)) (λ _. refl)
+
+pub front-all : (f : ℕ → Bool) (y : Text) → T (all f (front f y))
+front-all f [] = tt
+front-all f (b ∷ bs) = cond-cases (λ (r : Text). T (all f r)) (f b) _ _ (λ h. yes-and (f b) (all f (front f bs)) h (front-all f bs)) (λ _. tt)

@@ -14,7 +14,7 @@ use Rattle.judge.specs.Bytes.{Text, isLetter, isDigit, isInner}
 use Rattle.judge.specs.Bytes.Laws.{cond-cases, T-true, apart, letter-inner}
 use Rattle.judge.specs.Tree.{marked, Members, none, _▹_, weight, membersWeight}
 use Rattle.judge.specs.Syntax.{Spelling, Syntax}
-use Rattle.judge.specs.Syntax.Machine.{snoc, byteOf, markOf, isPlain, bare, Frame, opened, signed, Part, low, dot, dots, high, star, Focus, expect, naming, counting, after, State, dead, at, Alive, close, shut, grows, some-digit, stepCount, stepAfter, step, run, start}
+use Rattle.judge.specs.Syntax.Machine.{snoc, byteOf, markOf, isPlain, bare, Frame, opened, signed, Part, low, dot, dots, high, star, Focus, expect, naming, counting, after, State, dead, at, Alive, close, shut, grows, some-digit, stepCount, stepAfter, step, run, start, here}
 use Rattle.judge.specs.Syntax.Sound.{sign-cases, run-append}
 use Rattle.judge.specs.Fault.{is, isOpener, fresh, nameAt, nodeAt, tally}
 
@@ -138,7 +138,7 @@ module _ (α γ : ℕ) where
   step-ties (at k (after t)) b = after-ties k (after t) t b refl refl
 
 -- one byte more of a text
-pub run-take : (x : Text) (p : ℕ) → p < length x → run start (take (suc p) x) ≡ step (run start (take p x)) (getD x p 0)
+pub run-take : (x : Text) (p : ℕ) → p < length x → here x (suc p) ≡ step (here x p) (getD x p 0)
 run-take x p h = rw (take-suc x p 0 h, run-append start (take p x) (getD x p 0 ∷ []))
 
 pub alive-before : (s : State) (b : ℕ) → Alive (step s b) → Alive s
@@ -147,10 +147,10 @@ alive-before (at k f) b a = tt
 
 -- at a place where the automaton is alive: whether a member is to begin, how many groups are open, how many atoms and nodes began
 pub record Even (x : Text) (p : ℕ) : Type 0 where
-  pub fresh-here : isExpect (run start (take p x)) ≡ fresh x p
-  pub level-here : level (run start (take p x)) + tally (is x (code ")")) p ≡ tally (is x (code "(")) p
-  pub atoms-here : stateWeight 1 0 (run start (take p x)) ≡ tally (nameAt x) p
-  pub nodes-here : stateWeight 1 1 (run start (take p x)) ≡ tally (nodeAt x) p
+  pub fresh-here : isExpect (here x p) ≡ fresh x p
+  pub level-here : level (here x p) + tally (is x (code ")")) p ≡ tally (is x (code "(")) p
+  pub atoms-here : stateWeight 1 0 (here x p) ≡ tally (nameAt x) p
+  pub nodes-here : stateWeight 1 1 (here x p) ≡ tally (nodeAt x) p
 
 one-more : (c : Bool) (n : ℕ) → cond c (suc n) n ≡ n + cond c 1 0
 one-more true n = omega arith
@@ -169,11 +169,11 @@ letter-or true false false f = refl
 letter-or false l o f = refl
 
 module _ (x : Text) (p : ℕ) (h : p < length x) (e : Even x p) where
-  even-step : Alive (step (run start (take p x)) (getD x p 0)) → Even x (suc p)
+  even-step : Alive (step (here x p) (getD x p 0)) → Even x (suc p)
   even-step a = record { fresh-here = ap isExpect (run-take x p h) ∙ t .opens; level-here = opened-here; atoms-here = atoms-here; nodes-here = nodes-here }
     where
       s : State
-      s = run start (take p x)
+      s = here x p
 
       b : ℕ
       b = getD x p 0
@@ -181,21 +181,21 @@ module _ (x : Text) (p : ℕ) (h : p < length x) (e : Even x p) where
       t : Tied 1 0 s b (step s b)
       t = step-ties 1 0 s b a
 
-      opened-here : level (run start (take (suc p) x)) + tally (is x (code ")")) (suc p) ≡ tally (is x (code "(")) (suc p)
+      opened-here : level (here x (suc p)) + tally (is x (code ")")) (suc p) ≡ tally (is x (code "(")) (suc p)
       opened-here =
           rw (run-take x p h, one-more (is x (code ")") p) (tally (is x (code ")")) p), one-more (is x (code "(") p) (tally (is x (code "(")) p)) (omega (arith, t .deeper, e .level-here))
 
-      atoms-here : stateWeight 1 0 (run start (take (suc p) x)) ≡ tally (nameAt x) (suc p)
+      atoms-here : stateWeight 1 0 (here x (suc p)) ≡ tally (nameAt x) (suc p)
       atoms-here =
           rw (run-take x p h, one-more (nameAt x p) (tally (nameAt x) p), ← e .fresh-here) (omega (arith, t .heavier, e .atoms-here, cond-same (isExpect s && eqb b (code "("))))
 
-      nodes-here : stateWeight 1 1 (run start (take (suc p) x)) ≡ tally (nodeAt x) (suc p)
+      nodes-here : stateWeight 1 1 (here x (suc p)) ≡ tally (nodeAt x) (suc p)
       nodes-here =
           rw (run-take x p h, one-more (nodeAt x p) (tally (nodeAt x) p), ← e .fresh-here)
           (omega (arith, (step-ties 1 1 s b a) .heavier, e .nodes-here, letter-or (isExpect s) (isLetter b) (eqb b (code "(")) (λ l. apart isLetter b (code "(") l tt)))
 
-pub even : (x : Text) (p : ℕ) → p ≤ length x → Alive (run start (take p x)) → Even x p
+pub even : (x : Text) (p : ℕ) → p ≤ length x → Alive (here x p) → Even x p
 even x zero h a = record { fresh-here = refl; level-here = refl; atoms-here = refl; nodes-here = refl }
 even x (suc p) h a =
-    let i : Alive (step (run start (take p x)) (getD x p 0)) = rw (run-take x p h) at a in
-    even-step x p h (even x p (omega arith) (alive-before (run start (take p x)) (getD x p 0) i)) i
+    let i : Alive (step (here x p) (getD x p 0)) = rw (run-take x p h) at a in
+    even-step x p h (even x p (omega arith) (alive-before (here x p) (getD x p 0) i)) i

@@ -5,6 +5,7 @@ use mathlib.Core.Option.{Option, none as nothing, some}
 use Prim.Native.Nat.{ℕ}
 use Prim.Native.Char.{code}
 use lib.Dec.{eqb}
+use lib.ListN.{take}
 use Rattle.judge.specs.declared.rule.Sign.{Sign}
 use Rattle.judge.specs.declared.rule.Sign.the-variants.{None, Sequence, Choice, Interleaving}
 use Rattle.judge.specs.declared.rule.Mark.{Mark}
@@ -126,6 +127,10 @@ run s (b ∷ bs) = run (step s b) bs
 
 abbrev pub start : State
 start = at [] expect
+
+-- the state behind the first p bytes
+abbrev pub here : Text → ℕ → State
+here x p = run start (take p x)
 
 -- the tree, where the text may end
 abbrev pub whole : Focus → Option Syntax
