@@ -1,12 +1,13 @@
 -- Laws of tests on bytes, and of names and numerals that grow at their end.
 use mathlib.Core.Path.{_≡_, refl, subst}
-use mathlib.Core.Bool.{Bool, true, false, cond, not, _&&_, _||_, or-true}
-use mathlib.Core.List.{List, [], _∷_, _++_}
-use Prim.Native.Nat.{ℕ}
+use mathlib.Core.Bool.{Bool, true, false, cond, not, _&&_}
+use mathlib.Core.List.{[], _∷_, _++_}
+use Prim.Native.Nat.{ℕ, _+_, _*_, _-_}
+use Prim.Native.Char.{code}
 use lib.Dec.{T, T-not, eqb, eqb→eq}
 use lib.ListN.{length, take}
-use mir.Facts.{and-yes, yes-and}
-use Rattle.judge.specs.Bytes.{Text, isLetter, isDigit, isInner, all, isName, front}
+use mir.Facts.{yes-and}
+use Rattle.judge.specs.Bytes.{Text, isLetter, isDigit, isInner, all, isName, front, valueFrom, value}
 
 -- what both branches have
 pub cond-cases : {A : Type 0} (P : A → Type 0) (c : Bool) (x y : A) → (T c → P x) → (T (not c) → P y) → P (cond c x y)
@@ -42,9 +43,6 @@ apart f b c h n = go (eqb b c) (eqb→eq b c)
     go false k = refl
     go true k = absurd (T-not (f c) n (subst (λ (r : ℕ). T (f r)) (k tt) h))
 
-pub digit-inner : (b : ℕ) → T (isDigit b) → T (isInner b)
-digit-inner b h = rw (T-true (isDigit b) h) (rw or-true tt)
-
 pub letter-inner : (b : ℕ) → T (isLetter b) → T (isInner b)
 letter-inner b h = rw (T-true (isLetter b) h) tt
 
@@ -60,3 +58,11 @@ front-take f (b ∷ bs) = cond-cases (λ (r : Text). take (length r) (b ∷ bs) 
 pub front-all : (f : ℕ → Bool) (y : Text) → T (all f (front f y))
 front-all f [] = tt
 front-all f (b ∷ bs) = cond-cases (λ (r : Text). T (all f r)) (f b) _ _ (λ h. yes-and (f b) (all f (front f bs)) h (front-all f bs)) (λ _. tt)
+
+-- one digit more
+valueFrom-snoc : (a : ℕ) (ds : Text) (d : ℕ) → valueFrom a (ds ++ (d ∷ [])) ≡ 10 * valueFrom a ds + (d - code "0")
+valueFrom-snoc a [] d = refl
+valueFrom-snoc a (e ∷ es) d = valueFrom-snoc (10 * a + (e - code "0")) es d
+
+pub value-snoc : (ds : Text) (d : ℕ) → value (ds ++ (d ∷ [])) ≡ 10 * value ds + (d - code "0")
+value-snoc ds d = valueFrom-snoc 0 ds d

@@ -4,7 +4,7 @@ use mathlib.Core.Logic.{_⊎_, inl, inr, Dec·and}
 use mathlib.Core.Bool.{Bool, cond, not, _||_}
 use Prim.Native.Nat.{ℕ, zero, suc, _≤_, _<_}
 use Prim.Native.Char.{code}
-use native.Mathlib.Decide.{ℕ-discrete, decLe, decLt, map-dec}
+use native.Mathlib.Decide.{ℕ-discrete, decLe, decLt}
 use native.Mathlib.Omega.{arith}
 use lib.ListN.{length, take, getD, List·getD-eq-default}
 use lib.Seq.{take-length}

@@ -1,12 +1,11 @@
 -- Every fault is decided, at every place.
-use mathlib.Core.Path.{_≡_, refl, sym, ap, subst, _∙_}
-use mathlib.Core.Logic.{_⊎_, inl, inr, _↔_, Dec·and}
-use mathlib.Core.Bool.{Bool, true, false, _&&_}
+use mathlib.Core.Path.{_≡_, refl, ap, subst, _∙_}
+use mathlib.Core.Logic.{_⊎_, inl, inr, Dec·and}
+use mathlib.Core.Bool.{Bool, false, _&&_}
 use mathlib.Core.List.{List, [], _∷_, _++_, append-assoc, append-nil, List-discrete}
-use Prim.Native.Nat.{ℕ, suc, _+_, _≤_, _<_}
+use Prim.Native.Nat.{ℕ, suc, _+_, _<_}
 use Prim.Native.Char.{code}
 use native.Mathlib.Decide.{ℕ-discrete, decLe, decLt, map-dec}
-use native.Mathlib.Omega.{arith}
 use lib.ListN.{length, take}
 use lib.Dec.{T, eqb}
 use mir.Facts.{and-yes}
@@ -16,7 +15,7 @@ use Rattle.judge.specs.Types.{sequence, choice, interleaving}
 use Rattle.judge.specs.Bytes.{Text, bytes}
 use Rattle.judge.specs.Bytes.Laws.{dec-T}
 use Rattle.judge.specs.Tree.{Node, leaf, group, marked}
-use Rattle.judge.specs.Syntax.{Count, unwritten, between, onward, Spelling as Atom, Syntax, countText, text, CountFormed, Spelled, Begins}
+use Rattle.judge.specs.Syntax.{Count, unwritten, between, onward, Spelling as Atom, Syntax, countText, CountFormed, Spelled, Begins}
 use Rattle.judge.specs.Syntax.Machine.{isPlain, Frame, opened, signed, low, dot, dots, high, star, Focus, expect, naming, counting, after, State, dead, at, Alive, close, step, run, start, here}
 use Rattle.judge.specs.Syntax.Sound.{run-dead, run-append, plain-is, lead, seen, Good, alive-good, alive-begins}
 use Rattle.judge.specs.Syntax.Complete.{behindAtom, after-parts, count-run, begins-alive, dec-begins, dec-spelled}
@@ -133,7 +132,7 @@ wrong-ended (at k (after (marked m (leaf a)))) g w =
     record { before = lead k ++ a .name; counted = a .count; formed = g .1 .1; ends = rw (plain-is m (h .0)) (simp (append-assoc, append-nil)); bad = h .1 }
 wrong-ended (at k (after (marked m (group s ts)))) g w = absurd ((and-yes (isPlain m) false w) .1)
 
-wrong-alive : (s : State) → T (endsWrong s) → Alive s
+pub wrong-alive : (s : State) → T (endsWrong s) → Alive s
 wrong-alive dead w = w
 wrong-alive (at k f) w = tt
 

@@ -1,7 +1,7 @@
 -- Which faults can stand at a place, by what the automaton finds there; and the answer, by the first fault met.
-use mathlib.Core.Path.{_≡_, refl, sym, ap, subst, _∙_}
+use mathlib.Core.Path.{_≡_, refl, sym, subst, _∙_}
 use mathlib.Core.Logic.{_⊎_, inl, inr, _↔_}
-use mathlib.Core.Bool.{Bool, true, false, _&&_, _||_, or-true}
+use mathlib.Core.Bool.{false, _&&_, _||_, or-true, and-false}
 use mathlib.Core.List.{List, [], _∷_, _++_}
 use mathlib.Core.Option.{none as nothing, some, Option·none-ne-some}
 use Prim.Native.Nat.{ℕ, suc, _+_, _≤_, _<_}
@@ -9,7 +9,7 @@ use Prim.Native.Char.{code}
 use native.Mathlib.Decide.{ℕ-discrete, decLt}
 use native.Mathlib.Omega.{arith}
 use lib.ListN.{length, take, drop, getD}
-use lib.Seq.{take-length, take-add}
+use lib.Seq.{take-add}
 use lib.Dec.{T, eqb, eqb→eq}
 use mir.Facts.{and-yes, yes-and}
 use Rattle.judge.specs.declared.fault.ModelFault.{ModelFault}
@@ -20,10 +20,10 @@ use Rattle.judge.specs.Syntax.{Syntax}
 use Rattle.judge.specs.Syntax.Machine.{bare, Frame, opened, low, dot, dots, high, star, expect, naming, counting, after, State, dead, at, Alive, step, run, start, here, result}
 use Rattle.judge.specs.Syntax.Sound.{run-append, sound, alive-begins}
 use Rattle.judge.specs.Syntax.Complete.{name-run, after-parts, complete, begins-alive}
-use Rattle.judge.specs.Syntax.Counters.{level, isExpect, run-take, alive-before, Even, even}
+use Rattle.judge.specs.Syntax.Counters.{isExpect, run-take, alive-before, Even, even}
 use Rattle.judge.specs.Limits.{maxText, maxName, maxDepth, maxAtoms, maxNodes}
 use Rattle.judge.specs.Fault.{Misspelt, cannot, short, is, fresh, nameAt, nodeAt, nameFrom, tally, Twice, Fault, number, Before, refused, accepted, Answers}
-use Rattle.judge.specs.Fault.Decide.{close-dead, endsWrong, ends-wrong, wrong-ends}
+use Rattle.judge.specs.Fault.Decide.{close-dead, endsWrong, ends-wrong, wrong-ends, wrong-alive}
 use Rattle.judge.specs.Fault.Answered.{number-injective, number-over, Faultless, byte-inside, name-inside, inside}
 
 abbrev pub Sized : Text → Type 0
@@ -222,6 +222,70 @@ module _ (x : Text) (p : ℕ) (z : Sized x) (i : p < length x) where
       bracket-faults ManyAtoms = (λ f. no-letter (f .0), λ f. absurd f)
       bracket-faults ManyNodes = (λ f. f .1, λ f. (group-here, f))
       bracket-faults Repeated = (λ f. no-letter (f .here), λ f. absurd f)
+
+-- what the faults at p come to decides the answer, or that p is clean
+pub found-by : (x : Text) (p : ℕ) (D : ModelFault → Type 0) → ((g : ModelFault) → Fault g x p ↔ D g) → Clean x p → (f : ModelFault) → D f → ((g : ModelFault) → number g < number f → D g → ⊥) → Answers x (refused f p)
+found-by x p D t c f d n = found x f p c (t f .1 d) (λ g i h. n g i (t g .0 h))
+
+pub letter-faultless : (x : Text) (p : ℕ) → ((g : ModelFault) → Fault g x p ↔ LetterFault x p g)
+    → length (nameFrom x p) ≤ maxName → tally (nameAt x) p < maxAtoms → tally (nodeAt x) p < maxNodes → (Twice x p → ⊥) → Faultless x p
+letter-faultless x p t l m n o g f = go g (t g .0 f)
+  where
+    go : (g : ModelFault) → LetterFault x p g → ⊥
+    go Size h = h
+    go Spelling h = h
+    go LongName h = omega (arith, h)
+    go WrongCount h = h
+    go TooDeep h = h
+    go ManyAtoms h = omega (arith, h)
+    go ManyNodes h = omega (arith, h)
+    go Repeated h = o h
+
+pub bracket-faultless : (x : Text) (p l : ℕ) → ((g : ModelFault) → Fault g x p ↔ BracketFault x p l g) → l < maxDepth → tally (nodeAt x) p < maxNodes → Faultless x p
+bracket-faultless x p l t m n g f = go g (t g .0 f)
+  where
+    go : (g : ModelFault) → BracketFault x p l g → ⊥
+    go Size h = h
+    go Spelling h = h
+    go LongName h = h
+    go WrongCount h = h
+    go TooDeep h = omega (arith, h)
+    go ManyAtoms h = h
+    go ManyNodes h = omega (arith, h)
+    go Repeated h = h
+
+pub other-faultless : (x : Text) (p : ℕ) → ((g : ModelFault) → Fault g x p ↔ OtherFault x p g) → endsWrong (here x (suc p)) ≡ false → Faultless x p
+other-faultless x p t e g f = go g (t g .0 f)
+  where
+    go : (g : ModelFault) → OtherFault x p g → ⊥
+    go Size h = h
+    go Spelling h = h
+    go LongName h = h
+    go WrongCount h = subst T e h
+    go TooDeep h = h
+    go ManyAtoms h = h
+    go ManyNodes h = h
+    go Repeated h = h
+
+-- a byte where no member is to begin, and a `)`
+pub inner-faultless : (x : Text) (p : ℕ) → Sized x → p < length x → Alive (here x (suc p)) → isExpect (here x p) ≡ false → endsWrong (here x (suc p)) ≡ false → Faultless x p
+inner-faultless x p z i a e w = other-faultless x p (other-faults x p z i a (rw e)) w
+
+pub end-faultless : (x : Text) (p : ℕ) → Sized x → p < length x → Alive (here x (suc p)) → getD x p 0 ≡ code ")" → endsWrong (here x (suc p)) ≡ false → Faultless x p
+end-faultless x p z i a b w = other-faultless x p (other-faults x p z i a (rw (b, and-false))) w
+
+pub wrong-answers : (x : Text) (p : ℕ) → Sized x → Clean x p → p < length x → isExpect (here x p) ≡ false → T (endsWrong (here x (suc p))) → Answers x (refused WrongCount p)
+wrong-answers x p z c i e w = found-by x p (OtherFault x p) (other-faults x p z i (wrong-alive (here x (suc p)) w) (rw e)) c WrongCount w go
+  where
+    go : (g : ModelFault) → number g < number WrongCount → OtherFault x p g → ⊥
+    go Size l h = h
+    go Spelling l h = h
+    go LongName l h = h
+    go WrongCount l h = omega (arith, l)
+    go TooDeep l h = h
+    go ManyAtoms l h = h
+    go ManyNodes l h = h
+    go Repeated l h = h
 
 -- over a name the automaton goes on as far as letters, digits and hyphens go
 pub name-on : (x : Text) (p : ℕ) (k : List Frame) (n : Text) → here x p ≡ at k (naming n)

@@ -1,7 +1,7 @@
 -- A tree's text leads the automaton to the tree. So a text spells at most one tree, and begins a model text exactly where the automaton is alive.
-use mathlib.Core.Path.{_≡_, refl, sym, ap, subst, _∙_}
+use mathlib.Core.Path.{_≡_, refl, sym, ap, _∙_}
 use mathlib.Core.Logic.{_⊎_, inl, inr, _↔_}
-use mathlib.Core.Bool.{Bool, true, false, cond, not, _&&_, and-false}
+use mathlib.Core.Bool.{true, false, cond, not, _&&_, and-false}
 use mathlib.Core.List.{List, [], _∷_, _++_, append-assoc, append-nil}
 use mathlib.Core.Option.{Option, none as nothing, some, Option·none-ne-some, Option·some-injective}
 use Prim.Native.Nat.{ℕ, suc, _≤_}
@@ -19,7 +19,7 @@ use Rattle.judge.specs.Bytes.{Text, bytes, isLetter, isDigit, isInner, a
 use Rattle.judge.specs.Bytes.Laws.{cond-cases, cond-true}
 use Rattle.judge.specs.Tree.{Node, leaf, group, marked, Members, none, _▹_, SignFits, size, Formed, NodeFormed, MembersFormed}
 use Rattle.judge.specs.Syntax.{Count, between, onward, unwritten, Spelling, Syntax, countText, signText, markText, nodeText, text, membersText, moreText, CountFormed, SpellingFormed, Spells, Spelled, Begins}
-use Rattle.judge.specs.Syntax.Machine.{snoc, signOf, byteOf, markOf, isPlain, atom, bare, Frame, opened, signed, low, dot, dots, high, Focus, expect, naming, counting, after, State, dead, at, Alive, close, grows, stepAfter, step, run, start, whole, result}
+use Rattle.judge.specs.Syntax.Machine.{snoc, signOf, byteOf, markOf, isPlain, atom, Frame, opened, signed, low, dot, dots, high, Focus, expect, naming, counting, after, State, dead, at, Alive, close, grows, stepAfter, step, run, start, whole, result}
 use Rattle.judge.specs.Syntax.Sound.{plain-is, run-dead, run-append, sound, alive-begins}
 
 -- names and numerals

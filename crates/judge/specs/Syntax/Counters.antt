@@ -1,7 +1,7 @@
 -- What a state counts is what the faults 14, 15 and 16 tally: open groups, atoms and nodes.
 use mathlib.Core.Path.{_≡_, refl, sym, ap, subst, _∙_}
 use mathlib.Core.Bool.{Bool, true, false, cond, not, _&&_, _||_}
-use mathlib.Core.List.{List, [], _∷_, _++_}
+use mathlib.Core.List.{List, [], _∷_}
 use Prim.Native.Nat.{ℕ, zero, suc, _+_, _≤_, _<_}
 use Prim.Native.Char.{code}
 use native.Mathlib.Omega.{arith}
@@ -11,10 +11,10 @@ use lib.Dec.{T, eqb, eqb→eq}
 use mir.Facts.{and-yes}
 use Rattle.judge.specs.Types.{Operator, sequence, choice, interleaving}
 use Rattle.judge.specs.Bytes.{Text, isLetter, isDigit, isInner}
-use Rattle.judge.specs.Bytes.Laws.{cond-cases, T-true, apart, letter-inner}
+use Rattle.judge.specs.Bytes.Laws.{cond-cases, T-true, apart}
 use Rattle.judge.specs.Tree.{marked, Members, none, _▹_, weight, membersWeight}
 use Rattle.judge.specs.Syntax.{Spelling, Syntax}
-use Rattle.judge.specs.Syntax.Machine.{snoc, byteOf, markOf, isPlain, bare, Frame, opened, signed, Part, low, dot, dots, high, star, Focus, expect, naming, counting, after, State, dead, at, Alive, close, shut, grows, some-digit, stepCount, stepAfter, step, run, start, here}
+use Rattle.judge.specs.Syntax.Machine.{snoc, byteOf, markOf, isPlain, bare, Frame, opened, signed, Part, low, dot, dots, high, star, Focus, expect, naming, counting, after, State, dead, at, Alive, close, shut, grows, some-digit, stepCount, stepAfter, step, start, here}
 use Rattle.judge.specs.Syntax.Sound.{sign-cases, run-append}
 use Rattle.judge.specs.Fault.{is, isOpener, fresh, nameAt, nodeAt, tally}
 

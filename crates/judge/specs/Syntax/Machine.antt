@@ -12,7 +12,7 @@ use Rattle.judge.specs.declared.rule.Mark.{Mark}
 use Rattle.judge.specs.declared.rule.Mark.the-variants.{Plain, Optional}
 use Rattle.judge.specs.Types.{Operator, sequence, choice, interleaving}
 use Rattle.judge.specs.Bytes.{Text, isLetter, isDigit, isInner}
-use Rattle.judge.specs.Tree.{Node, leaf, group, Tree, marked, Members, none, _▹_}
+use Rattle.judge.specs.Tree.{Node, leaf, group, marked, Members, none, _▹_}
 use Rattle.judge.specs.Syntax.{Count, unwritten, between, onward, Spelling, Syntax}
 
 abbrev pub snoc : Members Spelling → Syntax → Members Spelling
