@@ -7,7 +7,7 @@ use Prim.Native.Char.{code}
 use lib.Dec.{T, T-not, eqb, eqb→eq}
 use lib.ListN.{length, take}
 use mir.Facts.{yes-and}
-use Rattle.judge.specs.Bytes.{Text, isLetter, isDigit, isInner, all, isName, front, valueFrom, value}
+use Rattle.judge.specs.Bytes.{Text, isLetter, isInner, all, isName, front, valueFrom, value}
 
 -- what both branches have
 pub cond-cases : {A : Type 0} (P : A → Type 0) (c : Bool) (x y : A) → (T c → P x) → (T (not c) → P y) → P (cond c x y)

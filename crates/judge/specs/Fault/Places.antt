@@ -144,15 +144,12 @@ module _ (x : Text) (p : ℕ) (z : Sized x) (i : p < length x) where
     stepped = rw (run-take x p i) at a
 
     no-node : T (nodeAt x p) → ⊥
-    unfolding stepped
     no-node h = subst T e (rw ((even x p (omega arith) (alive-before (here x p) (getD x p 0) stepped)) .fresh-here) h)
 
     no-name : T (nameAt x p) → ⊥
-    unfolding no-node
     no-name h = let q : T (fresh x p) × T (isLetter (getD x p 0)) = and-yes (fresh x p) (isLetter (getD x p 0)) h in no-node (yes-and (fresh x p) (isLetter (getD x p 0) || is x (code "(") p) (q .0) (rw (T-true (isLetter (getD x p 0)) (q .1)) tt))
 
     no-bracket : T (is x (code "(") p) → ⊥
-    unfolding stepped
     no-bracket h = subst T e (yes-and (isExpect (here x p)) (isLetter (getD x p 0) || is x (code "(") p) (bracket-expects (here x p) (subst (λ (b : ℕ). Alive (step (here x p) b)) (eqb→eq (getD x p 0) (code "(") h) stepped)) (rw (T-true (is x (code "(") p) h, or-true) tt))
 
     pub other-faults : (g : ModelFault) → Fault g x p ↔ OtherFault x p g
@@ -171,7 +168,6 @@ module _ (x : Text) (p : ℕ) (z : Sized x) (i : p < length x) where
     expected = even x p (omega arith) (rw e tt)
 
     fresh-here : T (fresh x p)
-    unfolding expected
     fresh-here = rw (← expected .fresh-here, e) tt
 
     module _ (l : T (isLetter (getD x p 0))) where
@@ -179,15 +175,12 @@ module _ (x : Text) (p : ℕ) (z : Sized x) (i : p < length x) where
       letter-next = rw (run-take x p i, e) (cond-true (isLetter (getD x p 0)) _ _ l)
 
       name-here : T (nameAt x p)
-      unfolding fresh-here
       name-here = yes-and (fresh x p) (isLetter (getD x p 0)) fresh-here l
 
       node-here : T (nodeAt x p)
-      unfolding fresh-here
       node-here = yes-and (fresh x p) (isLetter (getD x p 0) || is x (code "(") p) fresh-here (rw (T-true (isLetter (getD x p 0)) l) tt)
 
       pub letter-faults : (g : ModelFault) → Fault g x p ↔ LetterFault x p g
-      unfolding letter-next name-here node-here
       letter-faults Size = (λ f. no-size x p z f, λ f. absurd f)
       letter-faults Spelling = (λ f. no-spelling (rw letter-next tt) f, λ f. absurd f)
       letter-faults LongName = (λ f. f .1, λ f. (name-here, f))
@@ -205,15 +198,12 @@ module _ (x : Text) (p : ℕ) (z : Sized x) (i : p < length x) where
       no-letter h = subst (λ (c : ℕ). T (isLetter c)) b ((and-yes (fresh x p) (isLetter (getD x p 0)) h) .1)
 
       group-here : T (nodeAt x p)
-      unfolding fresh-here
       group-here = yes-and (fresh x p) (isLetter (getD x p 0) || is x (code "(") p) fresh-here (rw b tt)
 
       level-here : length k + tally (is x (code ")")) p ≡ tally (is x (code "(")) p
-      unfolding expected
       level-here = rw e at (expected .level-here)
 
       pub bracket-faults : (g : ModelFault) → Fault g x p ↔ BracketFault x p (length k) g
-      unfolding bracket-next no-letter group-here level-here
       bracket-faults Size = (λ f. no-size x p z f, λ f. absurd f)
       bracket-faults Spelling = (λ f. no-spelling (rw bracket-next tt) f, λ f. absurd f)
       bracket-faults LongName = (λ f. no-letter (f .0), λ f. absurd f)
