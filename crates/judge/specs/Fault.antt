@@ -3,6 +3,8 @@
 pub mod Search
 pub mod Decide
 pub mod Answered
+pub mod Places
+pub mod Ties
 use mathlib.Core.Path.{_≡_}
 use mathlib.Core.Logic.{_⊎_}
 use mathlib.Core.Bool.{Bool, true, false, cond, _&&_, _||_}

@@ -4,7 +4,7 @@ use mathlib.Core.Logic.{_⊎_, inl, inr, Dec·and}
 use mathlib.Core.Bool.{Bool, cond, not, _||_}
 use Prim.Native.Nat.{ℕ, zero, suc, _≤_, _<_}
 use Prim.Native.Char.{code}
-use native.Mathlib.Decide.{ℕ-discrete, decLe, decLt, map-dec}
+use native.Mathlib.Decide.{ℕ-discrete, decLe, decLt}
 use native.Mathlib.Omega.{arith}
 use lib.ListN.{length, take, getD, List·getD-eq-default}
 use lib.Seq.{take-length}
@@ -38,8 +38,18 @@ fault-of ManyAtoms = refl
 fault-of ManyNodes = refl
 fault-of Repeated = refl
 
-number-injective : (f g : ModelFault) → number f ≡ number g → f ≡ g
+pub number-injective : (f g : ModelFault) → number f ≡ number g → f ≡ g
 number-injective f g e = sym (fault-of f) ∙ ap faultOf e ∙ fault-of g
+
+pub number-over : (f : ModelFault) → 10 ≤ number f
+number-over Size = omega arith
+number-over Spelling = omega arith
+number-over LongName = omega arith
+number-over WrongCount = omega arith
+number-over TooDeep = omega arith
+number-over ManyAtoms = omega arith
+number-over ManyNodes = omega arith
+number-over Repeated = omega arith
 
 number-under : (f : ModelFault) → number f < 18
 number-under Size = omega arith

@@ -1,12 +1,11 @@
 -- Every fault is decided, at every place.
-use mathlib.Core.Path.{_≡_, refl, sym, ap, subst, _∙_}
-use mathlib.Core.Logic.{_⊎_, inl, inr, _↔_, Dec·and}
-use mathlib.Core.Bool.{Bool, true, false, _&&_}
+use mathlib.Core.Path.{_≡_, refl, ap, subst, _∙_}
+use mathlib.Core.Logic.{_⊎_, inl, inr, Dec·and}
+use mathlib.Core.Bool.{Bool, false, _&&_}
 use mathlib.Core.List.{List, [], _∷_, _++_, append-assoc, append-nil, List-discrete}
-use Prim.Native.Nat.{ℕ, suc, _+_, _≤_, _<_}
+use Prim.Native.Nat.{ℕ, suc, _+_, _<_}
 use Prim.Native.Char.{code}
 use native.Mathlib.Decide.{ℕ-discrete, decLe, decLt, map-dec}
-use native.Mathlib.Omega.{arith}
 use lib.ListN.{length, take}
 use lib.Dec.{T, eqb}
 use mir.Facts.{and-yes}
@@ -16,8 +15,8 @@ use Rattle.judge.specs.Types.{sequence, choice, interleaving}
 use Rattle.judge.specs.Bytes.{Text, bytes}
 use Rattle.judge.specs.Bytes.Laws.{dec-T}
 use Rattle.judge.specs.Tree.{Node, leaf, group, marked}
-use Rattle.judge.specs.Syntax.{Count, unwritten, between, onward, Spelling as Atom, Syntax, countText, text, CountFormed, Spelled, Begins}
-use Rattle.judge.specs.Syntax.Machine.{isPlain, Frame, opened, signed, low, dot, dots, high, star, Focus, expect, naming, counting, after, State, dead, at, Alive, close, step, run, start}
+use Rattle.judge.specs.Syntax.{Count, unwritten, between, onward, Spelling as Atom, Syntax, countText, CountFormed, Spelled, Begins}
+use Rattle.judge.specs.Syntax.Machine.{isPlain, Frame, opened, signed, low, dot, dots, high, star, Focus, expect, naming, counting, after, State, dead, at, Alive, close, step, run, start, here}
 use Rattle.judge.specs.Syntax.Sound.{run-dead, run-append, plain-is, lead, seen, Good, alive-good, alive-begins}
 use Rattle.judge.specs.Syntax.Complete.{behindAtom, after-parts, count-run, begins-alive, dec-begins, dec-spelled}
 use Rattle.judge.specs.Limits.{maxText, maxName, maxDepth, maxAtoms, maxNodes}
@@ -110,10 +109,10 @@ count-wrong s c f w a = go (bracket-only s)
     go (inl e) = absurd (subst Alive (count-dead s c w e) a)
     go (inr q) = rw (q .2, count-run (q .0) (q .1) c f) (wrong-behind (q .1) c w)
 
-pub ends-wrong : (x : Text) (p : ℕ) → EndsWrong x p → T (endsWrong (run start (take (suc p) x)))
+pub ends-wrong : (x : Text) (p : ℕ) → EndsWrong x p → T (endsWrong (here x (suc p)))
 ends-wrong x p w = rw e (count-wrong (run start (w .before)) (w .counted) (w .formed) (w .bad) (subst Alive e (begins-alive (w .begins))))
   where
-    e : run start (take (suc p) x) ≡ run (run start (w .before)) (countText (w .counted))
+    e : here x (suc p) ≡ run (run start (w .before)) (countText (w .counted))
     e = ap (run start) (w .ends) ∙ run-append start (w .before) (countText (w .counted))
 
 record Ended (x : Text) : Type 0 where
@@ -133,19 +132,19 @@ wrong-ended (at k (after (marked m (leaf a)))) g w =
     record { before = lead k ++ a .name; counted = a .count; formed = g .1 .1; ends = rw (plain-is m (h .0)) (simp (append-assoc, append-nil)); bad = h .1 }
 wrong-ended (at k (after (marked m (group s ts)))) g w = absurd ((and-yes (isPlain m) false w) .1)
 
-wrong-alive : (s : State) → T (endsWrong s) → Alive s
+pub wrong-alive : (s : State) → T (endsWrong s) → Alive s
 wrong-alive dead w = w
 wrong-alive (at k f) w = tt
 
-pub wrong-ends : (x : Text) (p : ℕ) → p < length x → T (endsWrong (run start (take (suc p) x))) → EndsWrong x p
+pub wrong-ends : (x : Text) (p : ℕ) → p < length x → T (endsWrong (here x (suc p))) → EndsWrong x p
 wrong-ends x p h w =
-    let a : Alive (run start (take (suc p) x)) = wrong-alive (run start (take (suc p) x)) w in
-    let q : Good (run start (take (suc p) x)) × (seen (run start (take (suc p) x)) ≡ take (suc p) x) = alive-good (take (suc p) x) a in
-    let d : Ended (take (suc p) x) = subst Ended (q .1) (wrong-ended (run start (take (suc p) x)) (q .0) w) in
+    let a : Alive (here x (suc p)) = wrong-alive (here x (suc p)) w in
+    let q : Good (here x (suc p)) × (seen (here x (suc p)) ≡ take (suc p) x) = alive-good (take (suc p) x) a in
+    let d : Ended (take (suc p) x) = subst Ended (q .1) (wrong-ended (here x (suc p)) (q .0) w) in
     record { inside = h; begins = alive-begins (take (suc p) x) a; before = d .before; counted = d .counted; formed = d .formed; ends = d .ends; bad = d .bad }
 
 pub dec-wrong : (x : Text) (p : ℕ) → Dec (EndsWrong x p)
-dec-wrong x p = map-dec (λ (q : (p < length x) × T (endsWrong (run start (take (suc p) x)))). wrong-ends x p (q .0) (q .1)) (λ w. (w .inside, ends-wrong x p w)) (Dec·and (decLt p (length x)) (dec-T (endsWrong (run start (take (suc p) x)))))
+dec-wrong x p = map-dec (λ (q : (p < length x) × T (endsWrong (here x (suc p)))). wrong-ends x p (q .0) (q .1)) (λ w. (w .inside, ends-wrong x p w)) (Dec·and (decLt p (length x)) (dec-T (endsWrong (here x (suc p)))))
 
 -- 17
 abbrev Same : Text → ℕ → ℕ → Type 0
