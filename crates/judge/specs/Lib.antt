@@ -3,6 +3,7 @@
 --   Bytes, Tree, Syntax, Limits    model text: bytes, trees, and which text spells which tree
 --   Fault                          what is wrong with a text, and the answer to it
 --   Model, Rule                    models, the nodes of a rule, and the type that it means
+--   Stack                          lists: a stack that grows down in an array
 pub mod Tests
 pub mod Word
 pub mod Types
@@ -15,3 +16,4 @@ pub mod Fault
 pub mod Accept
 pub mod Model
 pub mod Rule
+pub mod Stack

@@ -88,7 +88,7 @@ mutual
   count-encode : (t : Model) (rest : List RuleNode) → count (encode t ++ rest) ≡ suc (count rest)
   count-encode (marked m n) rest = count-encodeNode n m rest
 
-  count-encodeAll : (ts : Members Counts) (rest : List RuleNode) → count (encodeAll ts ++ rest) ≡ size ts + count rest
+  pub count-encodeAll : (ts : Members Counts) (rest : List RuleNode) → count (encodeAll ts ++ rest) ≡ size ts + count rest
   count-encodeAll none rest = omega arith
   count-encodeAll (t ▹ ts) rest =
       rw append-assoc (omega (arith, count-encode t (encodeAll ts ++ rest), count-encodeAll ts rest))
