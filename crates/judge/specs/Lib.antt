@@ -1,4 +1,5 @@
 -- What the judge promises, from the top. A folder beside a file holds the laws of what the file defines.
+--   Tests                          what a test tells
 --   Word, Types, Verdict           the words of document 001, its types, and what a verdict says
 --   Bytes, Tree, Syntax, Limits    model text: bytes, trees, and which text spells which tree
 --   Fault                          what is wrong with a text, and the answer to it

@@ -2,5 +2,6 @@
 
 mod check;
 pub mod fault;
+pub mod row;
 pub mod rule;
 pub mod verdict;
