@@ -1,6 +1,6 @@
 -- Trees within the limits of document 01's table. Their texts are just the texts in which no fault stands: `Accept.Laws.accepted-is`.
 pub mod Scan
-pub mod Places
+pub mod Listing
 pub mod Starts
 pub mod Depth
 pub mod Counts
@@ -14,12 +14,10 @@ use mathlib.Core.List.{List, [], map, List·Memᴰ}
 use Prim.Native.Nat.{ℕ, _≤_, _<_}
 use lib.ListN.{length, getD}
 use Rattle.judge.specs.Bytes.{Text}
-use Rattle.judge.specs.Tree.{leaves, depth, atoms, nodes, Formed}
+use Rattle.judge.specs.Tree.{leaves, depth, atoms, nodes}
 use Rattle.judge.specs.Syntax.{Spelling, Syntax}
 use Rattle.judge.specs.Limits.{maxName, maxDepth, maxAtoms, maxNodes}
 use Rattle.judge.specs.Fault.{wrong}
-use Rattle.judge.specs.Model.{Model}
-use Rattle.judge.specs.Model.Types.{CountsFit}
 
 -- the names in the order written
 abbrev pub names : Syntax → List Text
@@ -32,10 +30,3 @@ pub record Within (t : Syntax) : Type 0 where
   pub few-atoms : atoms t ≤ maxAtoms
   pub few-nodes : nodes t ≤ maxNodes
   pub apart : (i j : ℕ) → i < j → j < length (names t) → getD (names t) i [] ≡ getD (names t) j [] → ⊥
-
--- the same of a model, which has no names
-pub record Bounded (m : Model) : Type 0 where
-  pub right : Formed CountsFit m
-  pub shallow : depth m ≤ maxDepth
-  pub few-atoms : atoms m ≤ maxAtoms
-  pub few-nodes : nodes m ≤ maxNodes

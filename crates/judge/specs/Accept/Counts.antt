@@ -1,9 +1,9 @@
 -- 13: a wrong count of a tree is a fault in its text, and there is no other.
 use mathlib.Core.Path.{_≡_, refl, sym, ap, subst, _∙_}
-use mathlib.Core.Logic.{⊎-elim, by-cases}
+use mathlib.Core.Logic.{⊎-elim}
 use mathlib.Core.Bool.{Bool, true, false}
 use mathlib.Core.List.{List, [], _∷_, _++_, append-assoc, append-nil, List·Memᴰ, List·Memᴰ·not-nil, List·Memᴰ·eq-of-singleton, List·Memᴰ·append-cases}
-use Prim.Native.Nat.{ℕ, zero, suc, _+_, _-_, _≤_, _<_}
+use Prim.Native.Nat.{ℕ, zero, suc, _-_, _<_}
 use Prim.Native.Char.{code}
 use native.Mathlib.Omega.{arith}
 use lib.Dec.{T, eqb}
@@ -12,15 +12,15 @@ use lib.Seq.{take-at, drop-at, getD-at}
 use Rattle.judge.specs.declared.rule.Sign.{Sign}
 use Rattle.judge.specs.declared.rule.Mark.the-variants.{Plain}
 use Rattle.judge.specs.Bytes.{Text, bytes, isLetter, all, front}
-use Rattle.judge.specs.Bytes.Laws.{apart}
-use Rattle.judge.specs.Tree.{Node, leaf, group, Tree, marked, Members, none, _▹_, nodeLeaves, leaves, membersLeaves, NodeFormed, Formed, MembersFormed}
+use Rattle.judge.specs.Bytes.Laws.{apart, front-stops}
+use Rattle.judge.specs.Tree.{Node, leaf, group, marked, Members, none, _▹_, nodeLeaves, leaves, membersLeaves, NodeFormed, Formed, MembersFormed}
 use Rattle.judge.specs.Tree.Leaves.{formed-each, each-formed}
 use Rattle.judge.specs.Syntax.{Count, unwritten, between, onward, Spelling, Syntax, countText, signText, markText, nodeText, text, membersText, moreText, CountFormed, SpellingFormed, Spells, Begins}
 use Rattle.judge.specs.Syntax.Complete.{spells-once}
 use Rattle.judge.specs.Fault.{tally, wrong, EndsWrong}
 use Rattle.judge.specs.Accept.Scan.{isCounting, inside, inside-counting, Reading, countOn, nodeOn, treeOn, membersOn, scan-text}
-use Rattle.judge.specs.Accept.Places.{at, listOn, listed, listed-at}
-use Rattle.judge.specs.Accept.Starts.{front-stops, on-name}
+use Rattle.judge.specs.Accept.Listing.{at, listOn, listed, listed-at}
+use Rattle.judge.specs.Accept.Starts.{on-name}
 
 -- a count is written in one way
 abbrev counted : Count → Spelling

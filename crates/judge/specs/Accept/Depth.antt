@@ -1,25 +1,23 @@
 -- How many round brackets are open at once in a tree's text: at the most as many as the tree is deep.
 use mathlib.Core.Path.{_≡_, refl, _∙_}
 use mathlib.Core.Logic.{_≢_, by-cases}
-use mathlib.Core.Bool.{Bool, true, false, cond, _&&_, _||_}
-use mathlib.Core.List.{List, [], _∷_, _++_}
-use Prim.Native.Nat.{ℕ, zero, suc, _+_, _-_, _≤_, _<_, max}
+use mathlib.Core.Bool.{Bool, true, false, cond}
+use mathlib.Core.List.{[], _∷_, _++_}
+use Prim.Native.Nat.{ℕ, zero, suc, _+_, _-_, _<_, max}
 use Prim.Native.Char.{code}
 use native.Mathlib.Decide.{ℕ-discrete}
 use native.Mathlib.Omega.{arith}
 use lib.Dec.{T, eqb, eqb→eq}
-use lib.ListN.{length, getD}
+use lib.ListN.{length}
 use mir.Facts.{and-yes}
-use borrow.Author.Tests.{eqb-true}
-use Rattle.judge.specs.Tests.{by-test}
 use Rattle.judge.specs.Bytes.{Text, isLetter, isInner, all, isName}
-use Rattle.judge.specs.Bytes.Laws.{T-true, apart}
-use Rattle.judge.specs.Tree.{Node, leaf, group, Tree, marked, Members, none, _▹_, nodeDepth, depth, membersDepth, Formed}
+use Rattle.judge.specs.Bytes.Laws.{apart}
+use Rattle.judge.specs.Tree.{Node, leaf, group, marked, Members, none, _▹_, nodeDepth, depth, membersDepth, Formed}
 use Rattle.judge.specs.Syntax.{Spelling, Syntax, text, SpellingFormed}
 use Rattle.judge.specs.Fault.{isOpener, is, tally}
 use Rattle.judge.specs.Fault.Answered.{byte-inside}
 use Rattle.judge.specs.Accept.Scan.{scan, Reading, uncounted, nodeOn, treeOn, membersOn, scan-text}
-use Rattle.judge.specs.Accept.Places.{tally-first}
+use Rattle.judge.specs.Accept.Listing.{tally-first}
 
 -- how far the open brackets of a text rise above those before it
 abbrev rise : Bool → Bool → ℕ → ℕ

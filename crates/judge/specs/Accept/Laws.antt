@@ -1,10 +1,9 @@
 -- The texts in which no fault stands are just the texts of trees within the limits.
-use mathlib.Core.Path.{_≡_, refl, sym, ap, subst, _∙_}
+use mathlib.Core.Path.{_≡_, refl, sym, _∙_}
 use mathlib.Core.Logic.{_↔_, ⊎-elim, by-cases}
-use mathlib.Core.Bool.{Bool, true, false}
-use mathlib.Core.List.{List, [], _∷_, map, List·Memᴰ, List·Memᴰ·head, List·Memᴰ·tail, Memᴰ·map, Memᴰ·of-map}
-use Prim.Native.Nat.{ℕ, zero, suc, _+_, _≤_, _<_}
-use Prim.Native.Char.{code}
+use mathlib.Core.Bool.{false}
+use mathlib.Core.List.{List, [], _∷_, List·Memᴰ, List·Memᴰ·head, List·Memᴰ·tail, Memᴰ·map, Memᴰ·of-map}
+use Prim.Native.Nat.{ℕ, zero, suc, _≤_, _<_}
 use native.Mathlib.Decide.{decLe, decLt}
 use native.Mathlib.Omega.{arith}
 use lib.Dec.{T}
@@ -16,13 +15,13 @@ use Rattle.judge.specs.Bytes.{Text}
 use Rattle.judge.specs.Tree.{leaves, atoms, nodes, depth, Formed}
 use Rattle.judge.specs.Tree.Leaves.{length-leaves, formed-each}
 use Rattle.judge.specs.Tree.Map.{formed-map}
-use Rattle.judge.specs.Syntax.{Spelling, Syntax, text, SpellingFormed, Spells}
+use Rattle.judge.specs.Syntax.{Spelling, Syntax, text, SpellingFormed}
 use Rattle.judge.specs.Limits.{maxName, maxDepth, maxAtoms, maxNodes}
 use Rattle.judge.specs.Fault.{Misspelt, cannot, short, nameAt, nameFrom, tally, wrong, Twice, Fault, accepted, Answers}
 use Rattle.judge.specs.Model.{countsOf, modelOf}
 use Rattle.judge.specs.Model.Types.{CountsFit}
 use Rattle.judge.specs.Accept.{names, Within}
-use Rattle.judge.specs.Accept.Places.{tally-grows, tally-passes}
+use Rattle.judge.specs.Accept.Listing.{tally-grows, tally-passes}
 use Rattle.judge.specs.Accept.Starts.{name-at, name-place, node-at, node-place}
 use Rattle.judge.specs.Accept.Depth.{bracket-at, bracket-place}
 use Rattle.judge.specs.Accept.Counts.{no-wrong, begun, wrong-at}

@@ -2,7 +2,7 @@
 use mathlib.Core.Path.{_≡_}
 use mathlib.Core.Bool.{false, not, _&&_}
 use mathlib.Core.List.{[], _∷_, _++_}
-use Prim.Native.Nat.{ℕ, suc, _+_, _*_, _-_, _≤_, _<_}
+use Prim.Native.Nat.{ℕ, _+_, _*_, _-_, _≤_, _<_}
 use Prim.Native.Char.{code}
 use native.Mathlib.Omega.{arith}
 use lib.Dec.{T, leb, eqb, leb→le}
@@ -17,7 +17,7 @@ use Rattle.judge.specs.Tree.{Node, leaf, group, marked, Members, none, _
 use Rattle.judge.specs.Tree.Leaves.{formed-each, each-formed}
 use Rattle.judge.specs.Syntax.{Count, unwritten, between, onward, Spelling, Syntax, countText, signText, markText, nodeText, text, membersText, moreText}
 use Rattle.judge.specs.Syntax.{CountFormed, SpellingFormed}
-use Rattle.judge.specs.Limits.{maxText, maxName, maxCount}
+use Rattle.judge.specs.Limits.{maxText, maxCount}
 use Rattle.judge.specs.Fault.{wrong}
 use Rattle.judge.specs.Accept.Fit.{fits-is}
 use Rattle.judge.specs.Accept.{Within}

@@ -1,32 +1,30 @@
 -- Every model within the limits is the model of some text, and no other is: its atoms are named a0, a1, a2, and so on.
 use mathlib.Core.Path.{_≡_, refl, sym, ap, ap₂, _∙_}
 use mathlib.Core.Logic.{_↔_}
-use mathlib.Core.Bool.{Bool, true, false}
 use mathlib.Core.List.{List, [], _∷_, _++_, map, map-append, tail-eq-of-cons-eq}
 use Prim.Native.Nat.{ℕ, zero, suc, _+_, _≤_, _<_}
 use Prim.Native.Char.{code}
 use native.Mathlib.Nat.{zero-add, add-zero, add-suc, suc-add}
 use native.Mathlib.Omega.{arith}
 use lib.Dec.{T}
-use lib.ListN.{length, getD, length-map}
+use lib.ListN.{length, getD}
 use Rattle.judge.specs.declared.rule.Upper.{Upper}
 use Rattle.judge.specs.declared.rule.Upper.the-variants.{Number, Unbounded}
 use Rattle.judge.specs.declared.rule.Rule.{Rule}
-use Rattle.judge.specs.Bytes.{Text, isDigit, isInner, all, isName, value}
-use Rattle.judge.specs.Bytes.Laws.{digit-inner}
+use Rattle.judge.specs.Bytes.{Text, isDigit, isInner, isName, value}
+use Rattle.judge.specs.Bytes.Laws.{digit-inner, all-map}
 use Rattle.judge.specs.Bytes.Numeral.{digits, value-digits, all-digits, digits-length, digits-numeral}
-use Rattle.judge.specs.Tree.{Node, leaf, group, Tree, marked, Members, none, _▹_, size, nodeLeaves, leaves, membersLeaves, nodeWeight, weight, membersWeight, depth, atoms, nodes}
-use Rattle.judge.specs.Tree.{NodeFormed, Formed, MembersFormed, mapNode, mapTree, mapMembers}
-use Rattle.judge.specs.Tree.Leaves.{length-leaves, formed-each, each-formed}
+use Rattle.judge.specs.Tree.{Node, leaf, group, Tree, marked, Members, none, _▹_, size, nodeLeaves, membersLeaves, nodeWeight, weight, membersWeight, depth, atoms, nodes}
+use Rattle.judge.specs.Tree.{NodeFormed, Formed, MembersFormed, mapNode, mapMembers}
+use Rattle.judge.specs.Tree.Leaves.{formed-each, each-formed}
 use Rattle.judge.specs.Tree.Map.{weight-map, depth-map, formed-map}
-use Rattle.judge.specs.Syntax.{Count, unwritten, between, onward, Spelling, Syntax, text, CountFormed, SpellingFormed}
-use Rattle.judge.specs.Limits.{maxName, maxCount, maxDepth, maxAtoms, maxNodes}
-use Rattle.judge.specs.Fault.{wrong}
+use Rattle.judge.specs.Syntax.{Count, between, onward, Spelling, Syntax, text, CountFormed, SpellingFormed}
+use Rattle.judge.specs.Limits.{maxName, maxDepth, maxAtoms, maxNodes}
 use Rattle.judge.specs.Model.{Counts, Model, countsOf, modelOf}
 use Rattle.judge.specs.Model.Types.{UpperFits, CountsFit}
 use Rattle.judge.specs.Rule.{ruleOf, ReadsInto}
-use Rattle.judge.specs.Accept.{names, Within, Bounded}
-use Rattle.judge.specs.Accept.Scan.{all-map}
+use Rattle.judge.specs.Rule.Test.{WellFormed}
+use Rattle.judge.specs.Accept.{names, Within}
 use Rattle.judge.specs.Accept.Fit.{fits-is}
 use Rattle.judge.specs.Accept.Laws.{within-accepted, accepted-within, accepted-counts}
 
@@ -129,17 +127,17 @@ length-numbered k (suc n) = ap suc (length-numbered (suc k) n)
 made-once : (i j : ℕ) → i < 100000 → j < 100000 → made i ≡ made j → i ≡ j
 made-once i j h k e = sym (value-digits i h) ∙ ap value (tail-eq-of-cons-eq e) ∙ value-digits j k
 
-module _ (m : Model) (b : Bounded m) where
+module _ (m : Model) (right : Formed CountsFit m) (shallow : depth m ≤ maxDepth) (few-atoms : atoms m ≤ maxAtoms) (few-nodes : nodes m ≤ maxNodes) where
   spelled : Syntax
   spelled = spell m 0
 
   back : modelOf spelled ≡ m
   unfolding spelled
-  back = tree-back m 0 (b .right)
+  back = tree-back m 0 right
 
   neat : Formed Neat spelled
   unfolding spelled
-  neat = tree-neat m 0 (b .right)
+  neat = tree-neat m 0 right
 
   formed : Formed SpellingFormed spelled
   formed = formed-each SpellingFormed Neat spelled neat (λ a i. each-formed Neat spelled neat a i .0)
@@ -151,34 +149,35 @@ module _ (m : Model) (b : Bounded m) where
   within : Within spelled
   within = record {
     short = λ a i. each-formed Neat spelled neat a i .1;
-    right = λ a i. fits-is (a .count) .1 (each-formed (λ a. CountsFit (counts a)) spelled (formed-map counts CountsFit spelled .0 (rw back (b .right))) a i);
-    shallow = omega (arith, b .shallow, sym (depth-map counts spelled) ∙ ap depth back);
-    few-atoms = omega (arith, b .few-atoms, sym (weight-map counts 1 0 spelled) ∙ ap atoms back);
-    few-nodes = omega (arith, b .few-nodes, sym (weight-map counts 1 1 spelled) ∙ ap nodes back);
+    right = λ a i. fits-is (a .count) .1 (each-formed (λ a. CountsFit (counts a)) spelled (formed-map counts CountsFit spelled .0 (rw back right)) a i);
+    shallow = omega (arith, sym (depth-map counts spelled) ∙ ap depth back);
+    few-atoms = omega (arith, sym (weight-map counts 1 0 spelled) ∙ ap atoms back);
+    few-nodes = omega (arith, sym (weight-map counts 1 1 spelled) ∙ ap nodes back);
     apart = λ i j h l e.
         let l : j < atoms m = rw (named, length-numbered 0 (atoms m)) at l in
         let f : made (0 + i) ≡ made (0 + j) = sym (numbered-at 0 (atoms m) i (omega arith)) ∙ (rw named at e) ∙ numbered-at 0 (atoms m) j l in
-        omega (arith, b .few-atoms, made-once (0 + i) (0 + j) (omega (arith, b .few-atoms)) (omega (arith, b .few-atoms)) f);
+        omega (arith, made-once (0 + i) (0 + j) (omega arith) (omega arith) f);
   }
 
-pub spelled-model : (m : Model) → Bounded m → (t : Syntax) × (modelOf t ≡ m) × Formed SpellingFormed t × Within t
-spelled-model m b = (spelled m b, back m b, formed m b, within m b)
+  pub spelled-model : (t : Syntax) × (modelOf t ≡ m) × Formed SpellingFormed t × Within t
+  spelled-model = (spelled, back, formed, within)
 
-pub readable : (m : Model) → Bounded m → (x : Text) × ReadsInto x (ruleOf m)
-readable m b =
-    let s = spelled-model m b in
-    (text (s .0), record { tree = s .0; answered = within-accepted (s .0) (s .2) (s .3); rule-is = ap ruleOf (sym (s .1)) })
-
-pub read-bounded : (x : Text) (r : Rule) (h : ReadsInto x r) → Bounded (modelOf (h .tree))
-read-bounded x r h =
-    let w = accepted-within x (h .tree) (h .answered) in
-    record {
-      right = accepted-counts x (h .tree) (h .answered);
-      shallow = rw (depth-map counts (h .tree)) (w .shallow);
-      few-atoms = rw (weight-map counts 1 0 (h .tree)) (w .few-atoms);
-      few-nodes = rw (weight-map counts 1 1 (h .tree)) (w .few-nodes);
-    }
+  pub readable : (x : Text) × ReadsInto x (ruleOf m)
+  readable = (text spelled, record { tree = spelled; answered = within-accepted spelled formed within; rule-is = ap ruleOf (sym back) })
 
 -- 40: the rules that some text reads into
-pub readable-is : (r : Rule) → ((x : Text) × ReadsInto x r) ↔ ((m : Model) × Bounded m × (r ≡ ruleOf m))
-readable-is r = (λ (x, h). (modelOf (h .tree), read-bounded x r h, h .rule-is), λ (m, b, e). rw e (readable m b))
+pub readable-is : (r : Rule) → ((x : Text) × ReadsInto x r) ↔ WellFormed r
+readable-is r = (λ (x, h). read-formed x h, λ w. rw (w .rule-is) (readable (w .model) (w .formed) (w .shallow) (w .few-atoms) (w .few-nodes)))
+  where
+    read-formed : (x : Text) → ReadsInto x r → WellFormed r
+    read-formed x h =
+        let t = h .tree in
+        let w = accepted-within x t (h .answered) in
+        record {
+          model = modelOf t;
+          rule-is = h .rule-is;
+          formed = accepted-counts x t (h .answered);
+          few-atoms = rw (weight-map counts 1 0 t) (w .few-atoms);
+          few-nodes = rw (weight-map counts 1 1 t) (w .few-nodes);
+          shallow = rw (depth-map counts t) (w .shallow);
+        }

@@ -1,18 +1,18 @@
 -- A text read from its last byte to its first, into what may be any type: over the text of a tree, only names, counts and round brackets tell.
-use mathlib.Core.Path.{_≡_, refl, ap, _∙_}
-use mathlib.Core.Bool.{Bool, true, false, not, _&&_, _||_, or-true}
-use mathlib.Core.List.{List, [], _∷_, _++_, append-assoc, append-nil}
+use mathlib.Core.Path.{_≡_, refl, _∙_}
+use mathlib.Core.Bool.{Bool, true, false, _||_}
+use mathlib.Core.List.{[], _∷_, _++_, append-assoc, append-nil}
 use Prim.Native.Nat.{ℕ, suc, _≤_}
 use Prim.Native.Char.{code}
 use native.Mathlib.Omega.{arith}
 use lib.Dec.{T, eqb}
-use mir.Facts.{and-yes, yes-and}
+use mir.Facts.{and-yes}
 use Rattle.judge.specs.declared.rule.Sign.{Sign}
 use Rattle.judge.specs.declared.rule.Sign.the-variants.{None, Sequence, Choice, Interleaving}
 use Rattle.judge.specs.declared.rule.Mark.{Mark}
 use Rattle.judge.specs.declared.rule.Mark.the-variants.{Plain, Optional}
-use Rattle.judge.specs.Bytes.{Text, bytes, isLetter, isDigit, isInner, all, isName, isNumeral, front}
-use Rattle.judge.specs.Bytes.Laws.{T-true, apart, letter-inner}
+use Rattle.judge.specs.Bytes.{Text, bytes, isLetter, isDigit, isInner, all, isName, isNumeral}
+use Rattle.judge.specs.Bytes.Laws.{apart, letter-inner, or-left, or-right, all-map, all-append, numeral-digits, stops}
 use Rattle.judge.specs.Tree.{Node, leaf, group, Tree, marked, Members, none, _▹_, size, SignFits, NodeFormed, Formed, MembersFormed}
 use Rattle.judge.specs.Syntax.{Count, unwritten, between, onward, Spelling, Syntax, countText, signText, markText, nodeText, text, membersText, moreText}
 use Rattle.judge.specs.Syntax.{CountFormed, SpellingFormed}
@@ -27,11 +27,6 @@ abbrev pub inside : Count → Text
 inside unwritten = []
 inside (between m n) = m ++ (bytes ".." ++ n)
 inside (onward m) = m ++ bytes "..*"
-
--- no byte that passes the test comes first
-abbrev pub stops : (ℕ → Bool) → Text → Bool
-stops f [] = true
-stops f (b ∷ w) = not (f b)
 
 module _ {R : Type 0} (stop : R) (on : Bool → Text → R → R) where
   -- what is behind a byte is read first; a byte sees whether a member may begin at it, and the text from it on
@@ -75,32 +70,6 @@ module _ {R : Type 0} (s : Reading R) where
 -- bytes of names and of counts
 abbrev isStill : ℕ → Bool
 isStill b = isInner b || isCounting b
-
-or-left : (a b : Bool) → T a → T (a || b)
-or-left true b h = tt
-or-left false b h = absurd h
-
-or-right : (a b : Bool) → T b → T (a || b)
-or-right a b h = rw (T-true b h, or-true) tt
-
-pub all-map : (f g : ℕ → Bool) → ((b : ℕ) → T (f b) → T (g b)) → (u : Text) → T (all f u) → T (all g u)
-all-map f g h [] p = tt
-all-map f g h (b ∷ u) p =
-    let q = and-yes (f b) (all f u) p in
-    yes-and (g b) (all g u) (h b (q .0)) (all-map f g h u (q .1))
-
-pub all-append : (f : ℕ → Bool) (u v : Text) → T (all f u) → T (all f v) → T (all f (u ++ v))
-all-append f [] v p q = q
-all-append f (b ∷ u) v p q =
-    let r = and-yes (f b) (all f u) p in
-    yes-and (f b) (all f (u ++ v)) (r .0) (all-append f u v (r .1) q)
-
-pub numeral-digits : (n : Text) → T (isNumeral n) → T (all isDigit n)
-numeral-digits [] h = absurd h
-numeral-digits (d ∷ []) h = yes-and (isDigit d) true h tt
-numeral-digits (d ∷ e ∷ es) h =
-    let q = and-yes (isDigit d && not (eqb d (code "0"))) (all isDigit (e ∷ es)) h in
-    yes-and (isDigit d) (all isDigit (e ∷ es)) (and-yes (isDigit d) (not (eqb d (code "0"))) (q .0) .0) (q .1)
 
 numeral-counting : (n : Text) → T (isNumeral n) → T (all isCounting n)
 numeral-counting n h = all-map isDigit isCounting (λ b p. or-left (isDigit b || eqb b (code ".")) (eqb b (code "*")) (or-left (isDigit b) (eqb b (code ".")) p)) n (numeral-digits n h)

@@ -1,33 +1,23 @@
 -- Where names and nodes begin in the text of a tree.
-use mathlib.Core.Path.{_≡_, refl, sym, ap, _∙_}
-use mathlib.Core.Logic.{_⊎_, by-cases}
-use mathlib.Core.Bool.{Bool, true, false, not, cond, _&&_, _||_, and-false}
-use mathlib.Core.List.{List, [], _∷_, _++_, map, map-append, append-assoc, append-nil, List·Memᴰ, List·Memᴰ·head, Memᴰ·append-left, Memᴰ·append-right}
-use Prim.Native.Nat.{ℕ, zero, suc, _+_, _≤_, _<_}
+use mathlib.Core.Path.{_≡_, refl, ap, _∙_}
+use mathlib.Core.Bool.{Bool, true, cond, _&&_, _||_, and-false}
+use mathlib.Core.List.{List, [], _∷_, _++_, map, map-append, append-assoc, append-nil}
+use Prim.Native.Nat.{ℕ, zero, suc, _+_, _<_}
 use Prim.Native.Char.{code}
-use native.Mathlib.Decide.{decLt}
 use native.Mathlib.Omega.{arith}
 use lib.Dec.{T, eqb}
-use lib.ListN.{length, drop, getD, length-append, List·getD-eq-default}
+use lib.ListN.{length, getD}
 use mir.Facts.{and-yes}
-use borrow.Author.Tests.{not-true}
-use Rattle.judge.specs.Bytes.{Text, bytes, isLetter, isInner, all, isName, front}
-use Rattle.judge.specs.Bytes.Laws.{T-true, apart, letter-inner}
-use Rattle.judge.specs.Tree.{Node, leaf, group, Tree, marked, Members, none, _▹_, nodeLeaves, leaves, membersLeaves, nodes, nodeWeight, weight, membersWeight}
-use Rattle.judge.specs.Tree.{NodeFormed, Formed, MembersFormed}
-use Rattle.judge.specs.Syntax.{Count, unwritten, between, onward, Spelling, Syntax, countText, text, CountFormed, SpellingFormed}
-use Rattle.judge.specs.Fault.{isOpener, is, fresh, nameAt, nodeAt, nameFrom, tally}
+use Rattle.judge.specs.Bytes.{Text, isLetter, isInner, all, isName, front}
+use Rattle.judge.specs.Bytes.Laws.{T-true, letter-inner, stops, front-stops}
+use Rattle.judge.specs.Tree.{Node, leaf, group, marked, Members, none, _▹_, nodeLeaves, membersLeaves, nodes, nodeWeight, membersWeight}
+use Rattle.judge.specs.Tree.{Formed}
+use Rattle.judge.specs.Syntax.{Spelling, Syntax, text, SpellingFormed}
+use Rattle.judge.specs.Fault.{fresh, nameAt, nodeAt, nameFrom, tally}
 use Rattle.judge.specs.Fault.Answered.{byte-inside, name-inside}
 use Rattle.judge.specs.Accept.{names}
-use Rattle.judge.specs.Accept.Scan.{isCounting, stops, Reading, uncounted, nodeOn, treeOn, membersOn, scan-text}
-use Rattle.judge.specs.Accept.Places.{tally-same, at, listOn, listed, start-at, start-place}
-
-pub front-stops : (f : ℕ → Bool) (u w : Text) → T (all f u) → T (stops f w) → front f (u ++ w) ≡ u
-front-stops f [] [] h e = refl
-front-stops f [] (b ∷ w) h e = rw (not-true (f b) (T-true (not (f b)) e))
-front-stops f (b ∷ u) w h e =
-    let q = and-yes (f b) (all f u) h in
-    rw (T-true (f b) (q .0), front-stops f u w (q .1) e)
+use Rattle.judge.specs.Accept.Scan.{Reading, uncounted, nodeOn, treeOn, membersOn, scan-text}
+use Rattle.judge.specs.Accept.Listing.{at, listOn, listed, start-at, start-place}
 
 -- a name, read at a place where it may begin
 module _ {A : Type 0} (f : Bool → ℕ → Bool) (g : Text → A) where

@@ -1,8 +1,8 @@
 -- Numbers below 100,000 in decimal, and back.
-use mathlib.Core.Path.{_≡_, refl, _∙_}
+use mathlib.Core.Path.{_≡_, _∙_}
 use mathlib.Core.Bool.{Bool, true, false, cond, not, _&&_}
-use mathlib.Core.List.{List, [], _∷_, _++_}
-use Prim.Native.Nat.{ℕ, zero, suc, _+_, _*_, _-_, _/_, _%_, _^_, _≤_, _<_}
+use mathlib.Core.List.{[], _∷_, _++_}
+use Prim.Native.Nat.{ℕ, zero, suc, _+_, _/_, _%_, _^_, _≤_, _<_}
 use Prim.Native.Char.{code}
 use native.Mathlib.Omega.{arith}
 use lib.Dec.{T, leb, ltb, eqb, le→leb}
@@ -10,8 +10,8 @@ use lib.ListN.{length, length-append}
 use mir.Facts.{and-yes, yes-and, no-eqb}
 use borrow.Author.Tests.{ltb-true, ltb-false}
 use Rattle.judge.specs.Tests.{by-test}
-use Rattle.judge.specs.Bytes.{Text, isDigit, all, isNumeral, valueFrom, value}
-use Rattle.judge.specs.Bytes.Laws.{all-snoc}
+use Rattle.judge.specs.Bytes.{Text, isDigit, all, isNumeral, value}
+use Rattle.judge.specs.Bytes.Laws.{all-snoc, value-snoc}
 
 -- with room for as many digits as the first argument says
 abbrev decimal : ℕ → ℕ → Text
@@ -21,16 +21,12 @@ decimal (suc r) n = cond (ltb n 10) ((code "0" + n) ∷ []) (decimal r (n / 10) 
 pub digits : ℕ → Text
 digits n = decimal 5 n
 
-value-snoc : (a : ℕ) (ds : Text) (d : ℕ) → valueFrom a (ds ++ (d ∷ [])) ≡ 10 * valueFrom a ds + (d - code "0")
-value-snoc a [] d = refl
-value-snoc a (e ∷ ds) d = value-snoc (10 * a + (e - code "0")) ds d
-
 decimal-value : (r n : ℕ) → n < 10 ^ r → value (decimal r n) ≡ n
 decimal-value zero n h = omega arith
 decimal-value (suc r) n h =
     by-test (ltb n 10)
     (λ e. rw e (omega arith))
-    (λ e. rw e (value-snoc 0 (decimal r (n / 10)) (code "0" + n % 10) ∙ omega (arith, decimal-value r (n / 10) (omega arith))))
+    (λ e. rw e (value-snoc (decimal r (n / 10)) (code "0" + n % 10) ∙ omega (arith, decimal-value r (n / 10) (omega arith))))
 
 digit : (n : ℕ) → n < 10 → T (isDigit (code "0" + n))
 digit n h = yes-and (leb (code "0") (code "0" + n)) (leb (code "0" + n) (code "9")) (le→leb (code "0") (code "0" + n) (omega arith)) (le→leb (code "0" + n) (code "9") (omega arith))
