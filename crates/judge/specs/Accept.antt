@@ -1,6 +1,6 @@
 -- Trees within the limits of document 01's table. Their texts are just the texts in which no fault stands: `Accept.Laws.accepted-is`.
 pub mod Scan
-pub mod Listing
+pub mod Places
 pub mod Starts
 pub mod Depth
 pub mod Counts

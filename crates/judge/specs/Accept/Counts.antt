@@ -19,7 +19,7 @@ use Rattle.judge.specs.Syntax.{Count, unwritten, between, onward, Spelli
 use Rattle.judge.specs.Syntax.Complete.{spells-once}
 use Rattle.judge.specs.Fault.{tally, wrong, EndsWrong}
 use Rattle.judge.specs.Accept.Scan.{isCounting, inside, inside-counting, Reading, countOn, nodeOn, treeOn, membersOn, scan-text}
-use Rattle.judge.specs.Accept.Listing.{at, listOn, listed, listed-at}
+use Rattle.judge.specs.Accept.Places.{at, listOn, listed, listed-at}
 use Rattle.judge.specs.Accept.Starts.{on-name}
 
 -- a count is written in one way

@@ -17,7 +17,7 @@ use Rattle.judge.specs.Syntax.{Spelling, Syntax, text, SpellingFormed}
 use Rattle.judge.specs.Fault.{isOpener, is, tally}
 use Rattle.judge.specs.Fault.Answered.{byte-inside}
 use Rattle.judge.specs.Accept.Scan.{scan, Reading, uncounted, nodeOn, treeOn, membersOn, scan-text}
-use Rattle.judge.specs.Accept.Listing.{tally-first}
+use Rattle.judge.specs.Accept.Places.{tally-first}
 
 -- how far the open brackets of a text rise above those before it
 abbrev rise : Bool → Bool → ℕ → ℕ

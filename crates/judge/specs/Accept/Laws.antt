@@ -21,7 +21,7 @@ use Rattle.judge.specs.Fault.{Misspelt, cannot, short, nameAt, nameFrom,
 use Rattle.judge.specs.Model.{countsOf, modelOf}
 use Rattle.judge.specs.Model.Types.{CountsFit}
 use Rattle.judge.specs.Accept.{names, Within}
-use Rattle.judge.specs.Accept.Listing.{tally-grows, tally-passes}
+use Rattle.judge.specs.Accept.Places.{tally-grows, tally-passes}
 use Rattle.judge.specs.Accept.Starts.{name-at, name-place, node-at, node-place}
 use Rattle.judge.specs.Accept.Depth.{bracket-at, bracket-place}
 use Rattle.judge.specs.Accept.Counts.{no-wrong, begun, wrong-at}

@@ -17,7 +17,7 @@ use Rattle.judge.specs.Fault.{fresh, nameAt, nodeAt, nameFrom, tally}
 use Rattle.judge.specs.Fault.Answered.{byte-inside, name-inside}
 use Rattle.judge.specs.Accept.{names}
 use Rattle.judge.specs.Accept.Scan.{Reading, uncounted, nodeOn, treeOn, membersOn, scan-text}
-use Rattle.judge.specs.Accept.Listing.{at, listOn, listed, start-at, start-place}
+use Rattle.judge.specs.Accept.Places.{at, listOn, listed, start-at, start-place}
 
 -- a name, read at a place where it may begin
 module _ {A : Type 0} (f : Bool → ℕ → Bool) (g : Text → A) where
