@@ -2,6 +2,7 @@
 pub mod Machine
 pub mod Sound
 pub mod Complete
+pub mod Counters
 use mathlib.Core.Path.{_≡_}
 use mathlib.Core.List.{List, [], _∷_, _++_}
 use Prim.Native.Nat.{ℕ}
