@@ -17,3 +17,4 @@ pub mod Fault
 pub mod Model
 pub mod Rule
 pub mod Judge
+pub mod Starred
