@@ -14,6 +14,7 @@ pub mod Tree
 pub mod Syntax
 pub mod Limits
 pub mod Fault
+pub mod Accept
 pub mod Model
 pub mod Rule
 pub mod Judge
