@@ -15,10 +15,9 @@ use Rattle.judge.specs.Bytes.{Text, bytes, isLetter, isInner, all, isNam
 use Rattle.judge.specs.Bytes.Laws.{T-true, apart, letter-inner}
 use Rattle.judge.specs.Tree.{Node, leaf, group, Tree, marked, Members, none, _▹_, nodeLeaves, leaves, membersLeaves, nodes, nodeWeight, weight, membersWeight}
 use Rattle.judge.specs.Tree.{NodeFormed, Formed, MembersFormed}
-use Rattle.judge.specs.Syntax.{Count, unwritten, between, onward, Spelling, Syntax, countText, text, CountFormed, SpellingFormed}
+use Rattle.judge.specs.Syntax.{Count, unwritten, between, onward, Spelling, Syntax, countText, text, CountFormed, SpellingFormed, names}
 use Rattle.judge.specs.Fault.{isOpener, is, fresh, nameAt, nodeAt, nameFrom, tally}
 use Rattle.judge.specs.Fault.Answered.{byte-inside, name-inside}
-use Rattle.judge.specs.Accept.{names}
 use Rattle.judge.specs.Accept.Scan.{isCounting, stops, Reading, uncounted, nodeOn, treeOn, membersOn, scan-text}
 use Rattle.judge.specs.Accept.Places.{tally-same, at, listOn, listed, start-at, start-place}
 
