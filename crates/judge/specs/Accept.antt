@@ -4,6 +4,9 @@ pub mod Places
 pub mod Starts
 pub mod Depth
 pub mod Counts
+pub mod Fit
+pub mod Length
+pub mod Laws
 pub mod Test
 use mathlib.Core.Path.{_≡_}
 use mathlib.Core.Bool.{false}

@@ -14,7 +14,7 @@ use Rattle.judge.specs.declared.rule.Mark.the-variants.{Plain}
 use Rattle.judge.specs.Bytes.{Text, bytes, isLetter, all, front}
 use Rattle.judge.specs.Bytes.Laws.{apart}
 use Rattle.judge.specs.Tree.{Node, leaf, group, Tree, marked, Members, none, _▹_, nodeLeaves, leaves, membersLeaves, NodeFormed, Formed, MembersFormed}
-use Rattle.judge.specs.Tree.Leaves.{each-formed}
+use Rattle.judge.specs.Tree.Leaves.{formed-each, each-formed}
 use Rattle.judge.specs.Syntax.{Count, unwritten, between, onward, Spelling, Syntax, countText, signText, markText, nodeText, text, membersText, moreText, CountFormed, SpellingFormed, Spells, Begins}
 use Rattle.judge.specs.Syntax.Complete.{spells-once}
 use Rattle.judge.specs.Fault.{tally, wrong, EndsWrong}
@@ -107,7 +107,7 @@ right-at x u v w e h r = rw (front-stops isCounting u (code "]" ∷ w) h tt) at 
         × (getD (listed countTest insideFrom true x) (tally (at countTest insideFrom true x) (length v)) [] ≡ insideFrom (drop (length v) x))
     i = listed-at countTest insideFrom [] true x (length v) (rw (e, length-append) (omega arith)) (rw (e, getD-at v (code "[") (u ++ (code "]" ∷ w)) 0 (length v) refl) tt)
 
-pub no-wrong : (t : Syntax) → Formed SpellingFormed t → Formed RightSpelling t → (p : ℕ) → EndsWrong (text t) p → ⊥
+pub no-wrong : (t : Syntax) → Formed SpellingFormed t → ((a : Spelling) → List·Memᴰ a (leaves t) → wrong (a .count) ≡ false) → (p : ℕ) → EndsWrong (text t) p → ⊥
 no-wrong t h r p w = subst T right (w .bad)
   where
     x : Text
@@ -119,8 +119,11 @@ no-wrong t h r p w = subst T right (w .bad)
     parted : x ≡ w .before ++ (code "[" ∷ (inside (w .counted) ++ (code "]" ∷ rest)))
     parted = sym (take-append-drop (suc p) x) ∙ ap (λ y. y ++ rest) (w .ends) ∙ append-assoc (w .before) (countText (w .counted)) rest ∙ ap (λ y. w .before ++ y) (count-inside (w .counted) rest (w .bad))
 
+    each : Formed RightSpelling t
+    each = formed-each RightSpelling SpellingFormed t h (λ a m. (each-formed SpellingFormed t h a m .1, r a m))
+
     right : wrong (w .counted) ≡ false
-    right = right-at x (inside (w .counted)) (w .before) rest parted (inside-counting (w .counted) (w .formed)) (rw (scan-text countReading t h) (right-tree t [] r tt))
+    right = right-at x (inside (w .counted)) (w .before) rest parted (inside-counting (w .counted) (w .formed)) (rw (scan-text countReading t h) (right-tree t [] each tt))
         (w .counted) (w .formed) (rw append-nil at (count-inside (w .counted) [] (w .bad)))
 
 -- an atom stands in the text of its tree

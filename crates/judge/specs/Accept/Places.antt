@@ -31,6 +31,9 @@ tally-grows f m (suc n) h =
     (λ l. let i = tally-grows f m n l in by-test (f n) (λ c. rw c (omega arith)) (λ c. rw c i))
     (λ l. let e : m ≡ suc n = omega arith in rw e (omega arith))
 
+pub tally-passes : (f : ℕ → Bool) (p q : ℕ) → T (f p) → p < q → tally f p < tally f q
+tally-passes f p q h l = rw (T-true (f p) h) at (tally-grows f (suc p) q l)
+
 -- `fresh`, where e says whether a member may begin at the first place
 abbrev freshFrom : Bool → Text → ℕ → Bool
 freshFrom e x zero = e

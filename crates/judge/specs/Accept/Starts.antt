@@ -122,8 +122,17 @@ module _ (t : Syntax) (formed : Formed SpellingFormed t) where
       → (tally (nameAt (text t)) p < length (names t)) × (getD (names t) (tally (nameAt (text t)) p) [] ≡ nameFrom (text t) p)
   name-at p h = rw names-listed at (start-at nameTest (front isInner) (text t) (nameAt (text t)) (name-same (text t)) [] p (name-inside (text t) p h) h)
 
-  pub name-place : (k : ℕ) → k < length (names t) → (p : ℕ) × T (nameAt (text t) p) × (tally (nameAt (text t)) p ≡ k)
-  name-place k h = start-place nameTest (front isInner) (text t) (nameAt (text t)) (name-same (text t)) k (rw names-listed h)
+  -- where the k-th name begins
+  pub record NamePlace (k : ℕ) : Type 0 where
+    pub place : ℕ
+    pub begins : T (nameAt (text t) place)
+    pub before : tally (nameAt (text t)) place ≡ k
+    pub named : getD (names t) k [] ≡ nameFrom (text t) place
+
+  pub name-place : (k : ℕ) → k < length (names t) → NamePlace k
+  name-place k h =
+      let i = start-place nameTest (front isInner) (text t) (nameAt (text t)) (name-same (text t)) k (rw names-listed h) in
+      record { place = i .0; begins = i .1; before = i .2; named = rw (i .2) at (name-at (i .0) (i .1) .1) }
 
   nodes-listed : length (listed nodeTest (λ x. tt {0}) true (text t)) ≡ nodes t
   nodes-listed = ap length (scan-text nodeReading t formed) ∙ tree-nodes t [] ∙ omega arith

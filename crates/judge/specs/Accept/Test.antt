@@ -50,6 +50,11 @@ distinct-apart (x ∷ l) e (suc i) (suc j) h k q =
 abbrev pub spellingFits : Spelling → Bool
 spellingFits a = leb (length (a .name)) maxName && not (wrong (a .count))
 
+spelling-fits : (a : Spelling) → spellingFits a ≡ true → (length (a .name) ≤ maxName) × (wrong (a .count) ≡ false)
+spelling-fits a e =
+    let h = (and-eq-true-iff (leb (length (a .name)) maxName) (not (wrong (a .count)))) .0 e in
+    (leb-true _ _ (h .0), tells-not (wrong (a .count)) .0 (h .1))
+
 abbrev pub within : Syntax → Bool
 within t = every spellingFits (leaves t) && (leb (depth t) maxDepth && (leb (atoms t) maxAtoms && (leb (nodes t) maxNodes && distinct (names t))))
 
@@ -60,8 +65,8 @@ within-right t e =
     let c = (and-eq-true-iff (leb (atoms t) maxAtoms) _) .0 (b .1) in
     let d = (and-eq-true-iff (leb (nodes t) maxNodes) (distinct (names t))) .0 (c .1) in
     record {
-      short = λ s m. leb-true _ _ ((and-eq-true-iff (leb (length (s .name)) maxName) _) .0 (every-in spellingFits (leaves t) (a .0) s m) .0);
-      right = λ s m. tells-not (wrong (s .count)) .0 ((and-eq-true-iff _ (not (wrong (s .count)))) .0 (every-in spellingFits (leaves t) (a .0) s m) .1);
+      short = λ s m. spelling-fits s (every-in spellingFits (leaves t) (a .0) s m) .0;
+      right = λ s m. spelling-fits s (every-in spellingFits (leaves t) (a .0) s m) .1;
       shallow = leb-true _ _ (b .0);
       few-atoms = leb-true _ _ (c .0);
       few-nodes = leb-true _ _ (d .0);
