@@ -7,21 +7,17 @@ pub mod Counts
 pub mod Fit
 pub mod Length
 pub mod Laws
+pub mod Test
 pub mod Readable
 use mathlib.Core.Path.{_≡_}
 use mathlib.Core.Bool.{false}
-use mathlib.Core.List.{List, [], map, List·Memᴰ}
+use mathlib.Core.List.{[], List·Memᴰ}
 use Prim.Native.Nat.{ℕ, _≤_, _<_}
 use lib.ListN.{length, getD}
-use Rattle.judge.specs.Bytes.{Text}
 use Rattle.judge.specs.Tree.{leaves, depth, atoms, nodes}
-use Rattle.judge.specs.Syntax.{Spelling, Syntax}
+use Rattle.judge.specs.Syntax.{Spelling, Syntax, names}
 use Rattle.judge.specs.Limits.{maxName, maxDepth, maxAtoms, maxNodes}
 use Rattle.judge.specs.Fault.{wrong}
-
--- the names in the order written
-abbrev pub names : Syntax → List Text
-names t = map (λ a. a .name) (leaves t)
 
 pub record Within (t : Syntax) : Type 0 where
   pub short : (a : Spelling) → List·Memᴰ a (leaves t) → length (a .name) ≤ maxName

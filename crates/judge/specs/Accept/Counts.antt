@@ -12,7 +12,8 @@ use lib.Seq.{take-at, drop-at, getD-at}
 use Rattle.judge.specs.declared.rule.Sign.{Sign}
 use Rattle.judge.specs.declared.rule.Mark.the-variants.{Plain}
 use Rattle.judge.specs.Bytes.{Text, bytes, isLetter, all, front}
-use Rattle.judge.specs.Bytes.Laws.{apart, front-stops}
+use Rattle.judge.specs.Bytes.Laws.{apart}
+use Rattle.judge.specs.Bytes.Runs.{front-stops}
 use Rattle.judge.specs.Tree.{Node, leaf, group, marked, Members, none, _▹_, nodeLeaves, leaves, membersLeaves, NodeFormed, Formed, MembersFormed}
 use Rattle.judge.specs.Tree.Leaves.{formed-each, each-formed}
 use Rattle.judge.specs.Syntax.{Count, unwritten, between, onward, Spelling, Syntax, countText, signText, markText, nodeText, text, membersText, moreText, CountFormed, SpellingFormed, Spells, Begins}

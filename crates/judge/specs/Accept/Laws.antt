@@ -15,12 +15,12 @@ use Rattle.judge.specs.Bytes.{Text}
 use Rattle.judge.specs.Tree.{leaves, atoms, nodes, depth, Formed}
 use Rattle.judge.specs.Tree.Leaves.{length-leaves, formed-each}
 use Rattle.judge.specs.Tree.Map.{formed-map}
-use Rattle.judge.specs.Syntax.{Spelling, Syntax, text, SpellingFormed}
+use Rattle.judge.specs.Syntax.{Spelling, Syntax, names, text, SpellingFormed}
 use Rattle.judge.specs.Limits.{maxName, maxDepth, maxAtoms, maxNodes}
 use Rattle.judge.specs.Fault.{Misspelt, cannot, short, nameAt, nameFrom, tally, wrong, Twice, Fault, accepted, Answers}
 use Rattle.judge.specs.Model.{countsOf, modelOf}
 use Rattle.judge.specs.Model.Types.{CountsFit}
-use Rattle.judge.specs.Accept.{names, Within}
+use Rattle.judge.specs.Accept.{Within}
 use Rattle.judge.specs.Accept.Places.{tally-grows, tally-passes}
 use Rattle.judge.specs.Accept.Starts.{name-at, name-place, node-at, node-place}
 use Rattle.judge.specs.Accept.Depth.{bracket-at, bracket-place}

@@ -1,6 +1,5 @@
--- Every model within the limits is the model of some text, and no other is: its atoms are named a0, a1, a2, and so on.
+-- Every model within the limits is the model of some text: its atoms can be named a0, a1, a2 and so on, its numbers written in decimal.
 use mathlib.Core.Path.{_≡_, refl, sym, ap, ap₂, _∙_}
-use mathlib.Core.Logic.{_↔_}
 use mathlib.Core.List.{List, [], _∷_, _++_, map, map-append, tail-eq-of-cons-eq}
 use Prim.Native.Nat.{ℕ, zero, suc, _+_, _≤_, _<_}
 use Prim.Native.Char.{code}
@@ -10,23 +9,21 @@ use lib.Dec.{T}
 use lib.ListN.{length, getD}
 use Rattle.judge.specs.declared.rule.Upper.{Upper}
 use Rattle.judge.specs.declared.rule.Upper.the-variants.{Number, Unbounded}
-use Rattle.judge.specs.declared.rule.Rule.{Rule}
 use Rattle.judge.specs.Bytes.{Text, isDigit, isInner, isName, value}
-use Rattle.judge.specs.Bytes.Laws.{digit-inner, all-map}
+use Rattle.judge.specs.Bytes.Runs.{digit-inner, all-map}
 use Rattle.judge.specs.Bytes.Numeral.{digits, value-digits, all-digits, digits-length, digits-numeral}
 use Rattle.judge.specs.Tree.{Node, leaf, group, Tree, marked, Members, none, _▹_, size, nodeLeaves, membersLeaves, nodeWeight, weight, membersWeight, depth, atoms, nodes}
 use Rattle.judge.specs.Tree.{NodeFormed, Formed, MembersFormed, mapNode, mapMembers}
 use Rattle.judge.specs.Tree.Leaves.{formed-each, each-formed}
 use Rattle.judge.specs.Tree.Map.{weight-map, depth-map, formed-map}
-use Rattle.judge.specs.Syntax.{Count, between, onward, Spelling, Syntax, text, CountFormed, SpellingFormed}
+use Rattle.judge.specs.Syntax.{Count, between, onward, Spelling, Syntax, names, text, CountFormed, SpellingFormed}
 use Rattle.judge.specs.Limits.{maxName, maxDepth, maxAtoms, maxNodes}
 use Rattle.judge.specs.Model.{Counts, Model, countsOf, modelOf}
 use Rattle.judge.specs.Model.Types.{UpperFits, CountsFit}
-use Rattle.judge.specs.Rule.{ruleOf, ReadsInto}
-use Rattle.judge.specs.Rule.Test.{WellFormed}
-use Rattle.judge.specs.Accept.{names, Within}
+use Rattle.judge.specs.Rule.{ruleOf, Readable}
+use Rattle.judge.specs.Accept.{Within}
 use Rattle.judge.specs.Accept.Fit.{fits-is}
-use Rattle.judge.specs.Accept.Laws.{within-accepted, accepted-within, accepted-counts}
+use Rattle.judge.specs.Accept.Laws.{within-accepted}
 
 abbrev counts : Spelling → Counts
 counts a = countsOf (a .count)
@@ -162,22 +159,5 @@ module _ (m : Model) (right : Formed CountsFit m) (shallow : depth m ≤ maxDept
   pub spelled-model : (t : Syntax) × (modelOf t ≡ m) × Formed SpellingFormed t × Within t
   spelled-model = (spelled, back, formed, within)
 
-  pub readable : (x : Text) × ReadsInto x (ruleOf m)
+  pub readable : Readable (ruleOf m)
   readable = (text spelled, record { tree = spelled; answered = within-accepted spelled formed within; rule-is = ap ruleOf (sym back) })
-
--- 40: the rules that some text reads into
-pub readable-is : (r : Rule) → ((x : Text) × ReadsInto x r) ↔ WellFormed r
-readable-is r = (λ (x, h). read-formed x h, λ w. rw (w .rule-is) (readable (w .model) (w .formed) (w .shallow) (w .few-atoms) (w .few-nodes)))
-  where
-    read-formed : (x : Text) → ReadsInto x r → WellFormed r
-    read-formed x h =
-        let t = h .tree in
-        let w = accepted-within x t (h .answered) in
-        record {
-          model = modelOf t;
-          rule-is = h .rule-is;
-          formed = accepted-counts x t (h .answered);
-          few-atoms = rw (weight-map counts 1 0 t) (w .few-atoms);
-          few-nodes = rw (weight-map counts 1 1 t) (w .few-nodes);
-          shallow = rw (depth-map counts t) (w .shallow);
-        }

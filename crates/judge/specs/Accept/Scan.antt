@@ -12,7 +12,8 @@ use Rattle.judge.specs.declared.rule.Sign.the-variants.{None, Sequence, 
 use Rattle.judge.specs.declared.rule.Mark.{Mark}
 use Rattle.judge.specs.declared.rule.Mark.the-variants.{Plain, Optional}
 use Rattle.judge.specs.Bytes.{Text, bytes, isLetter, isDigit, isInner, all, isName, isNumeral}
-use Rattle.judge.specs.Bytes.Laws.{apart, letter-inner, or-left, or-right, all-map, all-append, numeral-digits, stops}
+use Rattle.judge.specs.Bytes.Laws.{apart, letter-inner}
+use Rattle.judge.specs.Bytes.Runs.{or-left, or-right, all-map, all-append, numeral-digits, stops}
 use Rattle.judge.specs.Tree.{Node, leaf, group, Tree, marked, Members, none, _▹_, size, SignFits, NodeFormed, Formed, MembersFormed}
 use Rattle.judge.specs.Syntax.{Count, unwritten, between, onward, Spelling, Syntax, countText, signText, markText, nodeText, text, membersText, moreText}
 use Rattle.judge.specs.Syntax.{CountFormed, SpellingFormed}

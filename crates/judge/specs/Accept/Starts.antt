@@ -9,13 +9,13 @@ use lib.Dec.{T, eqb}
 use lib.ListN.{length, getD}
 use mir.Facts.{and-yes}
 use Rattle.judge.specs.Bytes.{Text, isLetter, isInner, all, isName, front}
-use Rattle.judge.specs.Bytes.Laws.{T-true, letter-inner, stops, front-stops}
+use Rattle.judge.specs.Bytes.Laws.{T-true, letter-inner}
+use Rattle.judge.specs.Bytes.Runs.{stops, front-stops}
 use Rattle.judge.specs.Tree.{Node, leaf, group, marked, Members, none, _▹_, nodeLeaves, membersLeaves, nodes, nodeWeight, membersWeight}
 use Rattle.judge.specs.Tree.{Formed}
-use Rattle.judge.specs.Syntax.{Spelling, Syntax, text, SpellingFormed}
+use Rattle.judge.specs.Syntax.{Spelling, Syntax, names, text, SpellingFormed}
 use Rattle.judge.specs.Fault.{fresh, nameAt, nodeAt, nameFrom, tally}
 use Rattle.judge.specs.Fault.Answered.{byte-inside, name-inside}
-use Rattle.judge.specs.Accept.{names}
 use Rattle.judge.specs.Accept.Scan.{Reading, uncounted, nodeOn, treeOn, membersOn, scan-text}
 use Rattle.judge.specs.Accept.Places.{at, listOn, listed, start-at, start-place}
 
