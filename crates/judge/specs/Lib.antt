@@ -19,5 +19,6 @@ pub mod Model
 pub mod Rule
 pub mod Judge
 pub mod Starred
+pub mod Examples
 pub mod Tests
 pub mod Stack
