@@ -4,7 +4,7 @@ use mathlib.Core.List.{List, [], _∷_, _++_, map, map-append, append-assoc, app
 use Prim.Native.Nat.{ℕ, zero, suc, _+_, _-_, _≤_, _<_, min}
 use native.Mathlib.Numerals.{add-one}
 use native.Mathlib.Omega.{arith}
-use lib.ListN.{length, drop, getD, length-take, drop-of-length-le, List·getD-eq-default, List·getD-map}
+use lib.ListN.{length, take, drop, getD, length-take, drop-of-length-le, List·getD-eq-default, List·getD-map}
 use lib.Seq.{drop-cons, getD-take}
 use Rattle.judge.specs.declared.rule.Mark.{Mark}
 use Rattle.judge.specs.declared.rule.Kind.{Kind}
@@ -83,34 +83,43 @@ module _ (r : Rule) (i left : ℕ) where
       none-there zero = refl
       none-there (suc k) = refl
 
-  module _ (d : RuleNode) (ones : ℕ) (h : i < min (r .len) (length (r .nodes))) (p : 0 < left) (o : ones ≡ after (getD (r .nodes) i d .kind) 0) where
+  module _ (d : RuleNode) (ones : ℕ) (h : i < min (r .len) (length (r .nodes))) (p : 0 < left)
+      (o : ones ≡ after (getD (r .nodes) i d .kind) 0) where
     first-node : drop i (used r) ≡ getD (r .nodes) i d ∷ drop (suc i) (used r)
     first-node = drop-cons (used r) i d (omega (arith, length-used r)) ∙ rw (getD-take (r .len) (r .nodes) i d (omega arith))
 
     pub search-found : left ≡ ones → i + 1 ≡ nodeBehind
-    search-found e = rw first-node (sym (next-found (getD (r .nodes) i d .kind) (i + 1) left (atomNodes (drop (suc i) (used r)) (suc (i + 1))) (e ∙ o) p))
+    search-found e =
+        let rest = atomNodes (drop (suc i) (used r)) (suc (i + 1)) in
+        rw first-node (sym (next-found (getD (r .nodes) i d .kind) (i + 1) left rest (e ∙ o) p))
 
     pub search-passed : ¬ (left ≡ ones) → nodeBehind ≡ nth 0 (atomNodes (drop (i + 1) (used r)) (i + 1 + 1)) (left - ones)
     search-passed e =
+        let rest = atomNodes (drop (suc i) (used r)) (suc (suc i)) in
         rw (first-node, o, add-one (i + 1), add-one i)
-        (next-passed (getD (r .nodes) i d .kind) (suc i) left (atomNodes (drop (suc i) (used r)) (suc (suc i))) (λ f. e (f ∙ sym o)) p)
+        (next-passed (getD (r .nodes) i d .kind) (suc i) left rest (λ f. e (f ∙ sym o)) p)
 
 -- the kinds of the atoms
 abbrev atomKinds : List RuleNode → List Kind
 atomKinds [] = []
 atomKinds (x ∷ l) = withAtom (x .kind) (x .kind) (atomKinds l)
 
--- one of them stands j nodes behind the first node
+-- behind j nodes, a of which are atoms, stands the next
 AtomAt : List RuleNode → ℕ → ℕ → List ℕ → List Kind → Kind → Type 0
-AtomAt l k a places kinds d = (j : ℕ) × (getD places a 0 ≡ k + j) × (getD l j unused .kind ≡ getD kinds a d)
+AtomAt l k a places kinds d =
+    (j : ℕ) × (getD places a 0 ≡ k + j) × (getD l j unused .kind ≡ getD kinds a d) × (atomsIn (take j l) ≡ a)
 
 atom-next : (x : RuleNode) (l : List RuleNode) (k : ℕ) (d κ : Kind) (a : ℕ) → x .kind ≡ κ → a < isAtom κ + atomsIn l
     → ((b : ℕ) → b < atomsIn l → AtomAt l (suc k) b (atomNodes l (suc k)) (atomKinds l) d)
     → AtomAt (x ∷ l) k a (withAtom κ k (atomNodes l (suc k))) (withAtom κ κ (atomKinds l)) d
 unfolding AtomAt
-atom-next x l k d (Atom lo hi) zero e h f = (0, omega arith, e)
-atom-next x l k d (Atom lo hi) (suc a) e h f = let (j, p, q) = f a (omega arith) in (suc j, p ∙ omega arith, q)
-atom-next x l k d (Group s n) a e h f = let (j, p, q) = f a (omega arith) in (suc j, p ∙ omega arith, q)
+atom-next x l k d (Atom lo hi) zero e h f = (0, omega arith, e, refl)
+atom-next x l k d (Atom lo hi) (suc a) e h f =
+    let (j, p, q, r) = f a (omega arith) in
+    (suc j, p ∙ omega arith, q, rw e (omega arith))
+atom-next x l k d (Group s n) a e h f =
+    let (j, p, q, r) = f a (omega arith) in
+    (suc j, p ∙ omega arith, q, rw e (omega arith))
 
 atom-at : (l : List RuleNode) (k : ℕ) (d : Kind) (a : ℕ) → a < atomsIn l → AtomAt l k a (atomNodes l k) (atomKinds l) d
 atom-at [] k d a h = absurd (omega arith)
@@ -130,20 +139,33 @@ mutual
 
   kinds-members : (ts : Members Counts) (l : List RuleNode) → atomKinds (encodeAll ts ++ l) ≡ map kindOf (membersLeaves ts) ++ atomKinds l
   kinds-members none l = refl
-  kinds-members (t ▹ ts) l = rw (append-assoc, kinds-tree t (encodeAll ts ++ l), kinds-members ts l, map-append) (sym (append-assoc (map kindOf (leaves t)) (map kindOf (membersLeaves ts)) (atomKinds l)))
+  kinds-members (t ▹ ts) l =
+      rw (append-assoc, kinds-tree t (encodeAll ts ++ l), kinds-members ts l, map-append)
+      (sym (append-assoc (map kindOf (leaves t)) (map kindOf (membersLeaves ts)) (atomKinds l)))
 
--- of a model's rule: nodes are those of the model, and the node of a name is that of the atom which has this number in the order written
+-- as many names stand before the node of a name as its number says
+pub name-place : (r : Rule) (a : ℕ) → a < names r → atomsIn (take (nodeOfName r (suc a) - 1) (used r)) ≡ a
+unfolding AtomAt
+name-place r a h =
+    let (j, p, q, s) = atom-at (used r) 1 (unused .kind) a h in
+    let e : 1 + j - 1 ≡ j = omega arith in
+    rw (p, e) s
+
+-- of a model's rule: the nodes are those of the model, and the node of a name is the atom that has this number in the order written
 pub node-model : (t : Model) (k : ℕ) → nodeOf (ruleOf t) (suc k) ≡ getD (encode t) k unused
 node-model t k = rw (used-is t)
+
+kinds-model : (t : Model) → atomKinds (used (ruleOf t)) ≡ map kindOf (leaves t)
+kinds-model t =
+    ap atomKinds (used-is t ∙ sym (append-nil (encode t))) ∙ kinds-tree t [] ∙ append-nil (map kindOf (leaves t))
 
 pub name-model : (t : Model) (a : ℕ) (c : Counts) → a < atoms t
     → nodeOf (ruleOf t) (nodeOfName (ruleOf t) (suc a)) .kind ≡ kindOf (getD (leaves t) a c)
 unfolding AtomAt
 name-model t a c h =
-    let (j, p, q) = atom-at (used (ruleOf t)) 1 (kindOf c) a (rw (names-model t) h) in
+    let (j, p, q, s) = atom-at (used (ruleOf t)) 1 (kindOf c) a (rw (names-model t) h) in
     let e : 1 + j ≡ suc j = omega arith in
-    let f : atomKinds (used (ruleOf t)) ≡ map kindOf (leaves t) = ap atomKinds (used-is t ∙ sym (append-nil (encode t))) ∙ kinds-tree t [] ∙ append-nil (map kindOf (leaves t)) in
-    rw (p, e) (q ∙ rw f (List·getD-map kindOf (leaves t) a c))
+    rw (p, e) (q ∙ rw (kinds-model t) (List·getD-map kindOf (leaves t) a c))
 
 -- no other number is that of a name
 length-atoms : (l : List RuleNode) (k : ℕ) → length (atomNodes l k) ≡ atomsIn l
