@@ -1,3 +1,4 @@
+-- behind i nodes, the node is found among the rest, with the names passed taken off
 use borrow.Author.Needs.{needs}
 use native.Mathlib.Omega.{arith}
 use mathlib.Core.Path.{_≡_, refl, sym, _∙_}
