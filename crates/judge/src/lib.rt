@@ -2,4 +2,5 @@
 
 pub mod fault;
 pub mod rule;
+pub mod text;
 pub mod verdict;

@@ -1,0 +1,558 @@
+// Reads a model text: the group reader and the member reader call each other, and what they read goes into two lent arrays of numbers.
+
+use crate::fault::ModelFault;
+use crate::rule::Kind;
+use crate::rule::MAX_NODES;
+use crate::rule::Mark;
+use crate::rule::Node;
+use crate::rule::Rule;
+use crate::rule::Sign;
+use crate::rule::Upper;
+
+pub const MAX_TEXT: usize = 4096;
+
+pub const MAX_NAME: usize = 32;
+
+pub const MAX_COUNT: u32 = 60000;
+
+pub const MAX_DEPTH: usize = 16;
+
+pub const MAX_ATOMS: usize = 64;
+
+// Where a name stands in the text.
+pub struct NamePlace {
+    pub start: u16,
+    pub len: u16,
+}
+
+// The names of a model, in the order written. Places from len on hold zeros.
+pub struct Names {
+    pub places: [NamePlace; MAX_ATOMS],
+    pub len: usize,
+}
+
+pub enum Outcome {
+    Read,
+    Refused(ModelFault, usize),
+}
+
+// A refused reading has the rule of `()` and no names.
+pub struct Reading {
+    pub outcome: Outcome,
+    pub rule: Rule,
+    pub names: Names,
+}
+
+// Where the reader stands, and how many nodes and names it has begun.
+struct Cursor {
+    at: usize,
+    nodes: usize,
+    names: usize,
+}
+
+enum Got {
+    Past(Cursor),
+    Fault(ModelFault, usize),
+}
+
+// A number, at most one above the largest count, and where its digits end.
+enum Numeral {
+    Value(u32, usize),
+    Bad(usize),
+}
+
+// A count and where it ends; Wrong has the place of its `]`.
+enum Counted {
+    Counts(u16, Upper, usize),
+    Bad(usize),
+    Wrong(usize),
+}
+
+fn is_letter(b: u8) -> bool {
+    (b'a' <= b) & (b <= b'z')
+}
+
+fn is_digit(b: u8) -> bool {
+    (b'0' <= b) & (b <= b'9')
+}
+
+fn is_inner(b: u8) -> bool {
+    is_letter(b) | is_digit(b) | (b == b'-')
+}
+
+// Is the byte at `at` there, and is it b?
+fn stands(text: &[u8], at: usize, b: u8) -> bool {
+    if at < text.len() {
+        text[at] == b
+    } else {
+        false
+    }
+}
+
+// Where the letters, digits and hyphens from `at` on end.
+fn name_end(text: &[u8], at: usize) -> usize {
+    let mut i = at;
+    while i < text.len() {
+        if is_inner(text[i]) {
+            i += 1;
+        } else {
+            return i;
+        }
+    }
+    i
+}
+
+// The value with one digit more, at most one above the largest count.
+fn with_digit(value: u32, digit: u8) -> u32 {
+    let next = 10 * value + ((digit - b'0') as u32);
+    if MAX_COUNT < next {
+        MAX_COUNT + 1
+    } else {
+        next
+    }
+}
+
+// Reads a numeral: digits, the first of several not 0.
+fn numeral(text: &[u8], at: usize) -> Numeral {
+    if at < text.len() {} else {
+        return Numeral::Bad(at);
+    }
+    let b = text[at];
+    if is_digit(b) {} else {
+        return Numeral::Bad(at);
+    }
+    if b == b'0' {
+        return Numeral::Value(0, at + 1);
+    }
+    let mut value = with_digit(0, b);
+    let mut i = at + 1;
+    while i < text.len() {
+        let d = text[i];
+        if is_digit(d) {
+            value = with_digit(value, d);
+            i += 1;
+        } else {
+            return Numeral::Value(value, i);
+        }
+    }
+    Numeral::Value(value, i)
+}
+
+// The count that begins with the `[` at `at`.
+fn count(text: &[u8], at: usize) -> Counted {
+    match numeral(text, at + 1) {
+        Numeral::Value(min, p) => {
+            if stands(text, p, b'.') {} else {
+                return Counted::Bad(p);
+            }
+            if stands(text, p + 1, b'.') {} else {
+                return Counted::Bad(p + 1);
+            }
+            if stands(text, p + 2, b'*') {
+                return unbounded(text, p + 3, min);
+            }
+            bounded(text, p + 2, min)
+        }
+        Numeral::Bad(p) => Counted::Bad(p),
+    }
+}
+
+// Behind `[m..*`.
+fn unbounded(text: &[u8], at: usize, min: u32) -> Counted {
+    if stands(text, at, b']') {
+        if MAX_COUNT < min {
+            return Counted::Wrong(at);
+        }
+        return Counted::Counts(min as u16, Upper::Unbounded, at + 1);
+    }
+    Counted::Bad(at)
+}
+
+// Behind `[m..`.
+fn bounded(text: &[u8], at: usize, min: u32) -> Counted {
+    match numeral(text, at) {
+        Numeral::Value(max, p) => {
+            if stands(text, p, b']') {} else {
+                return Counted::Bad(p);
+            }
+            if (max == 0) | (max < min) | (MAX_COUNT < max) {
+                return Counted::Wrong(p);
+            }
+            Counted::Counts(min as u16, Upper::Number(max as u16), p + 1)
+        }
+        Numeral::Bad(p) => Counted::Bad(p),
+    }
+}
+
+// ---- what is kept of the nodes: four numbers each, and of the names: two
+
+fn sign_number(sign: Sign) -> u16 {
+    match sign {
+        Sign::None => 2,
+        Sign::Sequence => 3,
+        Sign::Choice => 4,
+        Sign::Interleaving => 5,
+    }
+}
+
+fn mark_number(mark: Mark) -> u16 {
+    match mark {
+        Mark::Plain => 0,
+        Mark::Optional => 1,
+    }
+}
+
+fn put_words(work: &mut [u16], i: usize, shape: u16, low: u16, high: u16) {
+    work[4 * i] = shape;
+    work[4 * i + 1] = low;
+    work[4 * i + 2] = high;
+    work[4 * i + 3] = 0;
+}
+
+fn put_atom(work: &mut [u16], i: usize, min: u16, max: Upper) {
+    match max {
+        Upper::Number(n) => put_words(work, i, 0, min, n),
+        Upper::Unbounded => put_words(work, i, 1, min, 0),
+    }
+}
+
+fn put_group(work: &mut [u16], i: usize, sign: Sign, members: u16) {
+    put_words(work, i, sign_number(sign), members, 0)
+}
+
+fn put_mark(work: &mut [u16], i: usize, mark: Mark) {
+    work[4 * i + 3] = mark_number(mark);
+}
+
+fn upper_of(shape: u16, high: u16) -> Upper {
+    if shape == 0 {
+        Upper::Number(high)
+    } else {
+        Upper::Unbounded
+    }
+}
+
+fn sign_of(shape: u16) -> Sign {
+    match shape {
+        3 => Sign::Sequence,
+        4 => Sign::Choice,
+        5 => Sign::Interleaving,
+        _ => Sign::None,
+    }
+}
+
+fn kind_of(shape: u16, low: u16, high: u16) -> Kind {
+    if shape < 2 {
+        Kind::Atom {
+            min: low,
+            max: upper_of(shape, high),
+        }
+    } else {
+        Kind::Group {
+            sign: sign_of(shape),
+            members: low,
+        }
+    }
+}
+
+fn mark_of(word: u16) -> Mark {
+    if word == 0 {
+        Mark::Plain
+    } else {
+        Mark::Optional
+    }
+}
+
+fn node_at(work: &[u16], i: usize) -> Node {
+    Node {
+        kind: kind_of(work[4 * i], work[4 * i + 1], work[4 * i + 2]),
+        mark: mark_of(work[4 * i + 3]),
+    }
+}
+
+// A name's length and first byte in one number: names that differ in it differ.
+fn key(text: &[u8], start: usize, end: usize) -> u16 {
+    ((end - start) * 256 + (text[start] as usize)) as u16
+}
+
+fn same_name(text: &[u8], a: usize, b: usize, len: usize) -> bool {
+    let mut i: usize = 0;
+    while i < len {
+        if text[a + i] != text[b + i] {
+            return false;
+        }
+        i += 1;
+    }
+    true
+}
+
+// Is the name from start to end among the first n names?
+fn repeated(text: &[u8], names: &[u16], n: usize, start: usize, end: usize) -> bool {
+    let k = key(text, start, end);
+    let mut i: usize = 0;
+    while i < n {
+        if names[2 * i + 1] == k {
+            let other = names[2 * i] as usize;
+            if same_name(text, other, start, end - start) {
+                return true;
+            }
+        }
+        i += 1;
+    }
+    false
+}
+
+// ---- the readers
+
+fn no_rule() -> Rule {
+    let node = Node {
+        kind: Kind::Group {
+            sign: Sign::None,
+            members: 0,
+        },
+        mark: Mark::Plain,
+    };
+    Rule {
+        nodes: [node; MAX_NODES],
+        len: 1,
+    }
+}
+
+// The mark behind node i at c.at, if there is one.
+fn mark(text: &[u8], work: &mut [u16], c: Cursor, i: usize) -> Cursor {
+    let at = c.at;
+    if stands(text, at, b'?') {
+        put_mark(work, i, Mark::Optional);
+        return Cursor {
+            at: at + 1,
+            nodes: c.nodes,
+            names: c.names,
+        };
+    }
+    c
+}
+
+// The atom whose name stands from c.at to end, with its count and its mark.
+fn counted(text: &[u8], work: &mut [u16], c: Cursor, end: usize) -> Got {
+    let node = c.nodes;
+    let mut past = Cursor {
+        at: end,
+        nodes: c.nodes + 1,
+        names: c.names + 1,
+    };
+    if stands(text, end, b'[') {
+        match count(text, end) {
+            Counted::Counts(min, max, p) => {
+                put_atom(work, node, min, max);
+                past.at = p;
+            }
+            Counted::Bad(p) => {
+                return Got::Fault(ModelFault::Spelling, p);
+            }
+            Counted::Wrong(p) => {
+                return Got::Fault(ModelFault::WrongCount, p);
+            }
+        }
+    } else {
+        put_atom(work, node, 1, Upper::Number(1));
+    }
+    Got::Past(mark(text, work, past, node))
+}
+
+// The atom whose name begins at c.at.
+fn atom(text: &[u8], work: &mut [u16], names: &mut [u16], c: Cursor) -> Got {
+    let at = c.at;
+    let end = name_end(text, at + 1);
+    if MAX_NAME < end - at {
+        return Got::Fault(ModelFault::LongName, at);
+    }
+    let n = c.names;
+    if n == MAX_ATOMS {
+        return Got::Fault(ModelFault::ManyAtoms, at);
+    }
+    if c.nodes == MAX_NODES {
+        return Got::Fault(ModelFault::ManyNodes, at);
+    }
+    if repeated(text, names, n, at, end) {
+        return Got::Fault(ModelFault::Repeated, at);
+    }
+    names[2 * n] = at as u16;
+    names[2 * n + 1] = key(text, at, end);
+    counted(text, work, c, end)
+}
+
+// The member that begins at c.at, where `left` brackets may still be opened.
+fn member(text: &[u8], work: &mut [u16], names: &mut [u16], c: Cursor, left: usize) -> Got {
+    let at = c.at;
+    if at < text.len() {} else {
+        return Got::Fault(ModelFault::Spelling, at);
+    }
+    let b = text[at];
+    if is_letter(b) {
+        return atom(text, work, names, c);
+    }
+    if b != b'(' {
+        return Got::Fault(ModelFault::Spelling, at);
+    }
+    if left == 0 {
+        return Got::Fault(ModelFault::TooDeep, at);
+    }
+    let node = c.nodes;
+    if node == MAX_NODES {
+        return Got::Fault(ModelFault::ManyNodes, at);
+    }
+    put_group(work, node, Sign::None, 0);
+    let inside = Cursor {
+        at: at + 1,
+        nodes: node + 1,
+        names: c.names,
+    };
+    match group(text, work, names, inside, left - 1, node, 0) {
+        Got::Past(past) => Got::Past(mark(text, work, past, node)),
+        Got::Fault(f, p) => Got::Fault(f, p),
+    }
+}
+
+// May b part two members, where the byte that parted members so far is `sign` (0: none yet)?
+fn parts(sign: u8, b: u8) -> bool {
+    if sign == 0 {
+        (b == b',') | (b == b'|') | (b == b'&')
+    } else {
+        b == sign
+    }
+}
+
+fn sign_by(sign: u8) -> Sign {
+    match sign {
+        44 => Sign::Sequence,
+        124 => Sign::Choice,
+        38 => Sign::Interleaving,
+        _ => Sign::None,
+    }
+}
+
+fn members_so_far(work: &[u16], node: usize) -> u16 {
+    work[4 * node + 1]
+}
+
+// Reads on in the group of node `node`, to behind its `)`. `sign` is the byte that parts its members, 0 where none did yet.
+fn group(
+    text: &[u8],
+    work: &mut [u16],
+    names: &mut [u16],
+    c: Cursor,
+    left: usize,
+    node: usize,
+    sign: u8,
+) -> Got {
+    let at = c.at;
+    if sign == 0 {
+        if stands(text, at, b')') {
+            return Got::Past(Cursor {
+                at: at + 1,
+                nodes: c.nodes,
+                names: c.names,
+            });
+        }
+    }
+    match member(text, work, names, c, left) {
+        Got::Past(past) => {
+            let p = past.at;
+            if p < text.len() {} else {
+                return Got::Fault(ModelFault::Spelling, p);
+            }
+            let b = text[p];
+            let members = members_so_far(work, node) + 1;
+            let next = Cursor {
+                at: p + 1,
+                nodes: past.nodes,
+                names: past.names,
+            };
+            if b == b')' {
+                put_group(work, node, sign_by(sign), members);
+                return Got::Past(next);
+            }
+            if parts(sign, b) {
+                put_group(work, node, Sign::None, members);
+                return group(text, work, names, next, left, node, b);
+            }
+            Got::Fault(ModelFault::Spelling, p)
+        }
+        Got::Fault(f, p) => Got::Fault(f, p),
+    }
+}
+
+// ---- the whole text
+
+fn refused(f: ModelFault, p: usize) -> Reading {
+    Reading {
+        outcome: Outcome::Refused(f, p),
+        rule: no_rule(),
+        names: no_names(),
+    }
+}
+
+fn no_names() -> Names {
+    let none = NamePlace { start: 0, len: 0 };
+    Names {
+        places: [none; MAX_ATOMS],
+        len: 0,
+    }
+}
+
+fn rule_of(work: &[u16], len: usize) -> Rule {
+    let mut rule = no_rule();
+    let mut i: usize = 0;
+    while i < len {
+        rule.nodes[i] = node_at(work, i);
+        i += 1;
+    }
+    rule.len = len;
+    rule
+}
+
+fn names_of(words: &[u16], len: usize) -> Names {
+    let mut names = no_names();
+    let mut i: usize = 0;
+    while i < len {
+        names.places[i] = NamePlace {
+            start: words[2 * i],
+            len: words[2 * i + 1] / 256,
+        };
+        i += 1;
+    }
+    names.len = len;
+    names
+}
+
+pub fn read_model(text: &[u8]) -> Reading {
+    if (text.len() == 0) | (MAX_TEXT < text.len()) {
+        return refused(ModelFault::Size, 0);
+    }
+    let mut work = [0u16; 512];
+    let mut names = [0u16; 128];
+    let start = Cursor {
+        at: 0,
+        nodes: 0,
+        names: 0,
+    };
+    match member(text, &mut work, &mut names, start, MAX_DEPTH) {
+        Got::Past(past) => {
+            let end = past.at;
+            if end < text.len() {
+                return refused(ModelFault::Spelling, end);
+            }
+            Reading {
+                outcome: Outcome::Read,
+                rule: rule_of(&work, past.nodes),
+                names: names_of(&names, past.names),
+            }
+        }
+        Got::Fault(f, p) => refused(f, p),
+    }
+}
+
+// The number of a name of the model: from 1 in the order written, 0 where the model lacks it.
+pub fn number_of(text: &[u8], names: Names, name: &[u8]) -> u16 {
+    0
+}
