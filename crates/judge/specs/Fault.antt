@@ -84,19 +84,19 @@ Fault ManyNodes x p = T (nodeAt x p) × (maxNodes ≤ tally (nodeAt x) p)
 Fault Repeated x p = Twice x p
 
 -- document 01's numbers
-abbrev pub number : ModelFault → ℕ
-number Size = 10
-number Spelling = 11
-number LongName = 12
-number WrongCount = 13
-number TooDeep = 14
-number ManyAtoms = 15
-number ManyNodes = 16
-number Repeated = 17
+abbrev pub modelNumber : ModelFault → ℕ
+modelNumber Size = 10
+modelNumber Spelling = 11
+modelNumber LongName = 12
+modelNumber WrongCount = 13
+modelNumber TooDeep = 14
+modelNumber ManyAtoms = 15
+modelNumber ManyNodes = 16
+modelNumber Repeated = 17
 
 -- smaller place, then smaller number
 abbrev pub Before : ModelFault → ℕ → ModelFault → ℕ → Type 0
-Before f p g q = (p < q) ⊎ ((p ≡ q) × (number f ≤ number g))
+Before f p g q = (p < q) ⊎ ((p ≡ q) × (modelNumber f ≤ modelNumber g))
 
 pub data Answer : Type 0 where
   refused : ModelFault → ℕ → Answer

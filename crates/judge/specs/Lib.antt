@@ -3,6 +3,7 @@
 --   Bytes, Tree, Syntax, Limits    model text: bytes, trees, and which text spells which tree
 --   Fault                          what is wrong with a text, and the answer to it
 --   Model, Rule                    models, the nodes of a rule, and the type that it means
+--   Judge                          what a row is answered
 pub mod Word
 pub mod Types
 pub mod Verdict
@@ -13,3 +14,4 @@ pub mod Limits
 pub mod Fault
 pub mod Model
 pub mod Rule
+pub mod Judge

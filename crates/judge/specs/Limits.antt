@@ -18,3 +18,6 @@ maxAtoms = 64
 
 abbrev pub maxNodes : ℕ
 maxNodes = 128
+
+abbrev pub maxRow : ℕ
+maxRow = 4096

@@ -1,11 +1,12 @@
 -- Rules: which model text reads into which rule, and the type that a rule means.
 use mathlib.Core.Path.{_≡_}
-use mathlib.Core.List.{List, _++_}
-use Prim.Native.Nat.{ℕ, _-_}
-use lib.ListN.{length, replicate}
+use mathlib.Core.List.{List, [], _∷_, _++_}
+use Prim.Native.Nat.{ℕ, _+_, _-_}
+use lib.ListN.{length, replicate, take}
 use Rattle.judge.specs.declared.rule.Sign.the-variants.{None}
 use Rattle.judge.specs.declared.rule.Mark.the-variants.{Plain}
-use Rattle.judge.specs.declared.rule.Kind.the-variants.{Group}
+use Rattle.judge.specs.declared.rule.Kind.{Kind}
+use Rattle.judge.specs.declared.rule.Kind.the-variants.{Atom, Group}
 use Rattle.judge.specs.declared.rule.Node.{Node}
 use Rattle.judge.specs.declared.rule.Rule.{Rule}
 use Rattle.judge.specs.Bytes.{Text}
@@ -28,8 +29,23 @@ pub record ReadsInto (x : Text) (r : Rule) : Type 0 where
   pub answered : Answers x (accepted tree)
   pub rule-is : r ≡ ruleOf (modelOf tree)
 
+abbrev pub Readable : Rule → Type 0
+Readable r = (x : Text) × ReadsInto x r
+
 -- some model text reads into r, and A is the type that it means (`Rule.Laws.means-once`: there is no second one)
 pub record Means (r : Rule) (A : Ty) : Type 0 where
   pub text : Text
   pub reads : ReadsInto text r
   pub type-is : A ≡ typeOf (modelOf (reads .tree))
+
+-- how many names a rule has: one for each atom among its nodes
+abbrev pub isAtom : Kind → ℕ
+isAtom (Atom m n) = 1
+isAtom (Group s n) = 0
+
+abbrev pub atomsIn : List Node → ℕ
+atomsIn [] = 0
+atomsIn (x ∷ l) = isAtom (x .kind) + atomsIn l
+
+abbrev pub names : Rule → ℕ
+names r = atomsIn (take (r .len) (r .nodes))

@@ -1,4 +1,6 @@
-// What can be wrong with a model text: refusals 10 to 17 of document 01, in the order of their numbers (specs/Fault.antt, `number`).
+// Refusals of document 01's table, an enum for each of its parts, in the order of their numbers.
+
+// Checked in a model text: 10 to 17 (`modelNumber` in specs/Fault.antt).
 pub enum ModelFault {
     Size,
     Spelling,
@@ -8,4 +10,14 @@ pub enum ModelFault {
     ManyAtoms,
     ManyNodes,
     Repeated,
+}
+
+// Checked by the judge and by sessions: 40 to 45 (`judgeNumber` in specs/Judge.antt).
+pub enum JudgeFault {
+    NoModel,
+    LongRow,
+    BadTrail,
+    NoName,
+    NoRoom,
+    NoChildren,
 }
