@@ -184,9 +184,9 @@ fn bounded(text: &[u8], at: usize, min: u32) -> Counted {
     }
 }
 
-// ---- what is kept of the nodes: four numbers each, and of the names: two
+// ---- what is kept of nodes and names while reading: one number each
 
-fn sign_number(sign: Sign) -> u16 {
+fn sign_number(sign: Sign) -> u64 {
     match sign {
         Sign::None => 2,
         Sign::Sequence => 3,
@@ -195,36 +195,31 @@ fn sign_number(sign: Sign) -> u16 {
     }
 }
 
-fn mark_number(mark: Mark) -> u16 {
-    match mark {
-        Mark::Plain => 0,
-        Mark::Optional => 1,
-    }
+fn packed(shape: u64, low: u16, high: u16) -> u64 {
+    ((high as u64) * 65536 + (low as u64)) * 32 + shape
 }
 
-fn put_words(work: &mut [u16], i: usize, shape: u16, low: u16, high: u16) {
-    work[4 * i] = shape;
-    work[4 * i + 1] = low;
-    work[4 * i + 2] = high;
-    work[4 * i + 3] = 0;
-}
-
-fn put_atom(work: &mut [u16], i: usize, min: u16, max: Upper) {
+fn packed_atom(min: u16, max: Upper) -> u64 {
     match max {
-        Upper::Number(n) => put_words(work, i, 0, min, n),
-        Upper::Unbounded => put_words(work, i, 1, min, 0),
+        Upper::Number(n) => packed(0, min, n),
+        Upper::Unbounded => packed(1, min, 0),
     }
 }
 
-fn put_group(work: &mut [u16], i: usize, sign: Sign, members: u16) {
-    put_words(work, i, sign_number(sign), members, 0)
+fn packed_group(sign: Sign, members: u16) -> u64 {
+    packed(sign_number(sign), members, 0)
 }
 
-fn put_mark(work: &mut [u16], i: usize, mark: Mark) {
-    work[4 * i + 3] = mark_number(mark);
+// The number of a node whose mark is `?`, from the number of the same node without.
+fn packed_optional(word: u64) -> u64 {
+    word + 8
 }
 
-fn upper_of(shape: u16, high: u16) -> Upper {
+fn members_of(word: u64) -> u16 {
+    (word / 32 % 65536) as u16
+}
+
+fn upper_of(shape: u64, high: u16) -> Upper {
     if shape == 0 {
         Upper::Number(high)
     } else {
@@ -232,7 +227,7 @@ fn upper_of(shape: u16, high: u16) -> Upper {
     }
 }
 
-fn sign_of(shape: u16) -> Sign {
+fn sign_of(shape: u64) -> Sign {
     match shape {
         3 => Sign::Sequence,
         4 => Sign::Choice,
@@ -241,7 +236,7 @@ fn sign_of(shape: u16) -> Sign {
     }
 }
 
-fn kind_of(shape: u16, low: u16, high: u16) -> Kind {
+fn kind_of(shape: u64, low: u16, high: u16) -> Kind {
     if shape < 2 {
         Kind::Atom {
             min: low,
@@ -255,7 +250,7 @@ fn kind_of(shape: u16, low: u16, high: u16) -> Kind {
     }
 }
 
-fn mark_of(word: u16) -> Mark {
+fn mark_of(word: u64) -> Mark {
     if word == 0 {
         Mark::Plain
     } else {
@@ -263,16 +258,20 @@ fn mark_of(word: u16) -> Mark {
     }
 }
 
-fn node_at(work: &[u16], i: usize) -> Node {
+fn unpacked(word: u64) -> Node {
     Node {
-        kind: kind_of(work[4 * i], work[4 * i + 1], work[4 * i + 2]),
-        mark: mark_of(work[4 * i + 3]),
+        kind: kind_of(
+            word % 8,
+            (word / 32 % 65536) as u16,
+            (word / 2097152 % 65536) as u16,
+        ),
+        mark: mark_of(word / 8 % 4),
     }
 }
 
 // A name's length and first byte in one number: names that differ in it differ.
-fn key(text: &[u8], start: usize, end: usize) -> u16 {
-    ((end - start) * 256 + (text[start] as usize)) as u16
+fn key(text: &[u8], start: usize, end: usize) -> u32 {
+    ((end - start) * 256 + (text[start] as usize)) as u32
 }
 
 fn same_name(text: &[u8], a: usize, b: usize, len: usize) -> bool {
@@ -287,13 +286,13 @@ fn same_name(text: &[u8], a: usize, b: usize, len: usize) -> bool {
 }
 
 // Is the name from start to end among the first n names?
-fn repeated(text: &[u8], names: &[u16], n: usize, start: usize, end: usize) -> bool {
+fn repeated(text: &[u8], names: &[u32; MAX_ATOMS], n: usize, start: usize, end: usize) -> bool {
     let k = key(text, start, end);
     let mut i: usize = 0;
     while i < n {
-        if names[2 * i + 1] == k {
-            let other = names[2 * i] as usize;
-            if same_name(text, other, start, end - start) {
+        let word = names[i];
+        if word % 65536 == k {
+            if same_name(text, (word / 65536) as usize, start, end - start) {
                 return true;
             }
         }
@@ -319,10 +318,10 @@ fn no_rule() -> Rule {
 }
 
 // The mark behind node i at c.at, if there is one.
-fn mark(text: &[u8], work: &mut [u16], c: Cursor, i: usize) -> Cursor {
+fn mark(text: &[u8], work: &mut [u64; MAX_NODES], c: Cursor, i: usize) -> Cursor {
     let at = c.at;
     if stands(text, at, b'?') {
-        put_mark(work, i, Mark::Optional);
+        work[i] = packed_optional(work[i]);
         return Cursor {
             at: at + 1,
             nodes: c.nodes,
@@ -333,18 +332,19 @@ fn mark(text: &[u8], work: &mut [u16], c: Cursor, i: usize) -> Cursor {
 }
 
 // The atom whose name stands from c.at to end, with its count and its mark.
-fn counted(text: &[u8], work: &mut [u16], c: Cursor, end: usize) -> Got {
+fn counted(text: &[u8], work: &mut [u64; MAX_NODES], c: Cursor, end: usize) -> Got {
     let node = c.nodes;
-    let mut past = Cursor {
-        at: end,
-        nodes: c.nodes + 1,
-        names: c.names + 1,
-    };
+    let names = c.names + 1;
     if stands(text, end, b'[') {
         match count(text, end) {
             Counted::Counts(min, max, p) => {
-                put_atom(work, node, min, max);
-                past.at = p;
+                work[node] = packed_atom(min, max);
+                let past = Cursor {
+                    at: p,
+                    nodes: node + 1,
+                    names: names,
+                };
+                return Got::Past(mark(text, work, past, node));
             }
             Counted::Bad(p) => {
                 return Got::Fault(ModelFault::Spelling, p);
@@ -353,14 +353,18 @@ fn counted(text: &[u8], work: &mut [u16], c: Cursor, end: usize) -> Got {
                 return Got::Fault(ModelFault::WrongCount, p);
             }
         }
-    } else {
-        put_atom(work, node, 1, Upper::Number(1));
     }
+    work[node] = packed_atom(1, Upper::Number(1));
+    let past = Cursor {
+        at: end,
+        nodes: node + 1,
+        names: names,
+    };
     Got::Past(mark(text, work, past, node))
 }
 
 // The atom whose name begins at c.at.
-fn atom(text: &[u8], work: &mut [u16], names: &mut [u16], c: Cursor) -> Got {
+fn atom(text: &[u8], work: &mut [u64; MAX_NODES], names: &mut [u32; MAX_ATOMS], c: Cursor) -> Got {
     let at = c.at;
     let end = name_end(text, at + 1);
     if MAX_NAME < end - at {
@@ -376,15 +380,20 @@ fn atom(text: &[u8], work: &mut [u16], names: &mut [u16], c: Cursor) -> Got {
     if repeated(text, names, n, at, end) {
         return Got::Fault(ModelFault::Repeated, at);
     }
-    names[2 * n] = at as u16;
-    names[2 * n + 1] = key(text, at, end);
+    names[n] = (at as u32) * 65536 + key(text, at, end);
     counted(text, work, c, end)
 }
 
 // The member that begins at c.at, where `left` brackets may still be opened.
-fn member(text: &[u8], work: &mut [u16], names: &mut [u16], c: Cursor, left: usize) -> Got {
+fn member(
+    text: &[u8],
+    work: &mut [u64; MAX_NODES],
+    names: &mut [u32; MAX_ATOMS],
+    c: Cursor,
+    left: usize,
+) -> Got {
     let at = c.at;
-    if at < text.len() {} else {
+    if at == text.len() {
         return Got::Fault(ModelFault::Spelling, at);
     }
     let b = text[at];
@@ -401,7 +410,7 @@ fn member(text: &[u8], work: &mut [u16], names: &mut [u16], c: Cursor, left: usi
     if node == MAX_NODES {
         return Got::Fault(ModelFault::ManyNodes, at);
     }
-    put_group(work, node, Sign::None, 0);
+    work[node] = packed_group(Sign::None, 0);
     let inside = Cursor {
         at: at + 1,
         nodes: node + 1,
@@ -431,15 +440,11 @@ fn sign_by(sign: u8) -> Sign {
     }
 }
 
-fn members_so_far(work: &[u16], node: usize) -> u16 {
-    work[4 * node + 1]
-}
-
 // Reads on in the group of node `node`, to behind its `)`. `sign` is the byte that parts its members, 0 where none did yet.
 fn group(
     text: &[u8],
-    work: &mut [u16],
-    names: &mut [u16],
+    work: &mut [u64; MAX_NODES],
+    names: &mut [u32; MAX_ATOMS],
     c: Cursor,
     left: usize,
     node: usize,
@@ -458,22 +463,22 @@ fn group(
     match member(text, work, names, c, left) {
         Got::Past(past) => {
             let p = past.at;
-            if p < text.len() {} else {
+            if p == text.len() {
                 return Got::Fault(ModelFault::Spelling, p);
             }
             let b = text[p];
-            let members = members_so_far(work, node) + 1;
+            let members = members_of(work[node]) + 1;
             let next = Cursor {
                 at: p + 1,
                 nodes: past.nodes,
                 names: past.names,
             };
             if b == b')' {
-                put_group(work, node, sign_by(sign), members);
+                work[node] = packed_group(sign_by(sign), members);
                 return Got::Past(next);
             }
             if parts(sign, b) {
-                put_group(work, node, Sign::None, members);
+                work[node] = packed_group(Sign::None, members);
                 return group(text, work, names, next, left, node, b);
             }
             Got::Fault(ModelFault::Spelling, p)
@@ -500,24 +505,24 @@ fn no_names() -> Names {
     }
 }
 
-fn rule_of(work: &[u16], len: usize) -> Rule {
+fn rule_of(work: &[u64; MAX_NODES], len: usize) -> Rule {
     let mut rule = no_rule();
     let mut i: usize = 0;
     while i < len {
-        rule.nodes[i] = node_at(work, i);
+        rule.nodes[i] = unpacked(work[i]);
         i += 1;
     }
     rule.len = len;
     rule
 }
 
-fn names_of(words: &[u16], len: usize) -> Names {
+fn names_of(words: &[u32; MAX_ATOMS], len: usize) -> Names {
     let mut names = no_names();
     let mut i: usize = 0;
     while i < len {
         names.places[i] = NamePlace {
-            start: words[2 * i],
-            len: words[2 * i + 1] / 256,
+            start: (words[i] / 65536) as u16,
+            len: (words[i] / 256 % 256) as u16,
         };
         i += 1;
     }
@@ -529,8 +534,8 @@ pub fn read_model(text: &[u8]) -> Reading {
     if (text.len() == 0) | (MAX_TEXT < text.len()) {
         return refused(ModelFault::Size, 0);
     }
-    let mut work = [0u16; 512];
-    let mut names = [0u16; 128];
+    let mut work = [0u64; MAX_NODES];
+    let mut names = [0u32; MAX_ATOMS];
     let start = Cursor {
         at: 0,
         nodes: 0,
