@@ -15,3 +15,4 @@ pub mod Fault
 pub mod Model
 pub mod Rule
 pub mod Judge
+pub mod Reading

@@ -1,9 +1,26 @@
 // Reads a model text: the group reader and the member reader call each other, and what they read goes into two lent arrays of numbers.
 
+ghost use mathlib.Core.Path.{_≡_};
+ghost use mathlib.Core.Bool.{Bool, cond, _&&_};
+ghost use mathlib.Core.List.{[], _∷_, map};
+ghost use Prim.Native.Nat.{ℕ, _+_, _*_, _-_, _≤_, _<_, min};
+ghost use lib.Dec.{T, eqb};
+ghost use lib.ListN.{length, take, drop, getD, set};
+ghost use Rattle.judge.specs.Bytes.{isLetter, isDigit, isInner};
+ghost use Rattle.judge.specs.Fault.{is, nameFrom};
+ghost use Rattle.judge.specs.declared.rule.Kind.the-variants.{Atom, Group};
+ghost use Rattle.judge.specs.Reading.{places, ruleWith, namesWith, refusal, sameText, partsOf, numberIn};
+ghost use Rattle.judge.specs.Reading.Packed.{word, nodeOf, plain, optional, isSign, signBy, kindBy, markBy, placeOf};
+ghost use Rattle.judge.specs.Reading.Search.{among, Comparable};
+ghost use Rattle.judge.specs.Rule.{unused};
+ghost use Rattle.judge.specs.Reading.Walk.{Marking, joins};
+ghost use Rattle.judge.specs.Reading.Lexeme.{capped, numeralAt, countAt, onwardAt, betweenAt};
+
 use crate::fault::ModelFault;
 use crate::rule::Kind;
 use crate::rule::MAX_NODES;
 use crate::rule::Mark;
+use crate::rule::NameNumber;
 use crate::rule::Node;
 use crate::rule::Rule;
 use crate::rule::Sign;
@@ -68,20 +85,29 @@ enum Counted {
     Wrong(usize),
 }
 
-fn is_letter(b: u8) -> bool {
+fn is_letter(b: u8) -> bool
+    ensures { λ r. ⌜ r ≡ isLetter b ⌝ }
+{
     (b'a' <= b) & (b <= b'z')
 }
 
-fn is_digit(b: u8) -> bool {
+fn is_digit(b: u8) -> bool
+    ensures { λ r. ⌜ r ≡ isDigit b ⌝ }
+{
     (b'0' <= b) & (b <= b'9')
 }
 
-fn is_inner(b: u8) -> bool {
+fn is_inner(b: u8) -> bool
+    ensures { λ r. ⌜ r ≡ isInner b ⌝ }
+{
     is_letter(b) | is_digit(b) | (b == b'-')
 }
 
 // Is the byte at `at` there, and is it b?
-fn stands(text: &[u8], at: usize, b: u8) -> bool {
+fn stands(text: &[u8], at: usize, b: u8) -> bool
+    requires { ⌜ 0 < b ⌝ }
+    ensures { λ r. ⌜ r ≡ is (now (text .entry)) b at ⌝ }
+{
     if at < text.len() {
         text[at] == b
     } else {
@@ -90,7 +116,10 @@ fn stands(text: &[u8], at: usize, b: u8) -> bool {
 }
 
 // Where the letters, digits and hyphens from `at` on end.
-fn name_end(text: &[u8], at: usize) -> usize {
+fn name_end(text: &[u8], at: usize) -> usize
+    requires { do ⌜ at ≤ (← ⟦text.len()⟧) ⌝ }
+    ensures { λ r. ⌜ (r ≡ at + length (nameFrom (now (text .entry)) at)) × (r ≤ length (now (text .entry))) ⌝ }
+{
     let mut i = at;
     while i < text.len() {
         if is_inner(text[i]) {
@@ -103,7 +132,10 @@ fn name_end(text: &[u8], at: usize) -> usize {
 }
 
 // The value with one digit more, at most one above the largest count.
-fn with_digit(value: u32, digit: u8) -> u32 {
+fn with_digit(value: u32, digit: u8) -> u32
+    requires { ⌜ (value ≤ 60001) × (48 ≤ digit) ⌝ }
+    ensures { λ r. ⌜ r ≡ capped (10 * value + (digit - 48)) ⌝ }
+{
     let next = 10 * value + ((digit - b'0') as u32);
     if MAX_COUNT < next {
         MAX_COUNT + 1
@@ -113,7 +145,9 @@ fn with_digit(value: u32, digit: u8) -> u32 {
 }
 
 // Reads a numeral: digits, the first of several not 0.
-fn numeral(text: &[u8], at: usize) -> Numeral {
+fn read_numeral(text: &[u8], at: usize) -> Numeral
+    ensures { λ r. ⌜ r ≡ numeralAt (now (text .entry)) at ⌝ }
+{
     if at < text.len() {} else {
         return Numeral::Bad(at);
     }
@@ -139,8 +173,11 @@ fn numeral(text: &[u8], at: usize) -> Numeral {
 }
 
 // The count that begins with the `[` at `at`.
-fn count(text: &[u8], at: usize) -> Counted {
-    match numeral(text, at + 1) {
+fn count(text: &[u8], at: usize) -> Counted
+    requires { ⌜ at < length (now text) ⌝ }
+    ensures { λ r. ⌜ r ≡ countAt (now (text .entry)) at ⌝ }
+{
+    match read_numeral(text, at + 1) {
         Numeral::Value(min, p) => {
             if stands(text, p, b'.') {} else {
                 return Counted::Bad(p);
@@ -158,7 +195,10 @@ fn count(text: &[u8], at: usize) -> Counted {
 }
 
 // Behind `[m..*`.
-fn unbounded(text: &[u8], at: usize, min: u32) -> Counted {
+fn unbounded(text: &[u8], at: usize, min: u32) -> Counted
+    requires { ⌜ at ≤ length (now text) ⌝ }
+    ensures { λ r. ⌜ r ≡ onwardAt (now (text .entry)) at min ⌝ }
+{
     if stands(text, at, b']') {
         if MAX_COUNT < min {
             return Counted::Wrong(at);
@@ -169,8 +209,10 @@ fn unbounded(text: &[u8], at: usize, min: u32) -> Counted {
 }
 
 // Behind `[m..`.
-fn bounded(text: &[u8], at: usize, min: u32) -> Counted {
-    match numeral(text, at) {
+fn bounded(text: &[u8], at: usize, min: u32) -> Counted
+    ensures { λ r. ⌜ r ≡ betweenAt (now (text .entry)) (numeralAt (now (text .entry)) at) min ⌝ }
+{
+    match read_numeral(text, at) {
         Numeral::Value(max, p) => {
             if stands(text, p, b']') {} else {
                 return Counted::Bad(p);
@@ -186,98 +228,105 @@ fn bounded(text: &[u8], at: usize, min: u32) -> Counted {
 
 // ---- what is kept of nodes and names while reading: one number each
 
-fn sign_number(sign: Sign) -> u64 {
-    match sign {
-        Sign::None => 2,
-        Sign::Sequence => 3,
-        Sign::Choice => 4,
-        Sign::Interleaving => 5,
-    }
+// The number of a node that has no mark: its shape is a sign's byte or 0, or 1 or 2 for an atom.
+fn packed(shape: u8, low: u16, high: u16) -> u64
+    ensures { λ r. ⌜ r ≡ word shape low high ⌝ }
+{
+    ((high as u64) * 65536 + (low as u64)) * 256 + (shape as u64)
 }
 
-fn packed(shape: u64, low: u16, high: u16) -> u64 {
-    ((high as u64) * 65536 + (low as u64)) * 32 + shape
-}
-
-fn packed_atom(min: u16, max: Upper) -> u64 {
+fn packed_atom(min: u16, max: Upper) -> u64
+    ensures { λ r. ⌜ nodeOf r ≡ plain (Atom min max) ⌝ }
+{
     match max {
-        Upper::Number(n) => packed(0, min, n),
-        Upper::Unbounded => packed(1, min, 0),
+        Upper::Number(n) => packed(1, min, n),
+        Upper::Unbounded => packed(2, min, 0),
     }
 }
 
-fn packed_group(sign: Sign, members: u16) -> u64 {
-    packed(sign_number(sign), members, 0)
+// `sign` is the byte of a sign, or 0.
+fn packed_group(sign: u8, members: u16) -> u64
+    requires { ⌜ T (isSign sign) ⌝ }
+    ensures { λ r. ⌜ nodeOf r ≡ plain (Group (signBy sign) members) ⌝ }
+{
+    packed(sign, members, 0)
 }
 
-// The number of a node whose mark is `?`, from the number of the same node without.
-fn packed_optional(word: u64) -> u64 {
-    word + 8
+// The number of the same node with `?`.
+fn packed_optional(word: u64) -> u64
+    ensures { λ r. ⌜ nodeOf r ≡ optional (nodeOf word) ⌝ }
+{
+    word / 256 * 256 + 128 + word % 128
 }
 
-fn members_of(word: u64) -> u16 {
-    (word / 32 % 65536) as u16
-}
-
-fn upper_of(shape: u64, high: u16) -> Upper {
-    if shape == 0 {
-        Upper::Number(high)
-    } else {
-        Upper::Unbounded
+fn sign_by(byte: u64) -> Sign
+    ensures { λ r. ⌜ r ≡ signBy byte ⌝ }
+{
+    if byte == 44 {
+        return Sign::Sequence;
     }
-}
-
-fn sign_of(shape: u64) -> Sign {
-    match shape {
-        3 => Sign::Sequence,
-        4 => Sign::Choice,
-        5 => Sign::Interleaving,
-        _ => Sign::None,
+    if byte == 124 {
+        return Sign::Choice;
     }
+    if byte == 38 {
+        return Sign::Interleaving;
+    }
+    Sign::None
 }
 
-fn kind_of(shape: u64, low: u16, high: u16) -> Kind {
-    if shape < 2 {
-        Kind::Atom {
+fn kind_of(shape: u64, low: u16, high: u16) -> Kind
+    ensures { λ r. ⌜ r ≡ kindBy shape low high ⌝ }
+{
+    if shape == 1 {
+        return Kind::Atom {
             min: low,
-            max: upper_of(shape, high),
-        }
-    } else {
-        Kind::Group {
-            sign: sign_of(shape),
-            members: low,
-        }
+            max: Upper::Number(high),
+        };
+    }
+    if shape == 2 {
+        return Kind::Atom {
+            min: low,
+            max: Upper::Unbounded,
+        };
+    }
+    Kind::Group {
+        sign: sign_by(shape),
+        members: low,
     }
 }
 
-fn mark_of(word: u64) -> Mark {
-    if word == 0 {
+fn mark_of(bit: u64) -> Mark
+    ensures { λ r. ⌜ r ≡ markBy bit ⌝ }
+{
+    if bit == 0 {
         Mark::Plain
     } else {
         Mark::Optional
     }
 }
 
-fn unpacked(word: u64) -> Node {
+fn unpacked(word: u64) -> Node
+    ensures { λ r. ⌜ r ≡ nodeOf word ⌝ }
+{
     Node {
         kind: kind_of(
-            word % 8,
-            (word / 32 % 65536) as u16,
-            (word / 2097152 % 65536) as u16,
+            word % 128,
+            (word / 256 % 65536) as u16,
+            (word / 256 / 65536 % 65536) as u16,
         ),
-        mark: mark_of(word / 8 % 4),
+        mark: mark_of(word / 128 % 2),
     }
 }
 
-// A name's length and first byte in one number: names that differ in it differ.
-fn key(text: &[u8], start: usize, end: usize) -> u32 {
-    ((end - start) * 256 + (text[start] as usize)) as u32
-}
-
-fn same_name(text: &[u8], a: usize, b: usize, len: usize) -> bool {
+fn same_bytes(a: &[u8], b: &[u8]) -> bool
+    ensures { λ r. ⌜ r ≡ sameText (now (a .entry)) (now (b .entry)) ⌝ }
+{
+    if a.len() != b.len() {
+        return false;
+    }
     let mut i: usize = 0;
-    while i < len {
-        if text[a + i] != text[b + i] {
+    while i < a.len() {
+        if a[i] != b[i] {
             return false;
         }
         i += 1;
@@ -286,15 +335,18 @@ fn same_name(text: &[u8], a: usize, b: usize, len: usize) -> bool {
 }
 
 // Is the name from start to end among the first n names?
-fn repeated(text: &[u8], names: &[u32; MAX_ATOMS], n: usize, start: usize, end: usize) -> bool {
-    let k = key(text, start, end);
+fn repeated(text: &[u8], names: &[u32; MAX_ATOMS], n: usize, start: usize, end: usize) -> bool
+    requires { ⌜ Comparable (now text) (now names) n start end ⌝ }
+    ensures { λ r. ⌜ r ≡ among (now (text .entry)) (places (now (text .entry)) start) start ⌝ }
+{
+    let name = &text[start..end];
     let mut i: usize = 0;
     while i < n {
         let word = names[i];
-        if word % 65536 == k {
-            if same_name(text, (word / 65536) as usize, start, end - start) {
-                return true;
-            }
+        let from = (word / 256) as usize;
+        let len = (word % 256) as usize;
+        if same_bytes(&text[from..from + len], name) {
+            return true;
         }
         i += 1;
     }
@@ -303,22 +355,11 @@ fn repeated(text: &[u8], names: &[u32; MAX_ATOMS], n: usize, start: usize, end: 
 
 // ---- the readers
 
-fn no_rule() -> Rule {
-    let node = Node {
-        kind: Kind::Group {
-            sign: Sign::None,
-            members: 0,
-        },
-        mark: Mark::Plain,
-    };
-    Rule {
-        nodes: [node; MAX_NODES],
-        len: 1,
-    }
-}
-
 // The mark behind node i at c.at, if there is one.
-fn mark(text: &[u8], work: &mut [u64; MAX_NODES], c: Cursor, i: usize) -> Cursor {
+fn mark(text: &[u8], work: &mut [u64; MAX_NODES], c: Cursor, i: usize) -> Cursor
+    requires { ⌜ (i < 128) × (c .at ≤ length (now text)) ⌝ }
+    ensures { λ r. ⌜ Marking (now (text .entry)) (now (work .entry)) (now (work .exit)) c i r ⌝ }
+{
     let at = c.at;
     if stands(text, at, b'?') {
         work[i] = packed_optional(work[i]);
@@ -332,7 +373,8 @@ fn mark(text: &[u8], work: &mut [u64; MAX_NODES], c: Cursor, i: usize) -> Cursor
 }
 
 // The atom whose name stands from c.at to end, with its count and its mark.
-fn counted(text: &[u8], work: &mut [u64; MAX_NODES], c: Cursor, end: usize) -> Got {
+fn atom_rest(text: &[u8], work: &mut [u64; MAX_NODES], c: Cursor, end: usize) -> Got
+{
     let node = c.nodes;
     let names = c.names + 1;
     if stands(text, end, b'[') {
@@ -380,8 +422,8 @@ fn atom(text: &[u8], work: &mut [u64; MAX_NODES], names: &mut [u32; MAX_ATOMS], 
     if repeated(text, names, n, at, end) {
         return Got::Fault(ModelFault::Repeated, at);
     }
-    names[n] = (at as u32) * 65536 + key(text, at, end);
-    counted(text, work, c, end)
+    names[n] = (at as u32) * 256 + ((end - at) as u32);
+    atom_rest(text, work, c, end)
 }
 
 // The member that begins at c.at, where `left` brackets may still be opened.
@@ -410,20 +452,22 @@ fn member(
     if node == MAX_NODES {
         return Got::Fault(ModelFault::ManyNodes, at);
     }
-    work[node] = packed_group(Sign::None, 0);
+    work[node] = 0;
     let inside = Cursor {
         at: at + 1,
         nodes: node + 1,
         names: c.names,
     };
-    match group(text, work, names, inside, left - 1, node, 0) {
+    match group(text, work, names, inside, left - 1, node, 0, 0) {
         Got::Past(past) => Got::Past(mark(text, work, past, node)),
         Got::Fault(f, p) => Got::Fault(f, p),
     }
 }
 
 // May b part two members, where the byte that parted members so far is `sign` (0: none yet)?
-fn parts(sign: u8, b: u8) -> bool {
+fn parts(sign: u8, b: u8) -> bool
+    ensures { λ r. ⌜ r ≡ joins sign b ⌝ }
+{
     if sign == 0 {
         (b == b',') | (b == b'|') | (b == b'&')
     } else {
@@ -431,16 +475,7 @@ fn parts(sign: u8, b: u8) -> bool {
     }
 }
 
-fn sign_by(sign: u8) -> Sign {
-    match sign {
-        44 => Sign::Sequence,
-        124 => Sign::Choice,
-        38 => Sign::Interleaving,
-        _ => Sign::None,
-    }
-}
-
-// Reads on in the group of node `node`, to behind its `)`. `sign` is the byte that parts its members, 0 where none did yet.
+// Reads on in the group of node `node`, to behind its `)`. It has `members` members so far, and `sign` is the byte that parts them, 0 where none did yet.
 fn group(
     text: &[u8],
     work: &mut [u64; MAX_NODES],
@@ -449,6 +484,7 @@ fn group(
     left: usize,
     node: usize,
     sign: u8,
+    members: u16,
 ) -> Got {
     let at = c.at;
     if sign == 0 {
@@ -467,19 +503,17 @@ fn group(
                 return Got::Fault(ModelFault::Spelling, p);
             }
             let b = text[p];
-            let members = members_of(work[node]) + 1;
             let next = Cursor {
                 at: p + 1,
                 nodes: past.nodes,
                 names: past.names,
             };
             if b == b')' {
-                work[node] = packed_group(sign_by(sign), members);
+                work[node] = packed_group(sign, members + 1);
                 return Got::Past(next);
             }
             if parts(sign, b) {
-                work[node] = packed_group(Sign::None, members);
-                return group(text, work, names, next, left, node, b);
+                return group(text, work, names, next, left, node, b, members + 1);
             }
             Got::Fault(ModelFault::Spelling, p)
         }
@@ -489,15 +523,25 @@ fn group(
 
 // ---- the whole text
 
-fn refused(f: ModelFault, p: usize) -> Reading {
-    Reading {
-        outcome: Outcome::Refused(f, p),
-        rule: no_rule(),
-        names: no_names(),
+fn no_rule() -> Rule
+    ensures { λ r. ⌜ r ≡ ruleWith (unused ∷ []) ⌝ }
+{
+    let node = Node {
+        kind: Kind::Group {
+            sign: Sign::None,
+            members: 0,
+        },
+        mark: Mark::Plain,
+    };
+    Rule {
+        nodes: [node; MAX_NODES],
+        len: 1,
     }
 }
 
-fn no_names() -> Names {
+fn no_names() -> Names
+    ensures { λ r. ⌜ r ≡ namesWith [] ⌝ }
+{
     let none = NamePlace { start: 0, len: 0 };
     Names {
         places: [none; MAX_ATOMS],
@@ -505,7 +549,20 @@ fn no_names() -> Names {
     }
 }
 
-fn rule_of(work: &[u64; MAX_NODES], len: usize) -> Rule {
+fn refused(f: ModelFault, p: usize) -> Reading
+    ensures { λ r. ⌜ r ≡ refusal f p ⌝ }
+{
+    Reading {
+        outcome: Outcome::Refused(f, p),
+        rule: no_rule(),
+        names: no_names(),
+    }
+}
+
+fn rule_of(work: &[u64; MAX_NODES], len: usize) -> Rule
+    requires { ⌜ len ≤ 128 ⌝ }
+    ensures { λ r. ⌜ r ≡ ruleWith (map nodeOf (take len (now (work .entry)))) ⌝ }
+{
     let mut rule = no_rule();
     let mut i: usize = 0;
     while i < len {
@@ -516,13 +573,16 @@ fn rule_of(work: &[u64; MAX_NODES], len: usize) -> Rule {
     rule
 }
 
-fn names_of(words: &[u32; MAX_ATOMS], len: usize) -> Names {
+fn names_of(words: &[u32; MAX_ATOMS], len: usize) -> Names
+    requires { ⌜ len ≤ 64 ⌝ }
+    ensures { λ r. ⌜ r ≡ namesWith (map placeOf (take len (now (words .entry)))) ⌝ }
+{
     let mut names = no_names();
     let mut i: usize = 0;
     while i < len {
         names.places[i] = NamePlace {
-            start: (words[i] / 65536) as u16,
-            len: (words[i] / 256 % 256) as u16,
+            start: (words[i] / 256) as u16,
+            len: (words[i] % 256) as u16,
         };
         i += 1;
     }
@@ -557,7 +617,30 @@ pub fn read_model(text: &[u8]) -> Reading {
     }
 }
 
-// The number of a name of the model: from 1 in the order written, 0 where the model lacks it.
-pub fn number_of(text: &[u8], names: Names, name: &[u8]) -> u16 {
-    0
+fn lesser(a: usize, b: usize) -> usize
+    ensures { λ r. ⌜ r ≡ min a b ⌝ }
+{
+    if a < b {
+        a
+    } else {
+        b
+    }
+}
+
+// The number of a name: from 1, of the first place whose part of the text is that name; 0 where there is none.
+pub fn number_of(text: &[u8], names: Names, name: &[u8]) -> NameNumber
+    ensures { λ r. ⌜ r .0 ≡ numberIn (partsOf (now (text .entry)) names) (now (name .entry)) ⌝ }
+{
+    let n = lesser(names.len, MAX_ATOMS);
+    let mut i: usize = 0;
+    while i < n {
+        let place = names.places[i];
+        let start = lesser(place.start as usize, text.len());
+        let end = lesser(place.start as usize + place.len as usize, text.len());
+        if same_bytes(&text[start..end], name) {
+            return NameNumber((i + 1) as u16);
+        }
+        i += 1;
+    }
+    NameNumber(0)
 }

@@ -1,0 +1,76 @@
+-- One byte more of a name or a number, for loops that run over them.
+use mathlib.Core.Path.{_≡_, refl, sym, ap, _∙_}
+use mathlib.Core.Bool.{Bool, true, false}
+use mathlib.Core.List.{List, [], _∷_}
+use Prim.Native.Nat.{ℕ, suc, _+_, _*_, _-_, _≤_, _<_}
+use Prim.Native.Char.{code}
+use native.Mathlib.Omega.{arith}
+use native.Mathlib.Numerals.{add-one}
+use lib.Dec.{eqb}
+use lib.ListN.{length, drop, getD, drop-of-length-le}
+use lib.Seq.{drop-cons}
+use Rattle.judge.specs.declared.text.Numeral.the-variants.{Value, Bad as NoNumeral}
+use Rattle.judge.specs.Bytes.{Text, isDigit, value, valueFrom, front}
+use Rattle.judge.specs.Reading.Lexeme.{capped, digits, numeralAt}
+
+module _ (f : ℕ → Bool) (x : Text) (i : ℕ) where
+  pub front-step : i < length x → f (getD x i 0) ≡ true → front f (drop i x) ≡ getD x i 0 ∷ front f (drop (i + 1) x)
+  front-step h e = rw (drop-cons x i 0 h, e, add-one)
+
+  pub front-stop : i < length x → f (getD x i 0) ≡ false → front f (drop i x) ≡ []
+  front-stop h e = rw (drop-cons x i 0 h, e)
+
+  pub front-out : length x ≤ i → front f (drop i x) ≡ []
+  front-out h = rw (drop-of-length-le x {i = i} h)
+
+-- a digit more of a number that is known up to the cap
+capped-step : (a e : ℕ) → capped (10 * capped a + e) ≡ capped (10 * a + e)
+capped-step a e = omega arith
+
+pub capped-on : (a : ℕ) (ds : Text) → capped (valueFrom (capped a) ds) ≡ capped (valueFrom a ds)
+capped-on a [] = omega arith
+capped-on a (d ∷ ds) = sym (capped-on (10 * capped a + (d - code "0")) ds) ∙ rw (capped-step a (d - code "0")) (capped-on (10 * a + (d - code "0")) ds)
+
+-- the digits from i on say what number comes behind v, and where it ends
+pub record Rest (x : Text) (at v i : ℕ) : Type 0 where
+  pub inside : i ≤ length x
+  pub small : v ≤ 60001
+  pub number : capped (valueFrom v (front isDigit (drop i x))) ≡ capped (value (digits (drop at x)))
+  pub ends : i + length (front isDigit (drop i x)) ≡ at + length (digits (drop at x))
+
+module _ (x : Text) (at : ℕ) (h : at < length x) (d : isDigit (getD x at 0) ≡ true) where
+  -- a 0 is a number by itself
+  pub zero-alone : getD x at 0 ≡ code "0" → Value 0 (at + 1) ≡ numeralAt x at
+  unfolding numeralAt
+  zero-alone e = rw (drop-cons x at 0 h, e)
+
+  pub rest-first : (eqb (getD x at 0) (code "0") ≡ false) → (v : ℕ) → v ≡ capped (10 * 0 + (getD x at 0 - code "0")) → Rest x at v (at + 1)
+  rest-first n v e =
+      let g : digits (drop at x) ≡ getD x at 0 ∷ front isDigit (drop (at + 1) x) = rw (drop-cons x at 0 h, d, n, add-one) in
+      record {
+        inside = omega arith;
+        small = omega arith;
+        number = rw (e, g) (capped-on (10 * 0 + (getD x at 0 - code "0")) (front isDigit (drop (at + 1) x)));
+        ends = rw g (omega arith);
+      }
+
+  pub rest-over : (v i : ℕ) → Rest x at v i → front isDigit (drop i x) ≡ [] → Value v i ≡ numeralAt x at
+  unfolding numeralAt
+  rest-over v i r e =
+      let a : capped v ≡ capped (value (digits (drop at x))) = rw e at (r .number) in
+      let b : i + 0 ≡ at + length (digits (drop at x)) = rw e at (r .ends) in
+      let s : v ≤ 60001 = r .small in
+      let v′ : v ≡ capped (value (digits (drop at x))) = omega arith in
+      let i′ : i ≡ at + length (digits (drop at x)) = omega arith in
+      rw d (cc)
+
+pub rest-more : (x : Text) (at v i w : ℕ) → Rest x at v i → i < length x → isDigit (getD x i 0) ≡ true → w ≡ capped (10 * v + (getD x i 0 - code "0")) → Rest x at w (i + 1)
+rest-more x at v i w r h d e =
+    let n : capped (valueFrom v (getD x i 0 ∷ front isDigit (drop (i + 1) x))) ≡ capped (value (digits (drop at x))) = rw (front-step isDigit x i h d) at (r .number) in
+    let l : i + length (getD x i 0 ∷ front isDigit (drop (i + 1) x)) ≡ at + length (digits (drop at x)) = rw (front-step isDigit x i h d) at (r .ends) in
+    record {
+      inside = omega arith;
+      small = omega arith;
+      number = rw e (capped-on (10 * v + (getD x i 0 - code "0")) (front isDigit (drop (i + 1) x)) ∙ n);
+      ends = omega (arith, l);
+    }
