@@ -210,6 +210,7 @@ fn unbounded(text: &[u8], at: usize, min: u32) -> Counted
 
 // Behind `[m..`.
 fn bounded(text: &[u8], at: usize, min: u32) -> Counted
+    requires { ⌜ at ≤ length (now text) ⌝ }
     ensures { λ r. ⌜ r ≡ betweenAt (now (text .entry)) (numeralAt (now (text .entry)) at) min ⌝ }
 {
     match read_numeral(text, at) {
@@ -343,7 +344,7 @@ fn repeated(text: &[u8], names: &[u32; MAX_ATOMS], n: usize, start: usize, end: 
     let mut i: usize = 0;
     while i < n {
         let word = names[i];
-        let from = (word / 256) as usize;
+        let from = (word / 256 % 65536) as usize;
         let len = (word % 256) as usize;
         if same_bytes(&text[from..from + len], name) {
             return true;
@@ -560,7 +561,7 @@ fn refused(f: ModelFault, p: usize) -> Reading
 }
 
 fn rule_of(work: &[u64; MAX_NODES], len: usize) -> Rule
-    requires { ⌜ len ≤ 128 ⌝ }
+    requires { ⌜ (len ≤ 128) × (length (now work) ≡ 128) ⌝ }
     ensures { λ r. ⌜ r ≡ ruleWith (map nodeOf (take len (now (work .entry)))) ⌝ }
 {
     let mut rule = no_rule();
@@ -574,14 +575,14 @@ fn rule_of(work: &[u64; MAX_NODES], len: usize) -> Rule
 }
 
 fn names_of(words: &[u32; MAX_ATOMS], len: usize) -> Names
-    requires { ⌜ len ≤ 64 ⌝ }
+    requires { ⌜ (len ≤ 64) × (length (now words) ≡ 64) ⌝ }
     ensures { λ r. ⌜ r ≡ namesWith (map placeOf (take len (now (words .entry)))) ⌝ }
 {
     let mut names = no_names();
     let mut i: usize = 0;
     while i < len {
         names.places[i] = NamePlace {
-            start: (words[i] / 256) as u16,
+            start: (words[i] / 256 % 65536) as u16,
             len: (words[i] % 256) as u16,
         };
         i += 1;

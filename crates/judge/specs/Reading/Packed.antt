@@ -45,7 +45,7 @@ abbrev pub isSign : ℕ → Bool
 isSign b = eqb b 0 || eqb b (code ",") || eqb b (code "|") || eqb b (code "&")
 
 unfoldable pub placeOf : ℕ → NamePlace
-placeOf w = record { start = w / 256; len = w % 256 }
+placeOf w = record { start = w / 256 % 65536; len = w % 256 }
 
 module _ (shape low high : ℕ) (s : shape < 128) (l : low < 65536) (h : high < 65536) where
   shape-is : word shape low high % 128 ≡ shape

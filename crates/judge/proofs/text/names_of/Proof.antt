@@ -22,20 +22,20 @@ mul-t7 c = ?
 element-copy-out-t10 : tie.Need-element-copy-out-t10 Inv-loop μ-loop
 element-copy-out-t10 c = ?
 
-cast-t12 : tie.Need-cast-t12 Inv-loop μ-loop
-cast-t12 c = ?
+cast-t13 : tie.Need-cast-t13 Inv-loop μ-loop
+cast-t13 c = ?
 
-mul-t13 : tie.Need-mul-t13 Inv-loop μ-loop
-mul-t13 c = ?
+mul-t14 : tie.Need-mul-t14 Inv-loop μ-loop
+mul-t14 c = ?
 
-element-copy-out-t16 : tie.Need-element-copy-out-t16 Inv-loop μ-loop
-element-copy-out-t16 c = ?
+element-copy-out-t17 : tie.Need-element-copy-out-t17 Inv-loop μ-loop
+element-copy-out-t17 c = ?
 
-cast-t18 : tie.Need-cast-t18 Inv-loop μ-loop
-cast-t18 c = ?
+cast-t19 : tie.Need-cast-t19 Inv-loop μ-loop
+cast-t19 c = ?
 
-mul-t20 : tie.Need-mul-t20 Inv-loop μ-loop
-mul-t20 c = ?
+mul-t21 : tie.Need-mul-t21 Inv-loop μ-loop
+mul-t21 c = ?
 
 element-set-from-names : tie.Need-element-set-from-names Inv-loop μ-loop
 element-set-from-names c = ?
@@ -62,11 +62,11 @@ names-of-spec =
     loop-holds
     mul-t7
     element-copy-out-t10
-    cast-t12
-    mul-t13
-    element-copy-out-t16
-    cast-t18
-    mul-t20
+    cast-t13
+    mul-t14
+    element-copy-out-t17
+    cast-t19
+    mul-t21
     element-set-from-names
     add-i
     loop-less
