@@ -1,4 +1,5 @@
 -- Bytes of texts, and the tests of a byte that the notation knows: document 01, "Model text".
+pub mod Laws
 use mathlib.Core.Bool.{Bool, true, false, cond, not, _&&_, _||_}
 use mathlib.Core.List.{List, [], _∷_, _++_}
 use Prim.Native.Nat.{ℕ, _+_, _*_, _-_}

@@ -1,4 +1,8 @@
 -- Model text: document 01, "Model text". A tree of atoms as written is what a model text spells; `text` writes it out; nothing here reads.
+pub mod Machine
+pub mod Sound
+pub mod Complete
+pub mod Counters
 use mathlib.Core.Path.{_≡_}
 use mathlib.Core.List.{List, [], _∷_, _++_}
 use Prim.Native.Nat.{ℕ}
