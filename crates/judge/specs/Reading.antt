@@ -6,7 +6,7 @@ pub mod Filled
 pub mod Walk
 use mathlib.Core.Bool.{Bool, true, false, cond, _&&_}
 use mathlib.Core.List.{List, [], _∷_, _++_, map}
-use Prim.Native.Nat.{ℕ, zero, suc, _-_}
+use Prim.Native.Nat.{ℕ, suc, _-_}
 use lib.Dec.{eqb}
 use lib.ListN.{length, replicate, take, drop}
 use Rattle.judge.specs.declared.fault.ModelFault.{ModelFault}
@@ -21,14 +21,12 @@ use Rattle.judge.specs.declared.text.Outcome.the-variants.{Read, Refused
 use Rattle.judge.specs.declared.text.Reading.{Reading}
 use Rattle.judge.specs.Bytes.{Text}
 use Rattle.judge.specs.Tree.{group, marked, none}
-use Rattle.judge.specs.Fault.{nameAt, nameFrom}
+use Rattle.judge.specs.Fault.{nameFrom, Answer, refused, accepted}
+use Rattle.judge.specs.Fault.Answered.{answer}
+use Rattle.judge.specs.Fault.Ties.{places}
+use Rattle.judge.specs.Model.{modelOf}
 use Rattle.judge.specs.Rule.{unused, ruleOf}
 use Rattle.judge.specs.Limits.{maxAtoms, maxNodes}
-
--- the places below p where a name begins, in order
-abbrev pub places : Text → ℕ → List ℕ
-places x zero = []
-places x (suc p) = cond (nameAt x p) (places x p ++ (p ∷ [])) (places x p)
 
 abbrev pub namePlace : Text → ℕ → NamePlace
 namePlace x p = record { start = p; len = length (nameFrom x p) }
@@ -50,6 +48,14 @@ namesOf x = namesWith (map (namePlace x) (places x (length x)))
 -- a refused reading has the rule of `()` and no names
 abbrev pub refusal : ModelFault → ℕ → Reading
 refusal f p = record { outcome = Refused f p; rule = ruleOf (marked Plain (group None none)); names = namesWith [] }
+
+-- what an answer to the text x gives, and what the text itself does: its answer is `Fault.Answered.answer`, the only one that it has
+abbrev pub readingBy : Text → Answer → Reading
+readingBy x (refused f p) = refusal f p
+readingBy x (accepted t) = record { outcome = Read; rule = ruleOf (modelOf t); names = namesOf x }
+
+abbrev pub reading : Text → Reading
+reading x = readingBy x (answer x)
 
 -- the same bytes
 abbrev pub sameText : Text → Text → Bool

@@ -8,14 +8,14 @@ ghost use lib.Dec.{T, eqb};
 ghost use lib.ListN.{length, take, drop, getD, set};
 ghost use Rattle.judge.specs.Bytes.{isLetter, isDigit, isInner};
 ghost use Rattle.judge.specs.Fault.{is, nameFrom};
+ghost use Rattle.judge.specs.Fault.Ties.{capped, places};
 ghost use Rattle.judge.specs.declared.rule.Kind.the-variants.{Atom, Group};
-ghost use Rattle.judge.specs.Reading.{places, ruleWith, namesWith, refusal, sameText, partsOf, numberIn};
+ghost use Rattle.judge.specs.Reading.{ruleWith, namesWith, refusal, sameText, partsOf, numberIn};
 ghost use Rattle.judge.specs.Reading.Packed.{word, nodeOf, plain, optional, isSign, signBy, kindBy, markBy, placeOf};
 ghost use Rattle.judge.specs.Reading.Search.{among, Comparable};
 ghost use Rattle.judge.specs.Rule.{unused};
 ghost use Rattle.judge.specs.Reading.Walk.{Marking, joins};
-ghost use Rattle.judge.specs.Reading.Lexeme.{capped, numeralAt, countAt, onwardAt, betweenAt};
-
+ghost use Rattle.judge.specs.Reading.Lexeme.{numeralAt, countAt, onwardAt, betweenAt};
 use crate::fault::ModelFault;
 use crate::rule::Kind;
 use crate::rule::MAX_NODES;
@@ -374,8 +374,7 @@ fn mark(text: &[u8], work: &mut [u64; MAX_NODES], c: Cursor, i: usize) -> Cursor
 }
 
 // The atom whose name stands from c.at to end, with its count and its mark.
-fn atom_rest(text: &[u8], work: &mut [u64; MAX_NODES], c: Cursor, end: usize) -> Got
-{
+fn atom_rest(text: &[u8], work: &mut [u64; MAX_NODES], c: Cursor, end: usize) -> Got {
     let node = c.nodes;
     let names = c.names + 1;
     if stands(text, end, b'[') {
@@ -621,11 +620,7 @@ pub fn read_model(text: &[u8]) -> Reading {
 fn lesser(a: usize, b: usize) -> usize
     ensures { λ r. ⌜ r ≡ min a b ⌝ }
 {
-    if a < b {
-        a
-    } else {
-        b
-    }
+    if a < b { a } else { b }
 }
 
 // The number of a name: from 1, of the first place whose part of the text is that name; 0 where there is none.

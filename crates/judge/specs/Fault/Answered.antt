@@ -16,7 +16,7 @@ use Rattle.judge.specs.Bytes.{Text, isLetter}
 use Rattle.judge.specs.Syntax.{Spelled, Begins}
 use Rattle.judge.specs.Syntax.Sound.{alive-begins}
 use Rattle.judge.specs.Syntax.Complete.{spells-once, dec-begins, dec-spelled}
-use Rattle.judge.specs.Fault.{Misspelt, cannot, short, fresh, nameAt, Fault, number, Before, Answer, refused, accepted, Answers}
+use Rattle.judge.specs.Fault.{Misspelt, cannot, short, fresh, nameAt, Fault, modelNumber, Before, Answer, refused, accepted, Answers}
 use Rattle.judge.specs.Fault.Search.{Least, Clear, search}
 use Rattle.judge.specs.Fault.Decide.{decide}
 
@@ -27,7 +27,7 @@ faultOf n =
     (cond (eqb n 11) Spelling
     (cond (eqb n 12) LongName (cond (eqb n 13) WrongCount (cond (eqb n 14) TooDeep (cond (eqb n 15) ManyAtoms (cond (eqb n 16) ManyNodes Repeated))))))
 
-fault-of : (f : ModelFault) → faultOf (number f) ≡ f
+fault-of : (f : ModelFault) → faultOf (modelNumber f) ≡ f
 unfolding faultOf
 fault-of Size = refl
 fault-of Spelling = refl
@@ -38,10 +38,10 @@ fault-of ManyAtoms = refl
 fault-of ManyNodes = refl
 fault-of Repeated = refl
 
-pub number-injective : (f g : ModelFault) → number f ≡ number g → f ≡ g
+pub number-injective : (f g : ModelFault) → modelNumber f ≡ modelNumber g → f ≡ g
 number-injective f g e = sym (fault-of f) ∙ ap faultOf e ∙ fault-of g
 
-pub number-over : (f : ModelFault) → 10 ≤ number f
+pub number-over : (f : ModelFault) → 10 ≤ modelNumber f
 number-over Size = omega arith
 number-over Spelling = omega arith
 number-over LongName = omega arith
@@ -51,7 +51,7 @@ number-over ManyAtoms = omega arith
 number-over ManyNodes = omega arith
 number-over Repeated = omega arith
 
-number-under : (f : ModelFault) → number f < 18
+number-under : (f : ModelFault) → modelNumber f < 18
 number-under Size = omega arith
 number-under Spelling = omega arith
 number-under LongName = omega arith
@@ -108,24 +108,24 @@ Faultless x p = (g : ModelFault) → Fault g x p → ⊥
 record Worst (x : Text) (p : ℕ) : Type 0 where
   pub fault : ModelFault
   pub stands : Fault fault x p
-  pub first : (g : ModelFault) → Fault g x p → number fault ≤ number g
+  pub first : (g : ModelFault) → Fault g x p → modelNumber fault ≤ modelNumber g
 
 abbrev Numbered : Text → ℕ → ℕ → Type 0
-Numbered x p n = (number (faultOf n) ≡ n) × Fault (faultOf n) x p
+Numbered x p n = (modelNumber (faultOf n) ≡ n) × Fault (faultOf n) x p
 
-numbered : (x : Text) (p : ℕ) (f : ModelFault) → Fault f x p → Numbered x p (number f)
+numbered : (x : Text) (p : ℕ) (f : ModelFault) → Fault f x p → Numbered x p (modelNumber f)
 numbered x p f h = rw (fault-of f) (refl, h)
 
 worst : (x : Text) (p : ℕ) → Worst x p ⊎ Faultless x p
-worst x p = go (search (Numbered x p) (λ n. Dec·and (ℕ-discrete (number (faultOf n)) n) (decide (faultOf n) x p)) 18)
+worst x p = go (search (Numbered x p) (λ n. Dec·and (ℕ-discrete (modelNumber (faultOf n)) n) (decide (faultOf n) x p)) 18)
   where
-    first : (l : Least (Numbered x p) 18) (g : ModelFault) → Fault g x p → Dec (number (faultOf (l .place)) ≤ number g) → number (faultOf (l .place)) ≤ number g
+    first : (l : Least (Numbered x p) 18) (g : ModelFault) → Fault g x p → Dec (modelNumber (faultOf (l .place)) ≤ modelNumber g) → modelNumber (faultOf (l .place)) ≤ modelNumber g
     first l g h (yes q) = q
-    first l g h (no q) = absurd (l .clear (number g) (let e : number (faultOf (l .place)) ≡ l .place = l .holds .0 in omega arith) (numbered x p g h))
+    first l g h (no q) = absurd (l .clear (modelNumber g) (let e : modelNumber (faultOf (l .place)) ≡ l .place = l .holds .0 in omega arith) (numbered x p g h))
 
     go : Least (Numbered x p) 18 ⊎ Clear (Numbered x p) 18 → Worst x p ⊎ Faultless x p
-    go (inl l) = inl (record { fault = faultOf (l .place); stands = l .holds .1; first = λ g h. first l g h (decLe (number (faultOf (l .place))) (number g)) })
-    go (inr c) = inr (λ g h. c (number g) (number-under g) (numbered x p g h))
+    go (inl l) = inl (record { fault = faultOf (l .place); stands = l .holds .1; first = λ g h. first l g h (decLe (modelNumber (faultOf (l .place))) (modelNumber g)) })
+    go (inr c) = inr (λ g h. c (modelNumber g) (number-under g) (numbered x p g h))
 
 fault-worst : (x : Text) (p : ℕ) (g : ModelFault) → Fault g x p → Worst x p
 fault-worst x p g h = go (worst x p)

@@ -22,7 +22,7 @@ use Rattle.judge.specs.Syntax.Sound.{run-append, sound, alive-begins}
 use Rattle.judge.specs.Syntax.Complete.{name-run, after-parts, complete, begins-alive}
 use Rattle.judge.specs.Syntax.Counters.{isExpect, run-take, alive-before, Even, even}
 use Rattle.judge.specs.Limits.{maxText, maxName, maxDepth, maxAtoms, maxNodes}
-use Rattle.judge.specs.Fault.{Misspelt, cannot, short, is, fresh, nameAt, nodeAt, nameFrom, tally, Twice, Fault, number, Before, refused, accepted, Answers}
+use Rattle.judge.specs.Fault.{Misspelt, cannot, short, is, fresh, nameAt, nodeAt, nameFrom, tally, Twice, Fault, modelNumber, Before, refused, accepted, Answers}
 use Rattle.judge.specs.Fault.Decide.{close-dead, endsWrong, ends-wrong, wrong-ends, wrong-alive}
 use Rattle.judge.specs.Fault.Answered.{number-injective, number-over, Faultless, byte-inside, name-inside, inside}
 
@@ -41,10 +41,10 @@ clean-more x p c n q h g f = go (ℕ-discrete q p)
     go (no e) = c q (omega arith) g f
 
 -- the first fault met is the answer
-pub found : (x : Text) (f : ModelFault) (p : ℕ) → Clean x p → Fault f x p → ((g : ModelFault) → number g < number f → Fault g x p → ⊥) → Answers x (refused f p)
-found x f p c h n = (h, λ g q k. go g q k (decLt q p) (ℕ-discrete p q) (decLt (number g) (number f)))
+pub found : (x : Text) (f : ModelFault) (p : ℕ) → Clean x p → Fault f x p → ((g : ModelFault) → modelNumber g < modelNumber f → Fault g x p → ⊥) → Answers x (refused f p)
+found x f p c h n = (h, λ g q k. go g q k (decLt q p) (ℕ-discrete p q) (decLt (modelNumber g) (modelNumber f)))
   where
-    go : (g : ModelFault) (q : ℕ) → Fault g x q → Dec (q < p) → Dec (p ≡ q) → Dec (number g < number f) → Before f p g q
+    go : (g : ModelFault) (q : ℕ) → Fault g x q → Dec (q < p) → Dec (p ≡ q) → Dec (modelNumber g < modelNumber f) → Before f p g q
     go g q k (yes i) e j = absurd (c q i g k)
     go g q k (no i) (no e) j = inl (omega arith)
     go g q k (no i) (yes e) (yes j) = absurd (n g j (subst (Fault g x) (sym e) k))
@@ -214,7 +214,7 @@ module _ (x : Text) (p : ℕ) (z : Sized x) (i : p < length x) where
       bracket-faults Repeated = (λ f. no-letter (f .here), λ f. absurd f)
 
 -- what the faults at p come to decides the answer, or that p is clean
-pub found-by : (x : Text) (p : ℕ) (D : ModelFault → Type 0) → ((g : ModelFault) → Fault g x p ↔ D g) → Clean x p → (f : ModelFault) → D f → ((g : ModelFault) → number g < number f → D g → ⊥) → Answers x (refused f p)
+pub found-by : (x : Text) (p : ℕ) (D : ModelFault → Type 0) → ((g : ModelFault) → Fault g x p ↔ D g) → Clean x p → (f : ModelFault) → D f → ((g : ModelFault) → modelNumber g < modelNumber f → D g → ⊥) → Answers x (refused f p)
 found-by x p D t c f d n = found x f p c (t f .1 d) (λ g i h. n g i (t g .0 h))
 
 pub letter-faultless : (x : Text) (p : ℕ) → ((g : ModelFault) → Fault g x p ↔ LetterFault x p g)
@@ -267,7 +267,7 @@ end-faultless x p z i a b w = other-faultless x p (other-faults x p z i a (rw (b
 pub wrong-answers : (x : Text) (p : ℕ) → Sized x → Clean x p → p < length x → isExpect (here x p) ≡ false → T (endsWrong (here x (suc p))) → Answers x (refused WrongCount p)
 wrong-answers x p z c i e w = found-by x p (OtherFault x p) (other-faults x p z i (wrong-alive (here x (suc p)) w) (rw e)) c WrongCount w go
   where
-    go : (g : ModelFault) → number g < number WrongCount → OtherFault x p g → ⊥
+    go : (g : ModelFault) → modelNumber g < modelNumber WrongCount → OtherFault x p g → ⊥
     go Size l h = h
     go Spelling l h = h
     go LongName l h = h

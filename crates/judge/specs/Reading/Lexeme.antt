@@ -2,7 +2,7 @@
 pub mod Laws
 use mathlib.Core.Bool.{Bool, true, false, cond, _||_}
 use mathlib.Core.List.{List, [], _∷_}
-use Prim.Native.Nat.{ℕ, _+_, min}
+use Prim.Native.Nat.{ℕ, _+_}
 use Prim.Native.Char.{code}
 use lib.Dec.{ltb, eqb}
 use lib.ListN.{length, drop, getD}
@@ -13,11 +13,8 @@ use Rattle.judge.specs.declared.text.Counted.{Counted}
 use Rattle.judge.specs.declared.text.Counted.the-variants.{Counts, Bad, Wrong}
 use Rattle.judge.specs.Bytes.{Text, isDigit, value, front}
 use Rattle.judge.specs.Fault.{is}
+use Rattle.judge.specs.Fault.Ties.{capped}
 use Rattle.judge.specs.Limits.{maxCount}
-
--- a number as far as the limit can tell it
-abbrev pub capped : ℕ → ℕ
-capped n = min 60001 n
 
 -- the digits of the numeral that a text begins with; none where it begins with none
 abbrev pub digits : Text → Text

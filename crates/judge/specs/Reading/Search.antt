@@ -10,9 +10,10 @@ use lib.Seq.{drop-cons}
 use mir.Facts.{and-yes, yes-and}
 use borrow.Author.Tests.{eq-eqb, ne-eqb}
 use Rattle.judge.specs.Bytes.{Text}
-use Rattle.judge.specs.Fault.{nameAt, nameFrom}
+use Rattle.judge.specs.Fault.{nameFrom}
+use Rattle.judge.specs.Fault.Ties.{places}
 use Rattle.judge.specs.Limits.{maxAtoms, maxName}
-use Rattle.judge.specs.Reading.{places, namePlace, sameText}
+use Rattle.judge.specs.Reading.{namePlace, sameText}
 use Rattle.judge.specs.Reading.Packed.{placeOf}
 
 -- the name at p begins at one of these places too

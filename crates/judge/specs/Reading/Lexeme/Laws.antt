@@ -14,7 +14,8 @@ use lib.Seq.{drop-cons}
 use Rattle.judge.specs.declared.text.Numeral.the-variants.{Value, Bad as NoNumeral}
 use Rattle.judge.specs.Bytes.{Text, isDigit, value, valueFrom, front}
 use Rattle.judge.specs.Fault.{is}
-use Rattle.judge.specs.Reading.Lexeme.{capped, digits, numeralAt}
+use Rattle.judge.specs.Fault.Ties.{capped, capped-digit}
+use Rattle.judge.specs.Reading.Lexeme.{digits, numeralAt}
 
 module _ (f : ℕ → Bool) (x : Text) (i : ℕ) where
   pub front-step : i < length x → f (getD x i 0) ≡ true → front f (drop i x) ≡ getD x i 0 ∷ front f (drop (i + 1) x)
@@ -26,13 +27,10 @@ module _ (f : ℕ → Bool) (x : Text) (i : ℕ) where
   pub front-out : length x ≤ i → front f (drop i x) ≡ []
   front-out h = rw (drop-of-length-le x {i = i} h)
 
--- a digit more of a number that is known up to the cap
-capped-step : (a e : ℕ) → capped (10 * capped a + e) ≡ capped (10 * a + e)
-capped-step a e = omega arith
-
+-- digits more of a number that is known up to the cap
 pub capped-on : (a : ℕ) (ds : Text) → capped (valueFrom (capped a) ds) ≡ capped (valueFrom a ds)
 capped-on a [] = omega arith
-capped-on a (d ∷ ds) = sym (capped-on (10 * capped a + (d - code "0")) ds) ∙ rw (capped-step a (d - code "0")) (capped-on (10 * a + (d - code "0")) ds)
+capped-on a (d ∷ ds) = sym (capped-on (10 * capped a + (d - code "0")) ds) ∙ rw (capped-digit a (d - code "0")) (capped-on (10 * a + (d - code "0")) ds)
 
 -- the digits from i on say what number comes behind v, and where it ends
 pub record Rest (x : Text) (at v i : ℕ) : Type 0 where
