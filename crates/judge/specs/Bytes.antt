@@ -51,3 +51,9 @@ value ds = valueFrom 0 ds
 abbrev pub front : (ℕ → Bool) → Text → Text
 front f [] = []
 front f (b ∷ bs) = cond (f b) (b ∷ front f bs) []
+
+abbrev pub sameText : Text → Text → Bool
+sameText [] [] = true
+sameText [] (y ∷ ys) = false
+sameText (x ∷ xs) [] = false
+sameText (x ∷ xs) (y ∷ ys) = eqb x y && sameText xs ys

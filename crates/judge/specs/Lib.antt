@@ -4,6 +4,9 @@
 --   Fault                          what is wrong with a text, and the answer to it
 --   Model, Rule                    models, the nodes of a rule, and the type that it means
 --   Judge                          what a row is answered
+--   Reading                        what a model text reads into
+--   Starred                        the starred rows of document 01
+-- Tests and Stack hold laws that belong to no definition: of tests, and of a stack that grows down in an array.
 pub mod Word
 pub mod Types
 pub mod Verdict
@@ -12,7 +15,11 @@ pub mod Tree
 pub mod Syntax
 pub mod Limits
 pub mod Fault
+pub mod Accept
 pub mod Model
 pub mod Rule
 pub mod Judge
 pub mod Reading
+pub mod Starred
+pub mod Tests
+pub mod Stack

@@ -1,5 +1,8 @@
 -- Models: trees whose atoms have two counts and no name, their nodes in the order in which they begin, and the type of 001 that each means:
 -- document 01, "Model text".
+pub mod Eval
+pub mod Laws
+pub mod Types
 use mathlib.Core.List.{List, [], _∷_, _++_}
 use Prim.Native.Nat.{ℕ, zero, suc, _+_, _≤_}
 use Rattle.judge.specs.declared.rule.Upper.{Upper}

@@ -1,4 +1,7 @@
 -- The types of document 001, section 2.1, and the words that each holds.
+pub mod Laws
+pub mod Decide
+pub mod Attribute
 use mathlib.Core.Path.{_≡_}
 use mathlib.Core.Logic.{_⊎_}
 use mathlib.Core.Bool.{false}

@@ -1,4 +1,5 @@
 -- What a verdict on a row says: document 01, "Verdicts".
+pub mod Laws
 use Rattle.judge.specs.Word.{Word}
 use Rattle.judge.specs.Types.{Ty, Holds, Extends}
 use Rattle.judge.specs.declared.verdict.Verdict.{Verdict}

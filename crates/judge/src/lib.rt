@@ -1,6 +1,8 @@
 // The judge: rules, and what they say of rows.
 
+mod check;
 pub mod fault;
+pub mod row;
 pub mod rule;
 pub mod text;
 pub mod verdict;

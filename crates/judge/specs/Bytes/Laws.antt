@@ -1,13 +1,15 @@
 -- Laws of tests on bytes, and of names and numerals that grow at their end.
-use mathlib.Core.Path.{_≡_, refl, subst}
-use mathlib.Core.Bool.{Bool, true, false, cond, not, _&&_}
-use mathlib.Core.List.{[], _∷_, _++_}
+use mathlib.Core.Path.{_≡_, refl, ap₂, subst}
+use mathlib.Core.Logic.{_↔_}
+use mathlib.Core.Bool.{Bool, true, false, cond, not, _&&_, false≢true, and-eq-true-iff}
+use mathlib.Core.List.{[], _∷_, _++_, nil≢cons, cons≢nil, head-eq-of-cons-eq, tail-eq-of-cons-eq}
 use Prim.Native.Nat.{ℕ, _+_, _*_, _-_}
 use Prim.Native.Char.{code}
 use lib.Dec.{T, T-not, eqb, eqb→eq}
 use lib.ListN.{length, take}
 use mir.Facts.{yes-and}
-use Rattle.judge.specs.Bytes.{Text, isLetter, isInner, all, isName, front, valueFrom, value}
+use borrow.Author.Tests.{eqb-true, eq-eqb}
+use Rattle.judge.specs.Bytes.{Text, isLetter, isInner, all, isName, front, valueFrom, value, sameText}
 
 -- what both branches have
 pub cond-cases : {A : Type 0} (P : A → Type 0) (c : Bool) (x y : A) → (T c → P x) → (T (not c) → P y) → P (cond c x y)
@@ -66,3 +68,12 @@ valueFrom-snoc a (e ∷ es) d = valueFrom-snoc (10 * a + (e - code "0")) es d
 
 pub value-snoc : (ds : Text) (d : ℕ) → value (ds ++ (d ∷ [])) ≡ 10 * value ds + (d - code "0")
 value-snoc ds d = valueFrom-snoc 0 ds d
+
+pub same-text : (x y : Text) → (sameText x y ≡ true) ↔ (x ≡ y)
+same-text [] [] = (λ e. refl, λ e. refl)
+same-text [] (y ∷ ys) = (λ e. absurd (false≢true e), λ e. absurd (nil≢cons e))
+same-text (x ∷ xs) [] = (λ e. absurd (false≢true e), λ e. absurd (cons≢nil e))
+same-text (x ∷ xs) (y ∷ ys) = (
+  λ e. let h = (and-eq-true-iff (eqb x y) (sameText xs ys)) .0 e in ap₂ (λ b l. b ∷ l) (eqb-true x y (h .0)) (same-text xs ys .0 (h .1)),
+  λ e. (and-eq-true-iff (eqb x y) (sameText xs ys)) .1 (eq-eqb x y (head-eq-of-cons-eq e), same-text xs ys .1 (tail-eq-of-cons-eq e)),
+)
