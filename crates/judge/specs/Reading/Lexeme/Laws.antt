@@ -105,7 +105,7 @@ stands-inside x b p h e = go (decLt p (length x))
         let w : getD x p 0 ≡ b = eqb→eq (getD x p 0) b (subst T (sym e) tt) in
         absurd (omega arith)
 
-front-short : (f : ℕ → Bool) (y : Text) → length (front f y) ≤ length y
+pub front-short : (f : ℕ → Bool) (y : Text) → length (front f y) ≤ length y
 front-short f [] = omega arith
 front-short f (b ∷ y) = go (f b) (front-short f y)
   where
