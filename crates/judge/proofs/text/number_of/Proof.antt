@@ -1,3 +1,4 @@
+use Rattle.judge.specs.Stack.{unmapped}
 use Prim.Native.Nat.{_+_, _≤_, _-_, min}
 use mathlib.Core.Path.{_≡_, refl, sym, ap, _∙_}
 use mathlib.Core.List.{List, map}
@@ -24,7 +25,7 @@ lesser-requires : tie.Need-lesser-requires Inv-loop μ-loop
 lesser-requires c κs = tt
 
 loop-holds : tie.Need-loop-holds Inv-loop μ-loop
-loop-holds c = (search needs, (c .lesser .ensures, (omega arith, refl)))
+loop-holds c = let l : length (c .before .before .before .args .t2 .places) ≡ 64 = search (needs, unmapped) in (l, (c .lesser .ensures, (omega arith, refl)))
 
 mul-place : tie.Need-mul-place Inv-loop μ-loop
 mul-place c = omega arith
@@ -69,7 +70,7 @@ cast-t24 : tie.Need-cast-t24 Inv-loop μ-loop
 cast-t24 c = omega arith
 
 returns : tie.Need-returns Inv-loop μ-loop
-returns c = ?
+returns c = number-found (c .before .before .before .before .before .before .before .before .before .before .before .before .before .before .args .text .now) (c .before .before .before .before .before .before .before .before .before .before .before .before .before .before .args .t2) (c .before .before .before .before .before .before .before .before .before .before .before .before .before .before .args .name .now) (c .before .before .before .before .before .before .before .before .before .before .loop .inv .0) (c .before .before .before .before .before .before .before .before .before .before .loop .i) (omega arith) (rw (← c .before .before .before .before .before .before .lesser2 .ensures, ← c .before .before .before .lesser3 .ensures) (sym (c .before .same-bytes .ensures) ∙ c .if1 .taken)) ∙ c .before .before .before .before .before .before .before .before .before .before .loop .inv .1 .1 .1
 
 add-i : tie.Need-add-i Inv-loop μ-loop
 add-i c = omega arith
@@ -78,7 +79,7 @@ loop-less : tie.Need-loop-less Inv-loop μ-loop
 loop-less c = omega arith
 
 loop-again : tie.Need-loop-again Inv-loop μ-loop
-loop-again c = ?
+loop-again c = (c .before .before .before .before .before .before .before .before .before .before .loop .inv .0, (c .before .before .before .before .before .before .before .before .before .before .loop .inv .1 .0, (omega arith, number-next (c .before .before .before .before .before .before .before .before .before .before .before .before .before .before .args .text .now) (c .before .before .before .before .before .before .before .before .before .before .before .before .before .before .args .t2) (c .before .before .before .before .before .before .before .before .before .before .before .before .before .before .args .name .now) (c .before .before .before .before .before .before .before .before .before .before .loop .inv .0) (c .before .before .before .before .before .before .before .before .before .before .loop .i) (omega arith) (rw (← c .before .before .before .before .before .before .lesser2 .ensures, ← c .before .before .before .lesser3 .ensures) (sym (c .before .same-bytes .ensures) ∙ c .if1 .left)) ∙ c .before .before .before .before .before .before .before .before .before .before .loop .inv .1 .1 .1)))
 
 returns-2 : tie.Need-returns-2 Inv-loop μ-loop
 returns-2 c = number-none (c .before .before .before .before .before .args .text .now) (c .before .before .before .before .before .args .t2) (c .before .before .before .before .before .args .name .now) (c .before .loop .inv .0) (c .before .loop .i) (omega arith) ∙ c .before .loop .inv .1 .1 .1
