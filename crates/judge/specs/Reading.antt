@@ -3,6 +3,9 @@ pub mod Lexeme
 pub mod Packed
 pub mod Search
 pub mod Filled
+pub mod Buffer
+pub mod At
+pub mod Count
 pub mod Walk
 use mathlib.Core.Bool.{Bool, true, false, cond, _&&_}
 use mathlib.Core.List.{List, [], _∷_, _++_, map}
