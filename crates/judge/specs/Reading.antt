@@ -7,6 +7,7 @@ pub mod Buffer
 pub mod At
 pub mod Count
 pub mod Walk
+pub mod Atom
 use mathlib.Core.Bool.{Bool, true, false, cond, _&&_}
 use mathlib.Core.List.{List, [], _∷_, _++_, map}
 use Prim.Native.Nat.{ℕ, suc, _-_}

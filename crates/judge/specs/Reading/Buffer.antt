@@ -4,7 +4,7 @@ use mathlib.Core.List.{List, [], _∷_, _++_, map, map-append}
 use Prim.Native.Nat.{ℕ, zero, suc, _+_, _≤_, _<_}
 use native.Mathlib.Omega.{arith}
 use native.Mathlib.Numerals.{add-one}
-use lib.ListN.{length, take, drop, getD, set, length-set, length-take, List·getD-map}
+use lib.ListN.{length, take, drop, getD, set, length-append, length-set, length-take, List·getD-map}
 use lib.Seq.{take-suc-set, take-set-lt, getD-take, set-at, getD-at}
 use Rattle.judge.specs.Reading.Filled.{map-length}
 
@@ -32,14 +32,21 @@ module _ {A : Type 0} (f : ℕ → A) (size : ℕ) where
           held = rw (add-one, take-suc-set b n w (omega (arith, h .whole)), map-append, h .held, e);
         }
 
-    -- the element behind u changes
-    pub holds-set : (w i : ℕ) (a d : A) (u v : List A) → l ≡ u ++ (a ∷ v) → i ≡ length u → i < n → f w ≡ d → Holds (set b i w) n (u ++ (d ∷ v))
-    holds-set w i a d u v e g k q =
+  -- the element behind u
+  module _ (b : List ℕ) (n : ℕ) (u v : List A) (a : A) (h : Holds b n (u ++ (a ∷ v))) (i : ℕ) (e : i ≡ length u) where
+    inside : i < n
+    inside = omega (arith, e, sym (length-append u (a ∷ v)) ∙ holds-count b n (u ++ (a ∷ v)) h)
+
+    -- changes
+    pub holds-set : (w : ℕ) (d : A) → f w ≡ d → Holds (set b i w) n (u ++ (d ∷ v))
+    unfolding inside
+    holds-set w d q =
         record {
           whole = length-set b i w ∙ h .whole;
           few = h .few;
-          held = rw (take-set-lt n b i w k) (map-set (take n b) i w ∙ rw (h .held, e, q) (set-at u a v d i (sym g)));
+          held = rw (take-set-lt n b i w inside) (map-set (take n b) i w ∙ rw (h .held, q) (set-at u a v d i (sym e)));
         }
 
-    pub holds-get : (i : ℕ) (a : A) (u v : List A) → l ≡ u ++ (a ∷ v) → i ≡ length u → i < n → f (getD b i 0) ≡ a
-    holds-get i a u v e g k = rw (← getD-take n b i 0 k) (sym (List·getD-map f (take n b) i 0) ∙ rw (h .held, e) (getD-at u a v (f 0) i (sym g)))
+    pub holds-get : f (getD b i 0) ≡ a
+    unfolding inside
+    holds-get = rw (← getD-take n b i 0 inside) (sym (List·getD-map f (take n b) i 0) ∙ rw (h .held) (getD-at u a v (f 0) i (sym e)))

@@ -1,5 +1,5 @@
 use mathlib.Core.Path.{refl, sym, _∙_}
-use Rattle.judge.specs.Reading.Walk.{marked, unmarked}
+use Rattle.judge.specs.Reading.Walk.{with-mark, without}
 use borrow.Author.Needs.{needs}
 use Rattle.judge.proofs.text.mark.Statement.{statement}
 use Rattle.judge.proofs.text.mark.Tie as tie
@@ -30,10 +30,10 @@ add-t8 : tie.Need-add-t8
 add-t8 c = search needs
 
 returns : tie.Need-returns
-returns c = marked (c .packed-optional .result) (sym (c .before .before .before .stands .ensures) ∙ c .before .before .if1 .taken) refl (c .packed-optional .ensures) refl
+returns c = with-mark (c .packed-optional .result) (sym (c .before .before .before .stands .ensures) ∙ c .before .before .if1 .taken) refl (c .packed-optional .ensures) refl
 
 returns-2 : tie.Need-returns-2
-returns-2 c = unmarked (sym (c .before .stands .ensures) ∙ c .if1 .left) refl refl
+returns-2 c = without (sym (c .before .stands .ensures) ∙ c .if1 .left) refl refl
 
 pub mark-spec : {M : Type 1} → statement M
 mark-spec =
