@@ -1,11 +1,11 @@
 // Reads a model text: the group reader and the member reader call each other, and what they read goes into two lent arrays of numbers.
 
 ghost use mathlib.Core.Path.{_≡_};
-ghost use mathlib.Core.Bool.{Bool, cond, _&&_};
-ghost use mathlib.Core.List.{[], _∷_, map};
-ghost use Prim.Native.Nat.{ℕ, _+_, _*_, _-_, _≤_, _<_, min};
-ghost use lib.Dec.{T, eqb};
-ghost use lib.ListN.{length, take, drop, getD, set};
+ghost use mathlib.Core.Bool.{true};
+ghost use mathlib.Core.List.{[], _∷_, map, tail};
+ghost use Prim.Native.Nat.{_+_, _*_, _-_, _≤_, _<_, min};
+ghost use lib.Dec.{T};
+ghost use lib.ListN.{length, take, getD};
 ghost use Rattle.judge.specs.Bytes.{isLetter, isDigit, isInner};
 ghost use Rattle.judge.specs.Fault.{is, nameFrom};
 ghost use Rattle.judge.specs.Fault.Ties.{capped, places};
@@ -14,7 +14,9 @@ ghost use Rattle.judge.specs.Reading.{ruleWith, namesWith, refusal, same
 ghost use Rattle.judge.specs.Reading.Packed.{word, nodeOf, plain, optional, isSign, signBy, kindBy, markBy, placeOf};
 ghost use Rattle.judge.specs.Reading.Search.{among, Comparable};
 ghost use Rattle.judge.specs.Rule.{unused};
-ghost use Rattle.judge.specs.Reading.Walk.{Marking, joins};
+ghost use Rattle.judge.specs.Syntax.Machine.{here};
+ghost use Rattle.judge.specs.Reading.Walk.{Marking, joins, stackOf, Expecting, Ready, Inside, Member, GroupRead};
+ghost use Rattle.judge.specs.Reading.Atom.{NameRead, AtomRead};
 ghost use Rattle.judge.specs.Reading.Lexeme.{numeralAt, countAt, onwardAt, betweenAt};
 use crate::fault::ModelFault;
 use crate::rule::Kind;
@@ -374,7 +376,10 @@ fn mark(text: &[u8], work: &mut [u64; MAX_NODES], c: Cursor, i: usize) -> Cursor
 }
 
 // The atom whose name stands from c.at to end, with its count and its mark.
-fn atom_rest(text: &[u8], work: &mut [u64; MAX_NODES], c: Cursor, end: usize) -> Got {
+fn atom_rest(text: &[u8], work: &mut [u64; MAX_NODES], c: Cursor, end: usize) -> Got
+    requires { ⌜ NameRead (now text) (now work) c end (stackOf (here (now text) end)) ⌝ }
+    ensures { λ r. ⌜ AtomRead (now (text .entry)) (now (work .exit)) c end (stackOf (here (now (text .entry)) end)) r ⌝ }
+{
     let node = c.nodes;
     let names = c.names + 1;
     if stands(text, end, b'[') {
@@ -406,7 +411,10 @@ fn atom_rest(text: &[u8], work: &mut [u64; MAX_NODES], c: Cursor, end: usize) ->
 }
 
 // The atom whose name begins at c.at.
-fn atom(text: &[u8], work: &mut [u64; MAX_NODES], names: &mut [u32; MAX_ATOMS], c: Cursor) -> Got {
+fn atom(text: &[u8], work: &mut [u64; MAX_NODES], names: &mut [u32; MAX_ATOMS], c: Cursor) -> Got
+    requires { ⌜ Expecting (now text) (now work) (now names) c (stackOf (here (now text) (c .at))) × (isLetter (getD (now text) (c .at) 0) ≡ true) ⌝ }
+    ensures { λ r. ⌜ Member (now (text .entry)) (now (work .exit)) (now (names .exit)) (c .at) (stackOf (here (now (text .entry)) (c .at))) r ⌝ }
+{
     let at = c.at;
     let end = name_end(text, at + 1);
     if MAX_NAME < end - at {
@@ -433,7 +441,10 @@ fn member(
     names: &mut [u32; MAX_ATOMS],
     c: Cursor,
     left: usize,
-) -> Got {
+) -> Got
+    requires { ⌜ Ready (now text) (now work) (now names) c left (stackOf (here (now text) (c .at))) ⌝ }
+    ensures { λ r. ⌜ Member (now (text .entry)) (now (work .exit)) (now (names .exit)) (c .at) (stackOf (here (now (text .entry)) (c .at))) r ⌝ }
+{
     let at = c.at;
     if at == text.len() {
         return Got::Fault(ModelFault::Spelling, at);
@@ -485,7 +496,10 @@ fn group(
     node: usize,
     sign: u8,
     members: u16,
-) -> Got {
+) -> Got
+    requires { ⌜ Inside (now text) (now work) (now names) c left node sign members (tail (stackOf (here (now text) (c .at)))) ⌝ }
+    ensures { λ r. ⌜ GroupRead (now (text .entry)) (now (work .exit)) (now (names .exit)) (c .at) (tail (stackOf (here (now (text .entry)) (c .at)))) r ⌝ }
+{
     let at = c.at;
     if sign == 0 {
         if stands(text, at, b')') {

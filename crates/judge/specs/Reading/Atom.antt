@@ -113,6 +113,10 @@ module _ (x : Text) (work : List ℕ) (c : Cursor) (end : ℕ) (k : List Frame) 
           one-more = mark-names x (set work (c .nodes) w) (r .spots) (c .at) (c .nodes) k (atom (r .name) (t .count)) (past c p) b a s h node-is work′ d j;
         }
 
+    pub count-fits : (m : ℕ) (u : Upper) (p : ℕ) → o ≡ Counts m u p → p ≤ length x
+    unfolding counted
+    count-fits m u p f = counted e (Counts m u p) (sym f ∙ q) .at-is .within
+
     pub atom-misspelt : (p : ℕ) → o ≡ Bad p → Answers x (refused Misspelling p)
     unfolding counted
     atom-misspelt p f = counted e (Bad p) (sym f ∙ q)
