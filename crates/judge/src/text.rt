@@ -119,7 +119,7 @@ fn stands(text: &[u8], at: usize, b: u8) -> bool
 
 // Where the letters, digits and hyphens from `at` on end.
 fn name_end(text: &[u8], at: usize) -> usize
-    requires { do ⌜ at ≤ (← ⟦text.len()⟧) ⌝ }
+    requires { ⌜ at ≤ length (now text) ⌝ }
     ensures { λ r. ⌜ (r ≡ at + length (nameFrom (now (text .entry)) at)) × (r ≤ length (now (text .entry))) ⌝ }
 {
     let mut i = at;

@@ -46,7 +46,7 @@ use Rattle.judge.specs.Reading.Filled.{map-length}
 use Rattle.judge.specs.Reading.Buffer.{Holds, holds-count, holds-more}
 use Rattle.judge.specs.Reading.At.{At, run-front, front-over}
 use Rattle.judge.specs.Reading.Count.{CountRead, CountDone, count-read}
-use Rattle.judge.specs.Reading.Walk.{Marking, treeNodes, frameNodes, stackNodes, NodesHeld, NamesHeld, Read, Behind, Member, Expecting, mark-read, mark-names}
+use Rattle.judge.specs.Reading.Walk.{Marking, treeNodes, frameNodes, stackNodes, stackOf, NodesHeld, NamesHeld, Read, Behind, Member, Expecting, mark-read, mark-names}
 
 -- the name was read up to `end`
 pub record NameRead (x : Text) (work : List ℕ) (c : Cursor) (end : ℕ) (k : List Frame) : Type 0 where
@@ -241,6 +241,10 @@ module _ (x : Text) (work names : List ℕ) (c : Cursor) (k : List Frame) (r : E
                     held = r .held;
                   }
 
+              pub name-stack : stackOf (here x end) ≡ k
+              unfolding name-read
+              name-stack = ap stackOf (name-read .at-is .is)
+
               word-is : placeOf (c .at * 256 + (end - c .at)) ≡ namePlace x (c .at)
               unfolding placeOf long letter-inside
               word-is =
@@ -250,10 +254,11 @@ module _ (x : Text) (work names : List ℕ) (c : Cursor) (k : List Frame) (r : E
                   rw (u, v)
 
               -- the whole atom
-              pub atom-member : (work′ : List ℕ) (g : Got) → AtomRead x work′ c end k g → Member x work′ (set names (c .names) (c .at * 256 + (end - c .at))) (c .at) k g
-              unfolding word-is name-read
+              pub atom-member : (work′ : List ℕ) (g : Got) → AtomRead x work′ c end (stackOf (here x end)) g → Member x work′ (set names (c .names) (c .at * 256 + (end - c .at))) (c .at) k g
+              unfolding word-is name-read name-stack
               atom-member work′ (Faulty f q) t = t
-              atom-member work′ (Past d) t =
+              atom-member work′ (Past d) t′ =
+                  let t : AtomDone x work′ c end k d = rw name-stack at t′ in
                   let h = holds-more placeOf 64 names (c .names) (map (namePlace x) (r .spots)) (r .named) (c .at * 256 + (end - c .at)) (namePlace x (c .at)) a word-is in
                   let i : t .spots ≡ r .spots ++ (c .at ∷ []) = sym (t .same) ∙ name-read .at-is .names in
                   record { spots = t .spots; read = t .read; named = rw (t .one-more, i, map-append) h }
