@@ -145,7 +145,7 @@ head-node : (m : Mark) (n : Node Spelling) → treeNodes (marked m n) ≡ record
 head-node m (leaf a) = refl
 head-node m (group s ts) = refl
 
-not-expecting : (k : List Frame) (t : Syntax) → isExpect (at k (behind t)) ≡ false
+pub not-expecting : (k : List Frame) (t : Syntax) → isExpect (at k (behind t)) ≡ false
 not-expecting k (marked Optional n) = refl
 not-expecting k (marked Plain (group s ts)) = refl
 not-expecting k (marked Plain (leaf a)) = go (a .name) (a .count)
