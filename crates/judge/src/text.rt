@@ -501,14 +501,12 @@ fn group(
     ensures { λ r. ⌜ GroupRead (now (text .entry)) (now (work .exit)) (now (names .exit)) (c .at) (tail (stackOf (here (now (text .entry)) (c .at)))) r ⌝ }
 {
     let at = c.at;
-    if sign == 0 {
-        if stands(text, at, b')') {
-            return Got::Past(Cursor {
-                at: at + 1,
-                nodes: c.nodes,
-                names: c.names,
-            });
-        }
+    if (sign == 0) & stands(text, at, b')') {
+        return Got::Past(Cursor {
+            at: at + 1,
+            nodes: c.nodes,
+            names: c.names,
+        });
     }
     match member(text, work, names, c, left) {
         Got::Past(past) => {

@@ -10,7 +10,7 @@ use native.Mathlib.Omega.{arith}
 use native.Mathlib.Numerals.{add-one}
 use lib.Dec.{T, eqb, eqb→eq}
 use lib.ListN.{length, set, getD, length-append, List·getD-eq-default}
-use mir.Facts.{or-yes, or-no}
+use mir.Facts.{and-yes, or-yes, or-no}
 use borrow.Author.Tests.{eqb-true, eq-eqb, ne-eqb}
 use Rattle.judge.specs.declared.fault.ModelFault.{ModelFault}
 use Rattle.judge.specs.declared.fault.ModelFault.the-variants.{Size, Spelling as Misspelling, LongName, WrongCount, TooDeep, ManyAtoms, ManyNodes, Repeated}
@@ -23,6 +23,7 @@ use Rattle.judge.specs.declared.text.Got.{Got}
 use Rattle.judge.specs.declared.text.Got.the-variants.{Past, Fault as Faulty}
 use Rattle.judge.specs.Types.{Operator, sequence, choice, interleaving}
 use Rattle.judge.specs.Bytes.{Text, isLetter}
+use Rattle.judge.specs.Bytes.Laws.{T-true}
 use Rattle.judge.specs.Tests.{by-test}
 use Rattle.judge.specs.Tree.{leaf, group, marked, Members, none, _▹_, size, mapMembers}
 use Rattle.judge.specs.Tree.Map.{size-map}
@@ -124,10 +125,10 @@ module _ (x : Text) (work names : List ℕ) (c : Cursor) (left : ℕ) (k : List 
             })
 
         -- the group was read: its mark is left
-        module _ (work₁ names′ : List ℕ) (d : Cursor) (g : Closed x work₁ names′ (c .at + 1) (tail (stackOf (here x (c .at + 1)))) d) where
+        module _ (work₁ names′ : List ℕ) (g : Got) (y : GroupRead x work₁ names′ (c .at + 1) (tail (stackOf (here x (c .at + 1)))) g) (d : Cursor) (u : g ≡ Past d) where
           closed : Closed x work₁ names′ (c .at + 1) k d
           unfolding inside-stack
-          closed = rw inside-stack at g
+          closed = let v : Closed x work₁ names′ (c .at + 1) (tail (stackOf (here x (c .at + 1)))) d = rw u at y in rw inside-stack at v
 
           pub closed-fits : d .at ≤ length x
           unfolding closed
@@ -275,10 +276,16 @@ module _ (x : Text) (work names : List ℕ) (c : Cursor) (left node sign members
       let n : length (stackNodes (i .top ∷ below)) ≡ c .nodes = holds-count nodeOf 128 work (c .nodes) (stackNodes (i .top ∷ below)) (i .expecting .held) in
       omega (arith, n, length-append (stackNodes below) (frameNodes (i .top)), frame-few (i .top), i .node-is, i .expecting .held .few)
 
+  pub empty-inside : (eqb sign 0 && is x (code ")") (c .at)) ≡ true → c .at < length x
+  empty-inside y = stands-inside x (code ")") (c .at) (omega arith) (T-true (is x (code ")") (c .at)) (and-yes (eqb sign 0) (is x (code ")") (c .at)) (rw y tt) .1))
+
   -- `()`
-  pub group-empty : sign ≡ 0 → is x (code ")") (c .at) ≡ true → Closed x work names (c .at) below (record { at = c .at + 1; nodes = c .nodes; names = c .names })
-  group-empty z e = go (i .top) (i .expecting) (i .signs ∙ z)
+  pub group-empty : (eqb sign 0 && is x (code ")") (c .at)) ≡ true → Closed x work names (c .at) below (record { at = c .at + 1; nodes = c .nodes; names = c .names })
+  group-empty y = go (i .top) (i .expecting) (i .signs ∙ eqb→eq sign 0 (and-yes (eqb sign 0) (is x (code ")") (c .at)) (rw y tt) .0))
     where
+      e : is x (code ")") (c .at) ≡ true
+      e = T-true (is x (code ")") (c .at)) (and-yes (eqb sign 0) (is x (code ")") (c .at)) (rw y tt) .1)
+
       go : (f : Frame) → Expecting x work names c (f ∷ below) → frameSign f ≡ 0 → Closed x work names (c .at) below (record { at = c .at + 1; nodes = c .nodes; names = c .names })
       go (signed o u ts) r q = absurd (not-zero o q)
       go opened r q =
@@ -301,18 +308,21 @@ module _ (x : Text) (work names : List ℕ) (c : Cursor) (left node sign members
             named = r .named;
           }
 
-  pub group-ready : (sign ≡ 0 → is x (code ")") (c .at) ≡ false) → Ready x work names c left (stackOf (here x (c .at)))
+  pub group-ready : (eqb sign 0 && is x (code ")") (c .at)) ≡ false → Ready x work names c left (stackOf (here x (c .at)))
   unfolding stack-is
   group-ready n = rw stack-is (record { expecting = i .expecting; no-end = shuts (i .top) (i .signs); room = omega (arith, i .room) })
     where
       shuts : (f : Frame) → frameSign f ≡ sign → is x (code ")") (c .at) ≡ true → shut (f ∷ below) ≡ dead
-      shuts opened q e = absurd (true≢false (sym e ∙ n (sym q)))
+      shuts opened q e = absurd (true≢false (sym (rw (← q, e)) ∙ n))
       shuts (signed o u ts) q e = refl
 
   -- behind a member
-  module _ (work′ names′ : List ℕ) (d : Cursor) (m : Behind x work′ names′ (c .at) (stackOf (here x (c .at))) d) where
+  module _ (work′ names′ : List ℕ) (g : Got) (y : Member x work′ names′ (c .at) (stackOf (here x (c .at))) g) (d : Cursor) (u : g ≡ Past d) where
+    m : Behind x work′ names′ (c .at) (stackOf (here x (c .at))) d
+    m = rw u at y
+
     read : Read x work′ (m .spots) (c .at) (i .top ∷ below) d
-    unfolding stack-is
+    unfolding stack-is m
     read = rw stack-is at (m .read)
 
     pub member-fits : (c .at < d .at) × (d .at ≤ length x)
@@ -335,9 +345,13 @@ module _ (x : Text) (work names : List ℕ) (c : Cursor) (left node sign members
     unfolding read
     nodes-held = rw (frame-nodes (i .top), append-assoc) at (read .held)
 
-    module _ (h : d .at < length x) where
+    module _ (v : d .at ≡ length x → ⊥) where
+      pub past-inside : d .at < length x
+      unfolding read
+      past-inside = omega (arith, read .at-is .within)
+
       pub group-ends : getD x (d .at) 0 ≡ code ")" → (w : ℕ) → nodeOf w ≡ plain (Group (signBy sign) (members + 1)) → Closed x (set work′ node w) names′ (c .at) below (record { at = d .at + 1; nodes = d .nodes; names = d .names })
-      unfolding read nodes-held
+      unfolding read nodes-held past-inside m
       group-ends b w q =
           let s : step (at (i .top ∷ below) (behind (read .tree))) (getD x (d .at) 0) ≡ at below (after (marked Plain (group (signBy (frameSign (i .top))) (closedMembers (i .top) (read .tree))))) = read .settled ∙ rw b (close-ends (i .top) below (read .tree)) in
           record {
@@ -345,7 +359,7 @@ module _ (x : Text) (work names : List ℕ) (c : Cursor) (left node sign members
             on = omega (arith, read .on);
             sign = signBy (frameSign (i .top));
             members = closedMembers (i .top) (read .tree);
-            at-is = step-on x (m .spots) (d .at) _ (read .at-is) _ h s (not-expecting (i .top ∷ below) (read .tree)) tt refl;
+            at-is = step-on x (m .spots) (d .at) _ (read .at-is) _ past-inside s (not-expecting (i .top ∷ below) (read .tree)) tt refl;
             held = rw (closed-nodes (i .top) (read .tree)) (holds-set nodeOf 128 work′ (d .nodes) (stackNodes below) (behindBracket (i .top) ++ treeNodes (read .tree)) unused nodes-held node (i .node-is) w (plain (Group (signBy (frameSign (i .top))) (frameSize (i .top) + 1))) (rw (i .signs, i .sizes) q));
             named = m .named;
           }
@@ -360,15 +374,15 @@ module _ (x : Text) (work names : List ℕ) (c : Cursor) (left node sign members
           grown = close-joins (i .top) below (read .tree) (getD x (d .at) 0) (ne-eqb (getD x (d .at) 0) (code ")") b) (rw (i .signs) j)
 
           parts : At x (m .spots) (d .at + 1) (at (grown .top ∷ below) expect)
-          unfolding read grown
-          parts = step-on x (m .spots) (d .at) _ (read .at-is) (at (grown .top ∷ below) expect) h (read .settled ∙ grown .is) (not-expecting (i .top ∷ below) (read .tree)) tt refl
+          unfolding read grown past-inside m
+          parts = step-on x (m .spots) (d .at) _ (read .at-is) (at (grown .top ∷ below) expect) past-inside (read .settled ∙ grown .is) (not-expecting (i .top ∷ below) (read .tree)) tt refl
 
           pub same-group : tail (stackOf (here x (d .at + 1))) ≡ below
           unfolding parts
           same-group = ap (λ (s : State). tail (stackOf s)) (parts .is)
 
           pub group-joins : Inside x work′ names′ (record { at = d .at + 1; nodes = d .nodes; names = d .names }) left node (getD x (d .at) 0) (members + 1) (tail (stackOf (here x (d .at + 1))))
-          unfolding parts same-group grown nodes-held read
+          unfolding parts same-group grown nodes-held read m
           group-joins =
               rw same-group
               (record {

@@ -132,6 +132,13 @@ pub record Inside (x : Text) (work names : List ℕ) (c : Cursor) (left node sig
   pub node-is : node ≡ length (stackNodes k)
   pub room : length k + 1 + left ≡ 16
 
+-- a fault goes through
+pub member-fault : (x : Text) (work names : List ℕ) (p : ℕ) (k : List Frame) (g : Got) (f : ModelFault) (q : ℕ) → Member x work names p k g → g ≡ Faulty f q → Answers x (refused f q)
+member-fault x work names p k g f q m e = rw e at m
+
+pub group-fault : (x : Text) (work names : List ℕ) (p : ℕ) (k : List Frame) (g : Got) (f : ModelFault) (q : ℕ) → GroupRead x work names p k g → g ≡ Faulty f q → Answers x (refused f q)
+group-fault x work names p k g f q m e = rw e at m
+
 -- the mark
 abbrev headKind : Node Spelling → Kind
 headKind (leaf a) = Atom (countsOf (a .count) .min) (countsOf (a .count) .max)
