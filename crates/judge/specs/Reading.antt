@@ -9,6 +9,7 @@ pub mod Count
 pub mod Walk
 pub mod Atom
 pub mod Group
+pub mod Whole
 use mathlib.Core.Bool.{Bool, true, false, cond, _&&_}
 use mathlib.Core.List.{List, [], _∷_, _++_, map}
 use Prim.Native.Nat.{ℕ, suc, _-_}

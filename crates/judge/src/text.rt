@@ -10,7 +10,7 @@ ghost use Rattle.judge.specs.Bytes.{isLetter, isDigit, isInner};
 ghost use Rattle.judge.specs.Fault.{is, nameFrom};
 ghost use Rattle.judge.specs.Fault.Ties.{capped, places};
 ghost use Rattle.judge.specs.declared.rule.Kind.the-variants.{Atom, Group};
-ghost use Rattle.judge.specs.Reading.{ruleWith, namesWith, refusal, sameText, partsOf, numberIn};
+ghost use Rattle.judge.specs.Reading.{ruleWith, namesWith, refusal, reading, sameText, partsOf, numberIn};
 ghost use Rattle.judge.specs.Reading.Packed.{word, nodeOf, plain, optional, isSign, signBy, kindBy, markBy, placeOf};
 ghost use Rattle.judge.specs.Reading.Search.{among, Comparable};
 ghost use Rattle.judge.specs.Rule.{unused};
@@ -602,7 +602,9 @@ fn names_of(words: &[u32; MAX_ATOMS], len: usize) -> Names
     names
 }
 
-pub fn read_model(text: &[u8]) -> Reading {
+pub fn read_model(text: &[u8]) -> Reading
+    ensures { λ r. ⌜ r ≡ reading (now (text .entry)) ⌝ }
+{
     if (text.len() == 0) | (MAX_TEXT < text.len()) {
         return refused(ModelFault::Size, 0);
     }
