@@ -8,6 +8,7 @@ pub mod Fit
 pub mod Length
 pub mod Laws
 pub mod Test
+pub mod Readable
 use mathlib.Core.Path.{_≡_}
 use mathlib.Core.Bool.{false}
 use mathlib.Core.List.{[], List·Memᴰ}
@@ -18,6 +19,7 @@ use Rattle.judge.specs.Syntax.{Spelling, Syntax, names}
 use Rattle.judge.specs.Limits.{maxName, maxDepth, maxAtoms, maxNodes}
 use Rattle.judge.specs.Fault.{wrong}
 
+-- 12 to 17, said of the tree. 10 follows: `Accept.Length.text-fits`, `text-some`.
 pub record Within (t : Syntax) : Type 0 where
   pub short : (a : Spelling) → List·Memᴰ a (leaves t) → length (a .name) ≤ maxName
   pub right : (a : Spelling) → List·Memᴰ a (leaves t) → wrong (a .count) ≡ false

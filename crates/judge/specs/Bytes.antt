@@ -1,5 +1,7 @@
 -- Bytes of texts, and the tests of a byte that the notation knows: document 01, "Model text".
 pub mod Laws
+pub mod Numeral
+pub mod Runs
 use mathlib.Core.Bool.{Bool, true, false, cond, not, _&&_, _||_}
 use mathlib.Core.List.{List, [], _∷_, _++_}
 use Prim.Native.Nat.{ℕ, _+_, _*_, _-_}

@@ -1,32 +1,22 @@
 -- Where names and nodes begin in the text of a tree.
-use mathlib.Core.Path.{_≡_, refl, sym, ap, _∙_}
-use mathlib.Core.Logic.{_⊎_, by-cases}
-use mathlib.Core.Bool.{Bool, true, false, not, cond, _&&_, _||_, and-false}
-use mathlib.Core.List.{List, [], _∷_, _++_, map, map-append, append-assoc, append-nil, List·Memᴰ, List·Memᴰ·head, Memᴰ·append-left, Memᴰ·append-right}
-use Prim.Native.Nat.{ℕ, zero, suc, _+_, _≤_, _<_}
+use mathlib.Core.Path.{_≡_, refl, ap, _∙_}
+use mathlib.Core.Bool.{Bool, true, cond, _&&_, _||_, and-false}
+use mathlib.Core.List.{List, [], _∷_, _++_, map, map-append, append-assoc, append-nil}
+use Prim.Native.Nat.{ℕ, zero, suc, _+_, _<_}
 use Prim.Native.Char.{code}
-use native.Mathlib.Decide.{decLt}
 use native.Mathlib.Omega.{arith}
 use lib.Dec.{T, eqb}
-use lib.ListN.{length, drop, getD, length-append, List·getD-eq-default}
+use lib.ListN.{length, getD}
 use mir.Facts.{and-yes}
-use borrow.Author.Tests.{not-true}
-use Rattle.judge.specs.Bytes.{Text, bytes, isLetter, isInner, all, isName, front}
-use Rattle.judge.specs.Bytes.Laws.{T-true, apart, letter-inner}
-use Rattle.judge.specs.Tree.{Node, leaf, group, Tree, marked, Members, none, _▹_, nodeLeaves, leaves, membersLeaves, nodes, nodeWeight, weight, membersWeight}
-use Rattle.judge.specs.Tree.{NodeFormed, Formed, MembersFormed}
-use Rattle.judge.specs.Syntax.{Count, unwritten, between, onward, Spelling, Syntax, countText, text, CountFormed, SpellingFormed, names}
-use Rattle.judge.specs.Fault.{isOpener, is, fresh, nameAt, nodeAt, nameFrom, tally}
+use Rattle.judge.specs.Bytes.{Text, isLetter, isInner, all, isName, front}
+use Rattle.judge.specs.Bytes.Laws.{T-true, letter-inner}
+use Rattle.judge.specs.Bytes.Runs.{stops, front-stops}
+use Rattle.judge.specs.Tree.{Node, leaf, group, marked, Members, none, _▹_, nodeLeaves, membersLeaves, nodes, nodeWeight, membersWeight, Formed}
+use Rattle.judge.specs.Syntax.{Spelling, Syntax, names, text, SpellingFormed}
+use Rattle.judge.specs.Fault.{fresh, nameAt, nodeAt, nameFrom, tally}
 use Rattle.judge.specs.Fault.Answered.{byte-inside, name-inside}
-use Rattle.judge.specs.Accept.Scan.{isCounting, stops, Reading, uncounted, nodeOn, treeOn, membersOn, scan-text}
-use Rattle.judge.specs.Accept.Places.{tally-same, at, listOn, listed, start-at, start-place}
-
-pub front-stops : (f : ℕ → Bool) (u w : Text) → T (all f u) → T (stops f w) → front f (u ++ w) ≡ u
-front-stops f [] [] h e = refl
-front-stops f [] (b ∷ w) h e = rw (not-true (f b) (T-true (not (f b)) e))
-front-stops f (b ∷ u) w h e =
-    let q = and-yes (f b) (all f u) h in
-    rw (T-true (f b) (q .0), front-stops f u w (q .1) e)
+use Rattle.judge.specs.Accept.Scan.{Reading, uncounted, nodeOn, treeOn, membersOn, scan-text}
+use Rattle.judge.specs.Accept.Places.{at, listOn, listed, start-at, start-place}
 
 -- a name, read at a place where it may begin
 module _ {A : Type 0} (f : Bool → ℕ → Bool) (g : Text → A) where
@@ -102,11 +92,11 @@ mutual
   members-nodes none r = omega arith
   members-nodes (t ▹ ts) r = omega (arith, tree-nodes t (membersOn nodeReading ts r), members-nodes ts r)
 
-name-same : (x : Text) (p : ℕ) → nameAt x p ≡ at nameTest (front isInner) true x p
+name-same : (x : Text) (p : ℕ) → nameAt x p ≡ at nameTest true x p
 name-same x zero = refl
 name-same x (suc p) = refl
 
-node-same : (x : Text) (p : ℕ) → nodeAt x p ≡ at nodeTest (λ x. tt {0}) true x p
+node-same : (x : Text) (p : ℕ) → nodeAt x p ≡ at nodeTest true x p
 node-same x zero = refl
 node-same x (suc p) = refl
 
@@ -120,7 +110,8 @@ module _ (t : Syntax) (formed : Formed SpellingFormed t) where
   -- the name that begins at p is the one before which as many stand as before p
   pub name-at : (p : ℕ) → T (nameAt (text t) p)
       → (tally (nameAt (text t)) p < length (names t)) × (getD (names t) (tally (nameAt (text t)) p) [] ≡ nameFrom (text t) p)
-  name-at p h = rw names-listed at (start-at nameTest (front isInner) (text t) (nameAt (text t)) (name-same (text t)) [] p (name-inside (text t) p h) h)
+  name-at p h =
+      rw names-listed at (start-at nameTest (front isInner) (text t) (nameAt (text t)) (name-same (text t)) [] p (name-inside (text t) p h) h)
 
   -- where the k-th name begins
   pub record NamePlace (k : ℕ) : Type 0 where
@@ -138,7 +129,8 @@ module _ (t : Syntax) (formed : Formed SpellingFormed t) where
   nodes-listed = ap length (scan-text nodeReading t formed) ∙ tree-nodes t [] ∙ omega arith
 
   pub node-at : (p : ℕ) → T (nodeAt (text t) p) → tally (nodeAt (text t)) p < nodes t
-  node-at p h = rw nodes-listed at (start-at nodeTest (λ x. tt {0}) (text t) (nodeAt (text t)) (node-same (text t)) tt p (node-inside (text t) p h) h .0)
+  node-at p h =
+      rw nodes-listed at (start-at nodeTest (λ x. tt {0}) (text t) (nodeAt (text t)) (node-same (text t)) tt p (node-inside (text t) p h) h .0)
 
   pub node-place : (k : ℕ) → k < nodes t → (p : ℕ) × T (nodeAt (text t) p) × (tally (nodeAt (text t)) p ≡ k)
   node-place k h = start-place nodeTest (λ x. tt {0}) (text t) (nodeAt (text t)) (node-same (text t)) k (rw nodes-listed h)

@@ -14,6 +14,7 @@ use Rattle.judge.specs.Types.{Ty, ε, ConflictFree}
 use Rattle.judge.specs.Tree.{Formed, atoms, nodes, depth}
 use Rattle.judge.specs.Tree.Map.{weight-map, depth-map}
 use Rattle.judge.specs.Accept.Laws.{accepted-within, accepted-counts}
+use Rattle.judge.specs.Accept.Readable.{readable as written}
 use Rattle.judge.specs.Model.{Model, countsOf, modelOf, encode, typeBy, typeOf}
 use Rattle.judge.specs.Model.Eval.{eval, eval-tree}
 use Rattle.judge.specs.Model.Laws.{length-encode}
@@ -37,7 +38,7 @@ readable-well-formed r (x, h) =
     }
 
 well-formed-readable : (r : Rule) → WellFormed r → Readable r
-well-formed-readable r w = ?
+well-formed-readable r w = rw (w .rule-is) (written (w .model) (w .formed) (w .shallow) (w .few-atoms) (w .few-nodes))
 
 length-rule : (t : Model) → nodes t ≤ maxNodes → length (ruleOf t .nodes) ≡ maxNodes
 length-rule t h =
@@ -61,7 +62,7 @@ readable-is r = (
 unfoldable pub ruleType : Rule → Ty
 ruleType r = getD (eval typeBy (used r) 1) 0 ε
 
-rule-type : (t : Model) → ruleType (ruleOf t) ≡ typeOf t
+pub rule-type : (t : Model) → ruleType (ruleOf t) ≡ typeOf t
 unfolding ruleType
 rule-type t = rw (used-is t, eval-tree typeBy t 1)
 
