@@ -2,6 +2,7 @@
 
 mod check;
 pub mod fault;
+pub mod nodes;
 pub mod row;
 pub mod rule;
 pub mod text;
