@@ -5,6 +5,7 @@
 --   Fault                          what is wrong with a text, and the answer to it
 --   Model, Rule                    models, the nodes of a rule, and the type that it means
 --   Judge                          what a row is answered
+--   Book, Session                  what a list of calls is answered, and what each method of a session does
 pub mod Tests
 pub mod Word
 pub mod Types
@@ -17,3 +18,5 @@ pub mod Fault
 pub mod Model
 pub mod Rule
 pub mod Judge
+pub mod Book
+pub mod Session

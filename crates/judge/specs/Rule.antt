@@ -1,6 +1,7 @@
 -- Rules: which model text reads into which rule, and the type that a rule means.
 pub mod Laws
 pub mod Test
+pub mod Decide
 use mathlib.Core.Path.{_≡_}
 use mathlib.Core.List.{List, [], _∷_, _++_}
 use Prim.Native.Nat.{ℕ, _+_, _-_}

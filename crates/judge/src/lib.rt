@@ -3,4 +3,5 @@
 pub mod fault;
 pub mod row;
 pub mod rule;
+pub mod session;
 pub mod verdict;

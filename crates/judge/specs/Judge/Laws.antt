@@ -1,0 +1,55 @@
+-- Every row has one answer, and `judged` computes it.
+use mathlib.Core.Path.{_≡_, refl, sym, ap, _∙_, subst}
+use mathlib.Core.Logic.{_↔_}
+use mathlib.Core.Bool.{Bool, true, false, cond, _&&_, true≢false, false≢true}
+use mathlib.Core.List.{List, [], _∷_}
+use Prim.Native.Nat.{ℕ, _≤_, _<_}
+use native.Mathlib.Omega.{arith}
+use lib.Dec.{leb, eqb}
+use lib.ListN.{length}
+use Rattle.judge.specs.declared.fault.JudgeFault.the-variants.{NoModel, LongRow, NoName}
+use Rattle.judge.specs.declared.rule.Rule.{Rule}
+use Rattle.judge.specs.declared.verdict.Judged.{Judged}
+use Rattle.judge.specs.declared.verdict.Judged.the-variants.{Verdict, Refused}
+use Rattle.judge.specs.Tests.{by-test, Tells, tells-le, tells-and}
+use Rattle.judge.specs.Word.{Word}
+use Rattle.judge.specs.Types.{Ty, ε, ConflictFree}
+use Rattle.judge.specs.Verdict.{Says}
+use Rattle.judge.specs.Verdict.Laws.{verdict, verdict-says, says-once}
+use Rattle.judge.specs.Rule.{Readable, Means, names}
+use Rattle.judge.specs.Rule.Laws.{means-once}
+use Rattle.judge.specs.Rule.Decide.{readable, readable-is, ruleType, type-means, means-type, means-conflict-free}
+use Rattle.judge.specs.Judge.{Upto, Judges}
+use Rattle.judge.specs.Limits.{maxRow}
+
+abbrev pub upto : ℕ → Word → Bool
+upto n [] = true
+upto n (x ∷ w) = leb x n && upto n w
+
+pub upto-tells : (n : ℕ) (w : Word) → Tells (upto n w) (Upto n w)
+upto-tells n [] = (λ e. tt, λ h. refl)
+upto-tells n (x ∷ w) = tells-and (leb x n) (upto n w) (tells-le x n) (upto-tells n w)
+
+unfoldable pub judged : Rule → Word → Judged
+judged r w =
+    cond (readable r)
+    (cond (leb (length w) maxRow) (cond (upto (names r) w) (Verdict (verdict (ruleType r) w)) (Refused NoName)) (Refused LongRow))
+    (Refused NoModel)
+
+-- a test that fails tells that P does not hold
+untold : (b : Bool) {P : Type 0} → Tells b P → b ≡ false → ¬ P
+untold b t e p = true≢false (sym (t .1 p) ∙ e)
+
+pub judges : (r : Rule) (w : Word) → Judges r w (judged r w)
+unfolding judged
+judges r w =
+    by-test (readable r)
+    (λ a. let i = readable-is r .0 a in
+    by-test (leb (length w) maxRow)
+    (λ b. let j = tells-le (length w) maxRow .0 b in
+    by-test (upto (names r) w)
+    (λ c. let m = type-means i in
+    rw (a, b, c) (ruleType r, m, j, upto-tells (names r) w .0 c, verdict-says (ruleType r) (means-conflict-free m) w))
+    (λ c. rw (a, b, c) (i, j, untold (upto (names r) w) (upto-tells (names r) w) c)))
+    (λ b. let n = untold (leb (length w) maxRow) (tells-le (length w) maxRow) b in rw (a, b) (i, omega arith)))
+    (λ a. rw a (untold (readable r) (readable-is r) a))
