@@ -1,5 +1,8 @@
--- What each method of a session answers, and what it leaves in the trail: document 01, "Sessions", with refusals 40 and 42 to 45 in the order tried.
--- A refused call hands back the session that it was given, and leaves every place as it was.
+-- What each call of a session answers, and what it leaves: document 01, "Sessions", with refusals 40 and 42 to 45 in the order tried.
+-- The methods of src/session.rt promise just this, of any session and any trail.
+pub mod Laws
+pub mod Calls
+pub mod Theorem
 use mathlib.Core.Bool.{Bool, true, cond, _&&_}
 use mathlib.Core.List.{List, [], _∷_}
 use Prim.Native.Nat.{ℕ, _+_, _-_}
@@ -17,63 +20,63 @@ use Rattle.judge.specs.Verdict.Laws.{verdict}
 use Rattle.judge.specs.Rule.{names}
 use Rattle.judge.specs.Rule.Decide.{readable, ruleType}
 use Rattle.judge.specs.Judge.Laws.{upto}
-use Rattle.judge.specs.Book.{room}
+use Rattle.judge.specs.Book.{Call, opening, adding, takingBack, asking, room}
+
+-- the places of a trail
+abbrev pub Trail : Type 0
+Trail = List ℕ
 
 -- what a free place holds
 abbrev pub free : ℕ
 free = 65535
 
-abbrev pub allFree : List ℕ → Bool
+abbrev pub allFree : Trail → Bool
 allFree [] = true
 allFree (x ∷ t) = eqb x free && allFree t
 
--- 42 does not stand: no more children than room, no filled place above the rule's names, every other place free
-unfoldable pub intact : Session → List ℕ → Bool
+-- 42 does not stand: no more children than room, no filled place above the rule's names, and every other place free, past the room too
+unfoldable pub intact : Session → Trail → Bool
 intact s t = leb (s .children) (room (length t)) && (upto (names (s .rule)) (take (s .children) t) && allFree (drop (s .children) t))
 
-unfoldable pub opening : Rule → Outcome
-opening r = cond (readable r) Done (Refused NoModel)
+-- every call but opening tries 40 and 42 first
+unfoldable pub checked : Session → Trail → Outcome → Outcome
+checked s t o = cond (readable (s .rule)) (cond (intact s t) o (Refused BadTrail)) (Refused NoModel)
 
-unfoldable pub adding : Session → ℕ → List ℕ → Outcome
-adding s x t =
-    cond (readable (s .rule))
-    (cond (intact s t)
-    (cond (leb x (names (s .rule))) (cond (ltb (s .children) (room (length t))) Done (Refused NoRoom)) (Refused NoName))
-    (Refused BadTrail))
-    (Refused NoModel)
+unfoldable pub outcome : Call → Session → Trail → Outcome
+outcome (opening r) s t = cond (readable r) Done (Refused NoModel)
+outcome (adding x) s t =
+    checked s t (cond (leb x (names (s .rule))) (cond (ltb (s .children) (room (length t))) Done (Refused NoRoom)) (Refused NoName))
+outcome takingBack s t = checked s t (cond (ltb 0 (s .children)) Done (Refused NoChildren))
+outcome asking s t = checked s t Done
 
-unfoldable pub takingBack : Session → List ℕ → Outcome
-takingBack s t =
-    cond (readable (s .rule))
-    (cond (intact s t) (cond (ltb 0 (s .children)) Done (Refused NoChildren)) (Refused BadTrail))
-    (Refused NoModel)
-
--- what is new where the call was done, and else what was
+-- what is new where the call was done, and what was where it was refused
 abbrev pub whenDone : {A : Type 0} → Outcome → A → A → A
 whenDone Done new old = new
 whenDone (Refused f) new old = old
 
-abbrev pub opened : Session → Rule → Step
-opened s r = record { session = whenDone (opening r) (record { rule = r; children = 0 }) s; outcome = opening r }
+abbrev pub newSession : Call → Session → Session
+newSession (opening r) s = record { rule = r; children = 0 }
+newSession (adding x) s = record { rule = s .rule; children = s .children + 1 }
+newSession takingBack s = record { rule = s .rule; children = s .children - 1 }
+newSession asking s = s
 
-abbrev pub openedTrail : Rule → List ℕ → List ℕ
-openedTrail r t = whenDone (opening r) (replicate (length t) free) t
+abbrev pub newTrail : Call → Session → Trail → Trail
+newTrail (opening r) s t = replicate (length t) free
+newTrail (adding x) s t = set t (s .children) x
+newTrail takingBack s t = set t (s .children - 1) free
+newTrail asking s t = t
 
-abbrev pub added : Session → ℕ → List ℕ → Step
-added s x t = record { session = whenDone (adding s x t) (record { rule = s .rule; children = s .children + 1 }) s; outcome = adding s x t }
+-- the answer of opening, adding and taking back, and the trail at exit
+abbrev pub step : Call → Session → Trail → Step
+step q s t = record { session = whenDone (outcome q s t) (newSession q s) s; outcome = outcome q s t }
 
-abbrev pub addedTrail : Session → ℕ → List ℕ → List ℕ
-addedTrail s x t = whenDone (adding s x t) (set t (s .children) x) t
+abbrev pub trailAfter : Call → Session → Trail → Trail
+trailAfter q s t = whenDone (outcome q s t) (newTrail q s t) t
 
-abbrev pub takenBack : Session → List ℕ → Step
-takenBack s t = record { session = whenDone (takingBack s t) (record { rule = s .rule; children = s .children - 1 }) s; outcome = takingBack s t }
+-- the answer of asking, which hands back no session and writes nothing
+abbrev pub judgedBy : Outcome → Session → Trail → Judged
+judgedBy Done s t = Verdict (verdict (ruleType (s .rule)) (take (s .children) t))
+judgedBy (Refused f) s t = RefusedRow f
 
-abbrev pub takenBackTrail : Session → List ℕ → List ℕ
-takenBackTrail s t = whenDone (takingBack s t) (set t (s .children - 1) free) t
-
--- asking writes nothing and hands back no session
-unfoldable pub asked : Session → List ℕ → Judged
-asked s t =
-    cond (readable (s .rule))
-    (cond (intact s t) (Verdict (verdict (ruleType (s .rule)) (take (s .children) t))) (RefusedRow BadTrail))
-    (RefusedRow NoModel)
+abbrev pub asked : Session → Trail → Judged
+asked s t = judgedBy (outcome asking s t) s t

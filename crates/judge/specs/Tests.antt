@@ -1,5 +1,5 @@
 -- Tests: the two cases of one, and what it tells.
-use mathlib.Core.Path.{_≡_, refl}
+use mathlib.Core.Path.{_≡_, refl, sym, _∙_}
 use mathlib.Core.Logic.{_↔_, _⊎_, inl, inr, ⊎-elim}
 use mathlib.Core.Bool.{Bool, true, false, not, _&&_, _||_, true≢false, false≢true}
 use Prim.Native.Nat.{ℕ, _≤_}
@@ -14,6 +14,10 @@ by-test false f g = g refl
 -- the test tells whether P
 abbrev pub Tells : Bool → Type 0 → Type 0
 Tells b P = (b ≡ true) ↔ P
+
+-- a test that fails tells that P does not hold
+pub untold : (b : Bool) {P : Type 0} → Tells b P → b ≡ false → ¬ P
+untold b t e p = true≢false (sym (t .1 p) ∙ e)
 
 pub tells-le : (m n : ℕ) → Tells (leb m n) (m ≤ n)
 tells-le m n = (leb-true m n, le-leb m n)
