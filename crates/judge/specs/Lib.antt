@@ -6,6 +6,7 @@
 --   Model, Rule                    models, the nodes of a rule, and the type that it means
 --   Judge                          what a row is answered
 --   Book, Session                  what a list of calls is answered, and what each method of a session does
+--   Stack                          lists: a stack that grows down in an array
 pub mod Tests
 pub mod Word
 pub mod Types
@@ -20,3 +21,4 @@ pub mod Rule
 pub mod Judge
 pub mod Book
 pub mod Session
+pub mod Stack

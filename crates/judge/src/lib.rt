@@ -1,5 +1,6 @@
 // The judge: rules, and what they say of rows.
 
+mod check;
 pub mod fault;
 pub mod row;
 pub mod rule;

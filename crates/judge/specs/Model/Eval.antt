@@ -121,6 +121,10 @@ after-range : (κ : Kind) (k : ℕ) → (k ≤ after κ k) × (after κ k ≤ k 
 after-range (Atom lo hi) k = (omega arith, omega arith)
 after-range (Group s n) k = (omega arith, omega arith)
 
+after-from : (κ : Kind) (k : ℕ) → after κ k ≡ after κ 0 + k
+after-from (Atom lo hi) k = omega arith
+after-from (Group s n) k = rw zero-add
+
 after-injective : (κ : Kind) (a b : ℕ) → after κ a ≡ after κ b → a ≡ b
 after-injective (Atom lo hi) a b e = omega arith
 after-injective (Group s n) a b e = e
@@ -131,6 +135,11 @@ number-range (x ∷ l) k =
     let a = after-range (x .kind) k in
     let b = number-range l (after (x .kind) k) in
     (omega arith, omega arith)
+
+-- a count that begins later ends as much later
+pub number-from : (l : List RuleNode) (k : ℕ) → number l k ≡ number l 0 + k
+number-from [] k = rw zero-add
+number-from (x ∷ l) k = omega (arith, number-from l (after (x .kind) k), number-from l (after (x .kind) 0), after-from (x .kind) k)
 
 pub number-append : (l r : List RuleNode) (k : ℕ) → number (l ++ r) k ≡ number r (number l k)
 number-append [] r k = refl

@@ -7,8 +7,8 @@ use Prim.Native.Nat.{ℕ, zero, suc, _+_, _-_, _≤_, max, min}
 use native.Mathlib.Nat.{min-eq-left, zero-add}
 use native.Mathlib.Omega.{arith}
 use lib.Dec.{leb, eqb, leb·zero}
-use borrow.Author.Tests.{leb-true, le-leb, eqb-true, eq-eqb}
-use lib.ListN.{length, take, drop, replicate, length-take, length-drop, take-append-drop}
+use borrow.Author.Tests.{leb-true, le-leb, eqb-true}
+use lib.ListN.{length, drop, replicate, length-take, length-drop, take-append-drop}
 use lib.Seq.{drop-at}
 use Rattle.judge.specs.declared.rule.Upper.{Upper}
 use Rattle.judge.specs.declared.rule.Upper.the-variants.{Number, Unbounded}
@@ -24,11 +24,11 @@ use Rattle.judge.specs.Limits.{maxCount, maxDepth, maxAtoms, maxNodes}
 use Rattle.judge.specs.Tree.{Node, leaf, group, marked, Members, none, _▹_, SignFits, size, weight, atoms, nodes, depth, nodeDepth, membersDepth}
 use Rattle.judge.specs.Tree.{NodeFormed, Formed, MembersFormed}
 use Rattle.judge.specs.Model.{Model, Counts, Algebra, encode, encodeNode, encodeAll, fold, foldNode, foldAll}
-use Rattle.judge.specs.Model.Eval.{needed, count, eval, eval-tree, length-eval, number, number-encode}
-use Rattle.judge.specs.Model.Laws.{Enough, count-encodeAll, decode, encoded, length-encode}
+use Rattle.judge.specs.Model.Eval.{after, needed, count, eval, length-eval, number, number-encode}
+use Rattle.judge.specs.Model.Laws.{Enough, count-encodeAll, decode, length-encode}
 use Rattle.judge.specs.Model.Types.{UpperFits, CountsFit}
 use Rattle.judge.specs.Rule.{unused, ruleOf}
-use Rattle.judge.specs.Rule.Laws.{used, used-is}
+use Rattle.judge.specs.Rule.Laws.{used, used-is, rule-eval}
 
 pub record WellFormed (r : Rule) : Type 0 where
   pub model : Model
@@ -112,34 +112,36 @@ sound-enough (x ∷ l) h =
     let j = and-eq-true-iff (leb (needed (x .kind)) (count l)) (kindFits (x .kind)) .0 (i .0) in
     (leb-true (needed (x .kind)) (count l) (j .0), sound-enough l (i .1))
 
-abbrev pub unsigned : Sign → Bool
-unsigned None = true
-unsigned Sequence = false
-unsigned Choice = false
-unsigned Interleaving = false
-
-abbrev pub blank : Kind → Bool
-blank (Atom lo hi) = false
-blank (Group s n) = unsigned s && eqb n 0
-
 abbrev pub plain : Mark → Bool
 plain Plain = true
 plain Optional = false
 
+-- the node of `()`: only no sign fits a group of no members
 abbrev pub isUnused : RuleNode → Bool
-isUnused x = blank (x .kind) && plain (x .mark)
+isUnused x = eqb (after (x .kind) 0) 0 && eqb (needed (x .kind)) 0 && kindFits (x .kind) && plain (x .mark)
 
 abbrev pub allUnused : List RuleNode → Bool
 allUnused [] = true
 allUnused (x ∷ l) = isUnused x && allUnused l
 
-unused-is : (κ : Kind) (m : Mark) → (blank κ && plain m) ≡ true → _≡_ {A = RuleNode} (record { kind = κ; mark = m }) unused
+no-sign : (s : Sign) → signFits s 0 ≡ true → s ≡ None
+no-sign None e = refl
+no-sign Sequence e = absurd (false≢true e)
+no-sign Choice e = absurd (false≢true e)
+no-sign Interleaving e = absurd (false≢true e)
+
+is-plain : (m : Mark) → plain m ≡ true → m ≡ Plain
+is-plain Plain e = refl
+is-plain Optional e = absurd (false≢true e)
+
+unused-is : (κ : Kind) (m : Mark) → (eqb (after κ 0) 0 && eqb (needed κ) 0 && kindFits κ && plain m) ≡ true
+    → _≡_ {A = RuleNode} (record { kind = κ; mark = m }) unused
 unused-is (Atom lo hi) m e = absurd (false≢true e)
-unused-is (Group Sequence n) m e = absurd (false≢true e)
-unused-is (Group Choice n) m e = absurd (false≢true e)
-unused-is (Group Interleaving n) m e = absurd (false≢true e)
-unused-is (Group None n) Plain e = rw (eqb-true n 0 (and-eq-true-iff (eqb n 0) true .0 e .0))
-unused-is (Group None n) Optional e = absurd (false≢true (and-eq-true-iff (eqb n 0) false .0 e .1))
+unused-is (Group s n) m e =
+    let h = and-eq-true-iff (eqb n 0 && signFits s n) (plain m) .0 e in
+    let i = and-eq-true-iff (eqb n 0) (signFits s n) .0 (h .0) in
+    let z : n ≡ 0 = eqb-true n 0 (i .0) in
+    rw (z, no-sign s (rw z at (i .1)), is-plain m (h .1))
 
 all-unused : (l : List RuleNode) → allUnused l ≡ true → l ≡ replicate (length l) unused
 all-unused [] e = refl
@@ -157,8 +159,16 @@ abbrev pub highest : List ℕ → ℕ
 highest [] = 0
 highest (d ∷ l) = max d (highest l)
 
+abbrev pub deeper : ℕ → ℕ
+deeper d = min (maxDepth + 1) (d + 1)
+
+-- a node, by the greatest depth of its members
+abbrev pub depthOf : Kind → ℕ → ℕ
+depthOf (Atom lo hi) d = 0
+depthOf (Group s n) d = deeper d
+
 abbrev pub depthBy : Algebra ℕ
-depthBy = record { onAtom = λ k lo hi. 0; onGroup = λ k s l. min (maxDepth + 1) (highest l + 1); onMark = λ m d. d }
+depthBy = record { onAtom = λ k lo hi. 0; onGroup = λ k s l. deeper (highest l); onMark = λ m d. d }
 
 mutual
   depth-node : (n : Node Counts) (k : ℕ) → foldNode depthBy n k ≡ min (maxDepth + 1) (nodeDepth n)
@@ -229,7 +239,7 @@ module _ (t : Model) where
   shallow-is : (shallowTree (eval depthBy (used (ruleOf t)) 0) ≡ true) ↔ (depth t ≤ maxDepth)
   shallow-is =
       let d = min (maxDepth + 1) (depth t) in
-      rw (used-is t, eval-tree depthBy t 0, depth-is t 0) (λ h. omega (arith, leb-true d maxDepth h), λ h. le-leb d maxDepth (omega arith))
+      rw (rule-eval depthBy t 0, depth-is t 0) (λ h. omega (arith, leb-true d maxDepth h), λ h. le-leb d maxDepth (omega arith))
 
   atoms-is : (leb (number (used (ruleOf t)) 0) maxAtoms ≡ true) ↔ (atoms t ≤ maxAtoms)
   atoms-is = rw (used-is t, number-encode t 0, zero-add) (leb-is (atoms t) maxAtoms)
