@@ -3,6 +3,7 @@ pub mod Laws
 pub mod Test
 pub mod Decide
 pub mod Scan
+pub mod Names
 use mathlib.Core.Path.{_≡_}
 use mathlib.Core.List.{List, [], _∷_, _++_}
 use Prim.Native.Nat.{ℕ, _+_, _-_}

@@ -1,13 +1,16 @@
 -- What each call of a session answers, and what it leaves: document 01, "Sessions", with refusals 40 and 42 to 45 in the order tried.
 -- The methods of src/session.rt promise just this, of any session and any trail.
 pub mod Laws
+pub mod Code
 pub mod Calls
+pub mod Agree
 pub mod Theorem
 use mathlib.Core.Bool.{Bool, true, cond, _&&_}
 use mathlib.Core.List.{List, [], _∷_}
 use Prim.Native.Nat.{ℕ, _+_, _-_}
 use lib.Dec.{leb, ltb, eqb}
 use lib.ListN.{length, take, drop, set, replicate}
+use Rattle.judge.specs.declared.fault.JudgeFault.{JudgeFault}
 use Rattle.judge.specs.declared.fault.JudgeFault.the-variants.{NoModel, BadTrail, NoName, NoRoom, NoChildren}
 use Rattle.judge.specs.declared.rule.Rule.{Rule}
 use Rattle.judge.specs.declared.session.Outcome.{Outcome}
@@ -34,20 +37,30 @@ abbrev pub allFree : Trail → Bool
 allFree [] = true
 allFree (x ∷ t) = eqb x free && allFree t
 
--- 42 does not stand: no more children than room, no filled place above the rule's names, and every other place free, past the room too
-unfoldable pub intact : Session → Trail → Bool
-intact s t = leb (s .children) (room (length t)) && (upto (names (s .rule)) (take (s .children) t) && allFree (drop (s .children) t))
+-- 42 does not stand, for so many children and names: no more children than room, no filled place above the names, and every other place free, past
+-- the room too (`Session.Laws.intact-tells`)
+unfoldable pub intact : ℕ → ℕ → Trail → Bool
+intact children named t = leb children (room (length t)) && (upto named (take children t) && allFree (drop children t))
 
--- every call but opening tries 40 and 42 first
-unfoldable pub checked : Session → Trail → Outcome → Outcome
-checked s t o = cond (readable (s .rule)) (cond (intact s t) o (Refused BadTrail)) (Refused NoModel)
+-- a condition, and the refusal where it does not hold
+abbrev pub check : Bool → JudgeFault → Outcome
+check b f = cond b Done (Refused f)
 
+abbrev pub _then_ : Outcome → Outcome → Outcome
+_then_ Done o = o
+_then_ (Refused f) o = Refused f
+
+infixl 20 _then_
+-- 40 and 42
+unfoldable pub checked : Session → Trail → Outcome
+checked s t = check (readable (s .rule)) NoModel then check (intact (s .children) (names (s .rule)) t) BadTrail
+
+-- what each call tries, in this order
 unfoldable pub outcome : Call → Session → Trail → Outcome
-outcome (opening r) s t = cond (readable r) Done (Refused NoModel)
-outcome (adding x) s t =
-    checked s t (cond (leb x (names (s .rule))) (cond (ltb (s .children) (room (length t))) Done (Refused NoRoom)) (Refused NoName))
-outcome takingBack s t = checked s t (cond (ltb 0 (s .children)) Done (Refused NoChildren))
-outcome asking s t = checked s t Done
+outcome (opening r) s t = check (readable r) NoModel
+outcome (adding x) s t = checked s t then check (leb x (names (s .rule))) NoName then check (ltb (s .children) (room (length t))) NoRoom
+outcome takingBack s t = checked s t then check (ltb 0 (s .children)) NoChildren
+outcome asking s t = checked s t
 
 -- what is new where the call was done, and what was where it was refused
 abbrev pub whenDone : {A : Type 0} → Outcome → A → A → A

@@ -5,6 +5,7 @@ ghost use Prim.Native.Nat.{_≤_, max, min};
 ghost use lib.ListN.{drop};
 ghost use Rattle.judge.specs.Limits.{maxNodes};
 ghost use Rattle.judge.specs.Model.Eval.{after, needed};
+ghost use Rattle.judge.specs.Rule.{names};
 ghost use Rattle.judge.specs.Rule.Test.{upperFits, signFits, kindFits, plain, isUnused, allUnused, highest, deeper, depthOf, wellFormed};
 use crate::rule::Kind;
 use crate::rule::MAX_ATOMS;
@@ -182,4 +183,20 @@ pub(crate) fn well_formed(rule: Rule) -> bool
     let rest = rest_unused(rule);
     let shallow = (top == MAX_NODES - 1) & (depths[MAX_NODES - 1] <= MAX_DEPTH);
     rest & sound & shallow & (atoms <= MAX_ATOMS)
+}
+
+// How many names a rule has: one for each atom among its nodes.
+pub(crate) fn name_count(rule: Rule) -> usize
+    ensures { λ r. ⌜ r ≡ names rule ⌝ }
+{
+    let len = rule.len;
+    let mut found: usize = 0;
+    let mut i = smaller(len, MAX_NODES);
+    while 0 < i {
+        i -= 1;
+        let node = rule.nodes[i];
+        let kind = node.kind;
+        found += atoms_of(kind);
+    }
+    found
 }

@@ -1,7 +1,22 @@
-// Sessions: a rule and how many children there are. The children stand in a trail that the caller lends.
+// Sessions: a rule and how many children there are. The children stand in a trail that the caller lends, one place each.
 
+ghost use mathlib.Core.Path.{_≡_};
+ghost use lib.ListN.{length, replicate};
+ghost use Rattle.judge.specs.Judge.Laws.{upto};
+ghost use Rattle.judge.specs.Book.{opening, adding, takingBack, room};
+ghost use Rattle.judge.specs.Session.{free, allFree, intact, checked, step, trailAfter, asked};
+
+use crate::check::name_count;
+use crate::check::well_formed;
 use crate::fault::JudgeFault;
+use crate::rule::NameNumber;
 use crate::rule::Rule;
+use crate::verdict::Judged;
+
+pub const MAX_ROW: usize = 4096;
+
+// What a free place holds.
+pub const FREE: u16 = 65535;
 
 pub struct Session {
     pub rule: Rule,
@@ -17,4 +32,173 @@ pub enum Outcome {
 pub struct Step {
     pub session: Session,
     pub outcome: Outcome,
+}
+
+// The trail's length, or 4,096 if that is less.
+fn room_in(places: usize) -> usize
+    ensures { λ r. ⌜ r ≡ room places ⌝ }
+{
+    if places < MAX_ROW { places } else { MAX_ROW }
+}
+
+// Whether no number is above the names.
+fn all_named(names: usize, row: &[u16]) -> bool
+    ensures { λ r. ⌜ r ≡ upto names (now (row .entry)) ⌝ }
+{
+    let mut named = true;
+    let mut i = row.len();
+    while 0 < i {
+        i -= 1;
+        named = (row[i] as usize <= names) & named;
+    }
+    named
+}
+
+fn all_free(places: &[u16]) -> bool
+    ensures { λ r. ⌜ r ≡ allFree (now (places .entry)) ⌝ }
+{
+    let mut found = true;
+    let mut i = places.len();
+    while 0 < i {
+        i -= 1;
+        found = (places[i] == FREE) & found;
+    }
+    found
+}
+
+fn free_all(trail: &mut [u16])
+    ensures { λ r. ⌜ now (trail .exit) ≡ replicate (length (now (trail .entry))) free ⌝ }
+{
+    let mut i: usize = 0;
+    while i < trail.len() {
+        trail[i] = FREE;
+        i += 1;
+    }
+}
+
+// Whether a trail is as a session of so many children, by a rule of so many names, leaves it: not so is 42.
+fn is_intact(children: usize, names: usize, trail: &[u16]) -> bool
+    ensures { λ r. ⌜ r ≡ intact children names (now (trail .entry)) ⌝ }
+{
+    let most = room_in(trail.len());
+    if children <= most {
+        let named = all_named(names, &trail[0..children]);
+        let rest = all_free(&trail[children..]);
+        named & rest
+    } else {
+        false
+    }
+}
+
+impl Session {
+    // 40 and 42, which every call but opening tries first.
+    fn checked(self, trail: &[u16]) -> Outcome
+        ensures { λ r. ⌜ r ≡ checked self (now (trail .entry)) ⌝ }
+    {
+        let rule = self.rule;
+        let children = self.children;
+        let good = well_formed(rule);
+        if good {
+            let names = name_count(rule);
+            let whole = is_intact(children, names, trail);
+            if whole {
+                return Outcome::Done;
+            }
+            return Outcome::Refused(JudgeFault::BadTrail);
+        }
+        Outcome::Refused(JudgeFault::NoModel)
+    }
+
+    // Refused with 40. Else a session of the rule with no children, and every place is free.
+    pub fn open(self, rule: Rule, trail: &mut [u16]) -> Step
+        ensures { λ r. ⌜ (r ≡ step (opening rule) self (now (trail .entry))) × (now (trail .exit) ≡ trailAfter (opening rule) self (now (trail .entry))) ⌝ }
+    {
+        let good = well_formed(rule);
+        if good {
+            free_all(trail);
+            let opened = Session {
+                rule: rule,
+                children: 0,
+            };
+            return Step {
+                session: opened,
+                outcome: Outcome::Done,
+            };
+        }
+        Step {
+            session: self,
+            outcome: Outcome::Refused(JudgeFault::NoModel),
+        }
+    }
+
+    // Refused with 40, 42, 43 or 44. Else the next place holds the name's number.
+    pub fn add(self, name: NameNumber, trail: &mut [u16]) -> Step
+        ensures { λ r. ⌜ (r ≡ step (adding (name .0)) self (now (trail .entry))) × (now (trail .exit) ≡ trailAfter (adding (name .0)) self (now (trail .entry))) ⌝ }
+    {
+        let rule = self.rule;
+        let children = self.children;
+        let number = name.0;
+        match self.checked(trail) {
+            Outcome::Refused(fault) => Step {
+                session: self,
+                outcome: Outcome::Refused(fault),
+            },
+            Outcome::Done => {
+                let names = name_count(rule);
+                if names < number as usize {
+                    return Step {
+                        session: self,
+                        outcome: Outcome::Refused(JudgeFault::NoName),
+                    };
+                }
+                let most = room_in(trail.len());
+                if most <= children {
+                    return Step {
+                        session: self,
+                        outcome: Outcome::Refused(JudgeFault::NoRoom),
+                    };
+                }
+                trail[children] = number;
+                let longer = Session {
+                    rule: rule,
+                    children: children + 1,
+                };
+                Step {
+                    session: longer,
+                    outcome: Outcome::Done,
+                }
+            }
+        }
+    }
+
+    // Refused with 40, 42 or 45. Else the last filled place is free.
+    pub fn take_back(self, trail: &mut [u16]) -> Step
+        ensures { λ r. ⌜ (r ≡ step takingBack self (now (trail .entry))) × (now (trail .exit) ≡ trailAfter takingBack self (now (trail .entry))) ⌝ }
+    {
+        let rule = self.rule;
+        let children = self.children;
+        match self.checked(trail) {
+            Outcome::Refused(fault) => Step {
+                session: self,
+                outcome: Outcome::Refused(fault),
+            },
+            Outcome::Done => {
+                if children == 0 {
+                    return Step {
+                        session: self,
+                        outcome: Outcome::Refused(JudgeFault::NoChildren),
+                    };
+                }
+                trail[children - 1] = FREE;
+                let shorter = Session {
+                    rule: rule,
+                    children: children - 1,
+                };
+                Step {
+                    session: shorter,
+                    outcome: Outcome::Done,
+                }
+            }
+        }
+    }
 }

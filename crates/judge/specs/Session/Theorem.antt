@@ -6,7 +6,7 @@ use lib.ListN.{length}
 use Rattle.judge.specs.declared.rule.Rule.{Rule}
 use Rattle.judge.specs.Book.{Call, opening, nothing, Book, fresh, room, Keeps, done, next}
 use Rattle.judge.specs.Session.Calls.{World, plays, replyTo, after, replies, shown}
-use Rattle.judge.specs.Session.Laws.{Kept, agrees, done-opened}
+use Rattle.judge.specs.Session.Agree.{Kept, agrees, done-opened}
 
 -- a list of calls on the world that shows a book
 keeps : (n : ℕ) (b : Book) (w : World) → Kept n b → w ≡ shown n b → (qs : List Call) →

@@ -1,0 +1,63 @@
+use borrow.Author.Needs.{needs}
+use Rattle.judge.proofs.session.Session.take_back.Statement.{statement}
+use Rattle.judge.proofs.session.Session.take_back.Tie as tie
+use Rattle.judge.proofs.session.Session.take_back.Reads as reads
+use Rattle.judge.proofs.session.Session.take_back.Lts as lts
+use Rattle.judge.proofs.session.Session.checked.Reads as checked-reads
+
+checked-requires : tie.Need-checked-requires
+checked-requires c κs = search needs
+
+enum-known-fault : tie.Need-enum-known-fault
+enum-known-fault c = search needs
+
+enum-told : tie.Need-enum-told
+enum-told c = search needs
+
+same-length : tie.Need-same-length
+same-length c = search needs
+
+returns : tie.Need-returns
+returns c = ?
+
+sub-trail : tie.Need-sub-trail
+sub-trail c = search needs
+
+mul-trail : tie.Need-mul-trail
+mul-trail c = ?
+
+slice-write-trail : tie.Need-slice-write-trail
+slice-write-trail c = ?
+
+sub-t15 : tie.Need-sub-t15
+sub-t15 c = search needs
+
+same-length-2 : tie.Need-same-length-2
+same-length-2 c = search needs
+
+returns-2 : tie.Need-returns-2
+returns-2 c = ?
+
+same-length-3 : tie.Need-same-length-3
+same-length-3 c = search needs
+
+returns-3 : tie.Need-returns-3
+returns-3 c = ?
+
+pub take-back-spec : {M : Type 1} → statement M
+take-back-spec =
+    tie.close
+    (tie.spec
+    checked-requires
+    enum-known-fault
+    enum-told
+    same-length
+    returns
+    sub-trail
+    mul-trail
+    slice-write-trail
+    sub-t15
+    same-length-2
+    returns-2
+    same-length-3
+    returns-3)

@@ -1,0 +1,109 @@
+-- How the answers of the methods come from what their calls give.
+use mathlib.Core.Path.{_≡_, refl, sym, ap, _∙_}
+use mathlib.Core.Logic.{_↔_}
+use mathlib.Core.Bool.{Bool, true, false, cond, _&&_}
+use mathlib.Core.List.{List, [], _∷_, _++_, append-assoc}
+use Prim.Native.Nat.{ℕ, zero, suc, _+_, _-_, _≤_, _<_, min}
+use native.Mathlib.Nat.{sub-zero}
+use native.Mathlib.Omega.{arith}
+use lib.Dec.{leb, ltb, eqb}
+use lib.ListN.{length-drop, length, take, drop, set, replicate, length-append, length-replicate}
+use lib.Seq.{take-all, take-at, drop-at, set-at}
+use borrow.Author.Tests.{eq-eqb, le-leb, lt-ltb, le-ltb, lt-leb, leb-true, leb-false, ltb-true, ltb-false, eqb-true}
+use Rattle.judge.specs.declared.fault.JudgeFault.the-variants.{NoModel, BadTrail, NoName, NoRoom, NoChildren}
+use Rattle.judge.specs.declared.fault.JudgeFault.{JudgeFault}
+use Rattle.judge.specs.Limits.{maxNodes}
+use Rattle.judge.specs.Rule.Test.{wellFormed}
+use Rattle.judge.specs.declared.rule.Rule.{Rule}
+use Rattle.judge.specs.declared.session.Session.{Session}
+use Rattle.judge.specs.declared.session.Outcome.{Outcome}
+use Rattle.judge.specs.declared.session.Outcome.the-variants.{Done, Refused}
+use Rattle.judge.specs.Tests.{by-test, Tells, untold, tells-le, tells-and, tells-three}
+use Rattle.judge.specs.Word.{Word}
+use Rattle.judge.specs.Verdict.Laws.{verdict-says}
+use Rattle.judge.specs.Rule.{Readable, names}
+use Rattle.judge.specs.Rule.Decide.{readable, readable-is, ruleType, type-means, means-conflict-free}
+use Rattle.judge.specs.Judge.{Upto}
+use Rattle.judge.specs.Judge.Laws.{upto, upto-tells}
+use Rattle.judge.specs.Book.{Call, opening, adding, takingBack, asking, nothing, refuses, Book, fresh, room, Enters, no-model, opens, no-name, no-room, adds, no-children, takes, judges}
+use Rattle.judge.specs.Session.{Trail, free, allFree, intact, checked, outcome, check, _then_, step, trailAfter, newSession, newTrail}
+use Rattle.judge.specs.Session.Laws.{intact-tells, checked-done}
+use Rattle.judge.specs.Session.Calls.{World, plays, replyTo, shown}
+
+
+-- with the tests of the parts `[0..k]` and `[k..]`
+pub intact-holds : (k m : ℕ) (t : Trail) (a b : Bool) → k ≤ room (length t)
+    → a ≡ upto m (take (k - 0) t) → b ≡ allFree (take (length t - k) (drop k t)) → (a && b) ≡ intact k m t
+unfolding intact
+intact-holds k m t a b h e f =
+    rw (e, f, le-leb k (room (length t)) h, sub-zero, take-all (length t - k) (drop k t) (rw length-drop (omega arith)))
+
+pub intact-over : (k m : ℕ) (t : Trail) → room (length t) < k → false ≡ intact k m t
+unfolding intact
+intact-over k m t h = rw (lt-leb k (room (length t)) h)
+
+-- a rule in code has an array of 128 nodes
+pub readable-by : (r : Rule) → length (r .nodes) ≡ maxNodes → readable r ≡ wellFormed r
+unfolding readable
+readable-by r l = rw (eq-eqb _ _ l)
+
+-- what a call leaves that was refused, and one that was done
+pub refused : (q : Call) (s : Session) (t : Trail) (f : JudgeFault) → outcome q s t ≡ Refused f
+    → (record { session = s; outcome = Refused f } ≡ step q s t) × (t ≡ trailAfter q s t)
+refused q s t f e = rw e (refl, refl)
+
+pub completed : (q : Call) (s : Session) (t : Trail) → outcome q s t ≡ Done
+    → (record { session = newSession q s; outcome = Done } ≡ step q s t) × (newTrail q s t ≡ trailAfter q s t)
+completed q s t e = rw e (refl, refl)
+
+
+pub opening-by : (r : Rule) (s : Session) (t : Trail) (b x : Bool) → length (r .nodes) ≡ maxNodes → b ≡ wellFormed r → b ≡ x → outcome (opening r) s t ≡ check x NoModel
+unfolding outcome
+opening-by r s t b x l e f = rw (readable-by r l, ← e, f)
+
+module _ (s : Session) (t : Trail) where
+  module _ (b : Bool) (l : length (s .rule .nodes) ≡ maxNodes) (e : b ≡ wellFormed (s .rule)) where
+    pub checked-no-model : b ≡ false → checked s t ≡ Refused NoModel
+    unfolding checked
+    checked-no-model f = rw (readable-by (s .rule) l, ← e, f)
+
+    pub checked-by : b ≡ true → (n : ℕ) (d y : Bool) → n ≡ names (s .rule) → d ≡ intact (s .children) n t → d ≡ y → checked s t ≡ check y BadTrail
+    unfolding checked
+    checked-by f n d y g h i = rw (readable-by (s .rule) l, ← e, f, ← g, ← h, i)
+
+  module _ (x : ℕ) where
+    pub adding-refused : (f : JudgeFault) → checked s t ≡ Refused f → outcome (adding x) s t ≡ Refused f
+    unfolding outcome
+    adding-refused f e = rw e
+
+    module _ (e : checked s t ≡ Done) (n : ℕ) (i : n ≡ names (s .rule)) where
+      pub adding-unnamed : n < x → outcome (adding x) s t ≡ Refused NoName
+      unfolding outcome
+      adding-unnamed h = rw (e, ← i, lt-leb x n h)
+
+      module _ (h : x ≤ n) (m : ℕ) (j : m ≡ room (length t)) where
+        pub adding-full : m ≤ s .children → outcome (adding x) s t ≡ Refused NoRoom
+        unfolding outcome
+        adding-full k = rw (e, ← i, le-leb x n h, ← j, le-ltb (s .children) m k)
+
+        pub adding-done : s .children < m → outcome (adding x) s t ≡ Done
+        unfolding outcome
+        adding-done k = rw (e, ← i, le-leb x n h, ← j, lt-ltb (s .children) m k)
+
+  pub taking-refused : (f : JudgeFault) → checked s t ≡ Refused f → outcome takingBack s t ≡ Refused f
+  unfolding outcome
+  taking-refused f e = rw e
+
+  module _ (e : checked s t ≡ Done) where
+    pub taking-none : s .children ≡ 0 → outcome takingBack s t ≡ Refused NoChildren
+    unfolding outcome
+    taking-none h = rw (e, le-ltb 0 (s .children) (omega arith))
+
+    pub taking-done : 0 < s .children → outcome takingBack s t ≡ Done
+    unfolding outcome
+    taking-done h = rw (e, lt-ltb 0 (s .children) h)
+
+    -- the children stand within the trail
+    pub checked-fits : s .children ≤ length t
+    checked-fits =
+        let h = intact-tells (s .children) (names (s .rule)) t .0 (checked-done s t e .1) .0 in omega arith
