@@ -5,7 +5,6 @@ ghost use lib.ListN.{length, replicate};
 ghost use Rattle.judge.specs.Judge.Laws.{upto};
 ghost use Rattle.judge.specs.Book.{opening, adding, takingBack, room};
 ghost use Rattle.judge.specs.Session.{free, allFree, intact, checked, step, trailAfter, asked};
-
 use crate::check::name_count;
 use crate::check::well_formed;
 use crate::fault::JudgeFault;

@@ -28,7 +28,6 @@ use Rattle.judge.specs.Judge.Laws.{upto, upto-tells}
 use Rattle.judge.specs.Book.{Call, opening, adding, takingBack, asking, nothing, refuses, Book, fresh, room, Enters, no-model, opens, no-name, no-room, adds, no-children, takes, judges}
 use Rattle.judge.specs.Session.{Trail, free, allFree, intact, checked, outcome, step, trailAfter, newSession, newTrail}
 use Rattle.judge.specs.Session.Calls.{World, plays, replyTo, shown}
-
 use Rattle.judge.specs.Session.Laws.{AllFree, intact-tells}
 
 replicate-free : (n : ℕ) → AllFree (replicate n free)
@@ -112,7 +111,6 @@ module _ (n : ℕ) (b : Book) (k : Kept n b) where
         rw (take-at (b .row) (replicate (n - length (b .row)) free) (length (b .row)) refl) (k .named),
         rw (drop-at (b .row) (replicate (n - length (b .row)) free) (length (b .row)) refl) (replicate-free (n - length (b .row))),
       )
-
 
   checked-shown : checked (shown n b .session) (shown n b .trail) ≡ Done
   unfolding checked

@@ -30,7 +30,6 @@ use Rattle.judge.specs.Session.{Trail, free, allFree, intact, checked, o
 use Rattle.judge.specs.Session.Laws.{intact-tells, checked-done}
 use Rattle.judge.specs.Session.Calls.{World, plays, replyTo, shown}
 
-
 -- with the tests of the parts `[0..k]` and `[k..]`
 pub intact-holds : (k m : ℕ) (t : Trail) (a b : Bool) → k ≤ room (length t)
     → a ≡ upto m (take (k - 0) t) → b ≡ allFree (take (length t - k) (drop k t)) → (a && b) ≡ intact k m t
@@ -55,7 +54,6 @@ refused q s t f e = rw e (refl, refl)
 pub completed : (q : Call) (s : Session) (t : Trail) → outcome q s t ≡ Done
     → (record { session = newSession q s; outcome = Done } ≡ step q s t) × (newTrail q s t ≡ trailAfter q s t)
 completed q s t e = rw e (refl, refl)
-
 
 pub opening-by : (r : Rule) (s : Session) (t : Trail) (b x : Bool) → length (r .nodes) ≡ maxNodes → b ≡ wellFormed r → b ≡ x → outcome (opening r) s t ≡ check x NoModel
 unfolding outcome

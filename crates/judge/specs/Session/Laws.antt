@@ -46,7 +46,6 @@ pub intact-tells : (children named : ℕ) (t : Trail) → Tells (intact children
 unfolding intact
 intact-tells k m t = tells-three _ _ _ (tells-le _ _) (upto-tells m (take k t)) (all-free-tells (drop k t))
 
-
 -- a check is passed where its condition holds, and a row of checks where each is
 pub check-done : (b : Bool) (f : JudgeFault) → check b f ≡ Done → b ≡ true
 check-done true f e = refl

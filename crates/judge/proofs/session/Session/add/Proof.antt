@@ -1,3 +1,7 @@
+use mathlib.Core.Path.{sym, _∙_}
+use Rattle.judge.specs.declared.fault.JudgeFault.the-variants.{NoName, NoRoom}
+use Rattle.judge.specs.Book.{adding}
+use Rattle.judge.specs.Session.Code.{refused, completed, adding-refused, adding-unnamed, adding-full, adding-done}
 use borrow.Author.Needs.{needs}
 use Rattle.judge.proofs.session.Session.add.Statement.{statement}
 use Rattle.judge.proofs.session.Session.add.Tie as tie
@@ -26,7 +30,12 @@ same-length : tie.Need-same-length
 same-length c = search needs
 
 returns : tie.Need-returns
-returns c = ?
+returns c =
+    let n = c .before in
+    let k = n .before .before .before in
+    let a = k .before .before .before .before .args in
+    refused (adding (a .name .0)) (a .self) (a .trail .now) NoName
+    (adding-unnamed (a .self) (a .trail .now) (a .name .0) (sym (k .checked .ensures) ∙ n .before .enum-told .given .1) _ (n .name-count .ensures) (c .if1 .taken))
 
 room-in-requires : tie.Need-room-in-requires
 room-in-requires c κs = search needs
@@ -35,7 +44,13 @@ same-length-2 : tie.Need-same-length-2
 same-length-2 c = search needs
 
 returns-2 : tie.Need-returns-2
-returns-2 c = ?
+returns-2 c =
+    let n = c .before .before .before in
+    let k = n .before .before .before in
+    let a = k .before .before .before .before .args in
+    refused (adding (a .name .0)) (a .self) (a .trail .now) NoRoom
+    (adding-full (a .self) (a .trail .now) (a .name .0) (sym (k .checked .ensures) ∙ n .before .enum-told .given .1) _ (n .name-count .ensures)
+    (c .before .before .if1 .left) _ (c .before .room-in .ensures) (c .if2 .taken))
 
 mul-trail : tie.Need-mul-trail
 mul-trail c = search needs
@@ -50,13 +65,23 @@ same-length-3 : tie.Need-same-length-3
 same-length-3 c = search needs
 
 returns-3 : tie.Need-returns-3
-returns-3 c = ?
+returns-3 c =
+    let k = c .before .before .before in
+    let a = k .before .before .before .before .args in
+    refused (adding (a .name .0)) (a .self) (a .trail .now) (c .before .fault .given .0 .0)
+    (adding-refused (a .self) (a .trail .now) (a .name .0) _ (sym (k .checked .ensures) ∙ c .before .fault .given .1))
 
 same-length-4 : tie.Need-same-length-4
 same-length-4 c = search needs
 
 returns-4 : tie.Need-returns-4
-returns-4 c = ?
+returns-4 c =
+    let n = c .before .before .before in
+    let k = n .before .before .before in
+    let a = k .before .before .before .before .args in
+    completed (adding (a .name .0)) (a .self) (a .trail .now)
+    (adding-done (a .self) (a .trail .now) (a .name .0) (sym (k .checked .ensures) ∙ n .before .enum-told .given .1) _ (n .name-count .ensures)
+    (c .before .before .if1 .left) _ (c .before .room-in .ensures) (c .if2 .left))
 
 pub add-spec : {M : Type 1} → statement M
 add-spec =

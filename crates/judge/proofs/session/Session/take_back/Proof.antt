@@ -1,3 +1,7 @@
+use mathlib.Core.Path.{sym, _∙_}
+use Rattle.judge.specs.declared.fault.JudgeFault.the-variants.{NoChildren}
+use Rattle.judge.specs.Book.{takingBack}
+use Rattle.judge.specs.Session.Code.{refused, completed, taking-refused, taking-none, taking-done, checked-fits}
 use borrow.Author.Needs.{needs}
 use Rattle.judge.proofs.session.Session.take_back.Statement.{statement}
 use Rattle.judge.proofs.session.Session.take_back.Tie as tie
@@ -18,16 +22,31 @@ same-length : tie.Need-same-length
 same-length c = search needs
 
 returns : tie.Need-returns
-returns c = ?
+returns c =
+    let o = c .before in
+    let k = o .before .before in
+    let a = k .before .before .before .before .args in
+    refused takingBack (a .self) (a .trail .now) NoChildren
+    (taking-none (a .self) (a .trail .now) (sym (k .checked .ensures) ∙ o .enum-told .given .1) (c .if1 .taken))
 
 sub-trail : tie.Need-sub-trail
 sub-trail c = search needs
 
 mul-trail : tie.Need-mul-trail
-mul-trail c = ?
+mul-trail c =
+    let o = c .before in
+    let k = o .before .before in
+    let a = k .before .before .before .before .args in
+    let h = checked-fits (a .self) (a .trail .now) (sym (k .checked .ensures) ∙ o .enum-told .given .1) in
+    search needs
 
 slice-write-trail : tie.Need-slice-write-trail
-slice-write-trail c = ?
+slice-write-trail c =
+    let o = c .before in
+    let k = o .before .before in
+    let a = k .before .before .before .before .args in
+    let h = checked-fits (a .self) (a .trail .now) (sym (k .checked .ensures) ∙ o .enum-told .given .1) in
+    search needs
 
 sub-t15 : tie.Need-sub-t15
 sub-t15 c = search needs
@@ -36,13 +55,22 @@ same-length-2 : tie.Need-same-length-2
 same-length-2 c = search needs
 
 returns-2 : tie.Need-returns-2
-returns-2 c = ?
+returns-2 c =
+    let k = c .before .before .before in
+    let a = k .before .before .before .before .args in
+    refused takingBack (a .self) (a .trail .now) (c .before .fault .given .0 .0)
+    (taking-refused (a .self) (a .trail .now) _ (sym (k .checked .ensures) ∙ c .before .fault .given .1))
 
 same-length-3 : tie.Need-same-length-3
 same-length-3 c = search needs
 
 returns-3 : tie.Need-returns-3
-returns-3 c = ?
+returns-3 c =
+    let o = c .before in
+    let k = o .before .before in
+    let a = k .before .before .before .before .args in
+    completed takingBack (a .self) (a .trail .now)
+    (taking-done (a .self) (a .trail .now) (sym (k .checked .ensures) ∙ o .enum-told .given .1) (search needs))
 
 pub take-back-spec : {M : Type 1} → statement M
 take-back-spec =
