@@ -1,6 +1,7 @@
 -- What each call of a session answers, and what it leaves: document 01, "Sessions", with refusals 40 and 42 to 45 in the order tried.
 -- The methods of src/session.rt promise just this, of any session and any trail.
 pub mod Laws
+pub mod Table
 pub mod Code
 pub mod Calls
 pub mod Agree
@@ -50,7 +51,7 @@ abbrev pub _then_ : Outcome → Outcome → Outcome
 _then_ Done o = o
 _then_ (Refused f) o = Refused f
 
-infixl 20 _then_
+infixr 20 _then_
 -- 40 and 42
 unfoldable pub checked : Session → Trail → Outcome
 checked s t = check (readable (s .rule)) NoModel then check (intact (s .children) (names (s .rule)) t) BadTrail
