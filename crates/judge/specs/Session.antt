@@ -13,7 +13,6 @@ use lib.Dec.{leb, ltb, eqb}
 use lib.ListN.{length, take, drop, set, replicate}
 use Rattle.judge.specs.declared.fault.JudgeFault.{JudgeFault}
 use Rattle.judge.specs.declared.fault.JudgeFault.the-variants.{NoModel, BadTrail, NoName, NoRoom, NoChildren}
-use Rattle.judge.specs.declared.rule.Rule.{Rule}
 use Rattle.judge.specs.declared.session.Outcome.{Outcome}
 use Rattle.judge.specs.declared.session.Outcome.the-variants.{Done, Refused}
 use Rattle.judge.specs.declared.session.Session.{Session}

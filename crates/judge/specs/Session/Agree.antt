@@ -1,32 +1,26 @@
 -- Each call does what the book does.
-use mathlib.Core.Path.{_≡_, refl, sym, ap, _∙_}
+use mathlib.Core.Path.{_≡_, refl, ap, _∙_}
 use mathlib.Core.Logic.{_↔_}
-use mathlib.Core.Bool.{Bool, true, false, cond, _&&_}
-use mathlib.Core.List.{List, [], _∷_, _++_, append-assoc}
-use Prim.Native.Nat.{ℕ, zero, suc, _+_, _-_, _≤_, _<_, min}
+use mathlib.Core.Bool.{true}
+use mathlib.Core.List.{[], _∷_, _++_, append-assoc}
+use Prim.Native.Nat.{ℕ, zero, suc, _+_, _-_, _≤_, _<_}
 use native.Mathlib.Nat.{sub-zero}
 use native.Mathlib.Omega.{arith}
-use lib.Dec.{leb, ltb, eqb}
-use lib.ListN.{length-drop, length, take, drop, set, replicate, length-append, length-replicate}
-use lib.Seq.{take-all, take-at, drop-at, set-at}
-use borrow.Author.Tests.{eq-eqb, le-leb, lt-ltb, le-ltb, lt-leb, leb-true, leb-false, ltb-true, ltb-false, eqb-true}
+use lib.Dec.{leb, ltb}
+use lib.ListN.{length, set, replicate, length-append, length-replicate}
+use lib.Seq.{take-at, drop-at, set-at}
+use borrow.Author.Tests.{leb-true, leb-false, ltb-true, ltb-false}
 use Rattle.judge.specs.declared.fault.JudgeFault.the-variants.{NoModel}
-use Rattle.judge.specs.declared.fault.JudgeFault.{JudgeFault}
-use Rattle.judge.specs.Limits.{maxNodes}
-use Rattle.judge.specs.Rule.Test.{wellFormed}
 use Rattle.judge.specs.declared.rule.Rule.{Rule}
-use Rattle.judge.specs.declared.session.Session.{Session}
-use Rattle.judge.specs.declared.session.Outcome.{Outcome}
-use Rattle.judge.specs.declared.session.Outcome.the-variants.{Done, Refused}
-use Rattle.judge.specs.Tests.{by-test, Tells, untold, tells-le, tells-and, tells-three}
+use Rattle.judge.specs.declared.session.Outcome.the-variants.{Done}
+use Rattle.judge.specs.Tests.{by-test, untold}
 use Rattle.judge.specs.Word.{Word}
 use Rattle.judge.specs.Verdict.Laws.{verdict-says}
 use Rattle.judge.specs.Rule.{Readable, names}
 use Rattle.judge.specs.Rule.Decide.{readable, readable-is, ruleType, type-means, means-conflict-free}
 use Rattle.judge.specs.Judge.{Upto}
-use Rattle.judge.specs.Judge.Laws.{upto, upto-tells}
 use Rattle.judge.specs.Book.{Call, opening, adding, takingBack, asking, nothing, refuses, Book, fresh, room, Enters, no-model, opens, no-name, no-room, adds, no-children, takes, judges}
-use Rattle.judge.specs.Session.{Trail, free, allFree, intact, checked, outcome, step, trailAfter, newSession, newTrail}
+use Rattle.judge.specs.Session.{free, intact, checked, outcome}
 use Rattle.judge.specs.Session.Calls.{World, plays, replyTo, shown}
 use Rattle.judge.specs.Session.Laws.{AllFree, intact-tells}
 

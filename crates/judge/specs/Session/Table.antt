@@ -5,7 +5,7 @@ use mathlib.Core.Bool.{cond}
 use Prim.Native.Nat.{ℕ, _≤_, _<_}
 use native.Mathlib.Omega.{arith}
 use lib.Dec.{leb, ltb, eqb}
-use lib.ListN.{length}
+use lib.ListN.{length, take}
 use borrow.Author.Tests.{leb-true, leb-false, ltb-true, ltb-false}
 use Rattle.judge.specs.declared.fault.JudgeFault.{JudgeFault}
 use Rattle.judge.specs.declared.fault.JudgeFault.the-variants.{NoModel, LongRow, BadTrail, NoName, NoRoom, NoChildren}
@@ -13,13 +13,19 @@ use Rattle.judge.specs.declared.rule.Rule.{Rule}
 use Rattle.judge.specs.declared.session.Outcome.{Outcome}
 use Rattle.judge.specs.declared.session.Outcome.the-variants.{Done, Refused}
 use Rattle.judge.specs.declared.session.Session.{Session}
+use Rattle.judge.specs.declared.verdict.Judged.{Judged}
+use Rattle.judge.specs.declared.verdict.Judged.the-variants.{Verdict, Refused as RefusedRow}
+use Rattle.judge.specs.Types.{Ty}
+use Rattle.judge.specs.Verdict.{Says}
+use Rattle.judge.specs.Verdict.Laws.{says-once, verdict-says}
+use Rattle.judge.specs.Rule.Laws.{means-once}
 use Rattle.judge.specs.Tests.{by-test, untold}
-use Rattle.judge.specs.Rule.{Readable, names}
-use Rattle.judge.specs.Rule.Decide.{readable, readable-is}
+use Rattle.judge.specs.Rule.{Readable, Means, names}
+use Rattle.judge.specs.Rule.Decide.{readable, readable-is, ruleType, type-means, means-conflict-free}
 use Rattle.judge.specs.Judge.{judgeNumber}
 use Rattle.judge.specs.Book.{Call, opening, adding, takingBack, asking, room}
-use Rattle.judge.specs.Session.{Trail, intact, _then_, checked, outcome}
-use Rattle.judge.specs.Session.Laws.{Intact, intact-tells}
+use Rattle.judge.specs.Session.{Trail, intact, _then_, checked, outcome, judgedBy, asked}
+use Rattle.judge.specs.Session.Laws.{Intact, intact-tells, checked-done}
 
 -- every call but opening looks at the session that it is given
 abbrev pub Later : Call → Type 0
@@ -162,3 +168,29 @@ module _ (s : Session) (t : Trail) where
   -- a call is refused exactly as the table says
   pub outcome-is : (q : Call) (o : Outcome) → (outcome q s t ≡ o) ↔ Answers s t q o
   outcome-is q o = (λ e. rw e at (outcome-answers q), λ h. answers-once q (outcome q s t) o (outcome-answers q) h)
+
+-- what asking is answered
+abbrev pub Asks : Session → Trail → Judged → Type 0
+Asks s t (Verdict v) = ((g : JudgeFault) → ¬ Fault s t asking g) × ((A : Ty) × Means (s .rule) A × Says A (take (s .children) t) v)
+Asks s t (RefusedRow f) = Answers s t asking (Refused f)
+
+module _ (s : Session) (t : Trail) where
+  asks-once : (a b : Judged) → Asks s t a → Asks s t b → a ≡ b
+  asks-once (Verdict u) (Verdict v) (h, (A, m, i)) (k, (B, n, j)) =
+      let e = means-once n m in
+      ap Verdict (says-once A (take (s .children) t) u v i (rw e at j))
+  asks-once (Verdict u) (RefusedRow g) h k = absurd (h .0 g (k .0))
+  asks-once (RefusedRow f) (Verdict v) h k = absurd (k .0 f (h .0))
+  asks-once (RefusedRow f) (RefusedRow g) h k = let e = answers-once s t asking (Refused f) (Refused g) h k in cc
+
+  asked-asks : (o : Outcome) → o ≡ outcome asking s t → Asks s t (judgedBy o s t)
+  unfolding outcome
+  asked-asks Done e =
+      let m = type-means (readable-is (s .rule) .0 (checked-done s t (sym e) .0)) in
+      (rw (sym e) at (outcome-answers s t asking), (ruleType (s .rule), m, verdict-says (ruleType (s .rule)) (means-conflict-free m) (take (s .children) t)))
+  asked-asks (Refused f) e = rw (sym e) at (outcome-answers s t asking)
+
+  pub asked-is : (a : Judged) → (asked s t ≡ a) ↔ Asks s t a
+  asked-is a =
+      let h = asked-asks (outcome asking s t) refl in
+      (λ e. rw e at h, λ k. asks-once (asked s t) a h k)

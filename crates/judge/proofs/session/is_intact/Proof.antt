@@ -2,11 +2,6 @@ use Rattle.judge.specs.Session.Code.{intact-holds, intact-over}
 use borrow.Author.Needs.{needs}
 use Rattle.judge.proofs.session.is_intact.Statement.{statement}
 use Rattle.judge.proofs.session.is_intact.Tie as tie
-use Rattle.judge.proofs.session.is_intact.Reads as reads
-use Rattle.judge.proofs.session.is_intact.Lts as lts
-use Rattle.judge.proofs.session.all_free.Reads as all-free-reads
-use Rattle.judge.proofs.session.all_named.Reads as all-named-reads
-use Rattle.judge.proofs.session.room_in.Reads as room-in-reads
 
 room-in-requires : tie.Need-room-in-requires
 room-in-requires c κs = search needs

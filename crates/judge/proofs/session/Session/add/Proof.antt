@@ -5,11 +5,6 @@ use Rattle.judge.specs.Session.Code.{refused, completed, adding-refused,
 use borrow.Author.Needs.{needs}
 use Rattle.judge.proofs.session.Session.add.Statement.{statement}
 use Rattle.judge.proofs.session.Session.add.Tie as tie
-use Rattle.judge.proofs.session.Session.add.Reads as reads
-use Rattle.judge.proofs.session.Session.add.Lts as lts
-use Rattle.judge.proofs.check.name_count.Reads as name-count-reads
-use Rattle.judge.proofs.session.Session.checked.Reads as checked-reads
-use Rattle.judge.proofs.session.room_in.Reads as room-in-reads
 
 checked-requires : tie.Need-checked-requires
 checked-requires c κs = search needs

@@ -1,4 +1,4 @@
-use mathlib.Core.Path.{_≡_, _∙_, sym}
+use mathlib.Core.Path.{_≡_, sym}
 use mathlib.Core.Bool.{true, false}
 use lib.ListN.{length}
 use Rattle.judge.specs.Stack.{unmapped}
@@ -6,11 +6,6 @@ use Rattle.judge.specs.Session.Code.{checked-by, checked-no-model}
 use borrow.Author.Needs.{needs}
 use Rattle.judge.proofs.session.Session.checked.Statement.{statement}
 use Rattle.judge.proofs.session.Session.checked.Tie as tie
-use Rattle.judge.proofs.session.Session.checked.Reads as reads
-use Rattle.judge.proofs.session.Session.checked.Lts as lts
-use Rattle.judge.proofs.check.name_count.Reads as name-count-reads
-use Rattle.judge.proofs.check.well_formed.Reads as well-formed-reads
-use Rattle.judge.proofs.session.is_intact.Reads as is-intact-reads
 
 well-formed-requires : tie.Need-well-formed-requires
 well-formed-requires c κs = search needs

@@ -8,10 +8,6 @@ use Rattle.judge.specs.Session.Code.{opening-by, completed, refused}
 use borrow.Author.Needs.{needs}
 use Rattle.judge.proofs.session.Session.open.Statement.{statement}
 use Rattle.judge.proofs.session.Session.open.Tie as tie
-use Rattle.judge.proofs.session.Session.open.Reads as reads
-use Rattle.judge.proofs.session.Session.open.Lts as lts
-use Rattle.judge.proofs.check.well_formed.Reads as well-formed-reads
-use Rattle.judge.proofs.session.free_all.Reads as free-all-reads
 
 well-formed-requires : tie.Need-well-formed-requires
 well-formed-requires c κs = search needs

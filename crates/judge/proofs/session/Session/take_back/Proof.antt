@@ -5,9 +5,6 @@ use Rattle.judge.specs.Session.Code.{refused, completed, taking-refused,
 use borrow.Author.Needs.{needs}
 use Rattle.judge.proofs.session.Session.take_back.Statement.{statement}
 use Rattle.judge.proofs.session.Session.take_back.Tie as tie
-use Rattle.judge.proofs.session.Session.take_back.Reads as reads
-use Rattle.judge.proofs.session.Session.take_back.Lts as lts
-use Rattle.judge.proofs.session.Session.checked.Reads as checked-reads
 
 checked-requires : tie.Need-checked-requires
 checked-requires c κs = search needs
