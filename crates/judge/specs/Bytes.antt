@@ -1,5 +1,7 @@
 -- Bytes of texts, and the tests of a byte that the notation knows: document 01, "Model text".
 pub mod Laws
+pub mod Numeral
+pub mod Runs
 use mathlib.Core.Bool.{Bool, true, false, cond, not, _&&_, _||_}
 use mathlib.Core.List.{List, [], _∷_, _++_}
 use Prim.Native.Nat.{ℕ, _+_, _*_, _-_}
@@ -51,3 +53,9 @@ value ds = valueFrom 0 ds
 abbrev pub front : (ℕ → Bool) → Text → Text
 front f [] = []
 front f (b ∷ bs) = cond (f b) (b ∷ front f bs) []
+
+abbrev pub sameText : Text → Text → Bool
+sameText [] [] = true
+sameText [] (y ∷ ys) = false
+sameText (x ∷ xs) [] = false
+sameText (x ∷ xs) (y ∷ ys) = eqb x y && sameText xs ys

@@ -1,5 +1,10 @@
 -- What is wrong with a model text, at which place, and the answer to a text: document 01, refusals 10 to 17 and the paragraph under the table.
 -- Each fault looks at the bytes alone; places count from 0.
+pub mod Search
+pub mod Decide
+pub mod Answered
+pub mod Places
+pub mod Ties
 use mathlib.Core.Path.{_≡_}
 use mathlib.Core.Logic.{_⊎_}
 use mathlib.Core.Bool.{Bool, true, false, cond, _&&_, _||_}

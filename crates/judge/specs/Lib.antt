@@ -1,13 +1,12 @@
 -- What the judge promises, from the top. A folder beside a file holds the laws of what the file defines.
---   Tests                          what a test tells
 --   Word, Types, Verdict           the words of document 001, its types, and what a verdict says
 --   Bytes, Tree, Syntax, Limits    model text: bytes, trees, and which text spells which tree
 --   Fault                          what is wrong with a text, and the answer to it
 --   Model, Rule                    models, the nodes of a rule, and the type that it means
 --   Judge                          what a row is answered
 --   Book, Session                  what a list of calls is answered, and what each method of a session does
---   Stack                          lists: a stack that grows down in an array
-pub mod Tests
+--   Starred                        the starred rows of document 01
+-- Tests and Stack hold laws that belong to no definition: of tests, and of a stack that grows down in an array.
 pub mod Word
 pub mod Types
 pub mod Verdict
@@ -16,9 +15,13 @@ pub mod Tree
 pub mod Syntax
 pub mod Limits
 pub mod Fault
+pub mod Accept
 pub mod Model
 pub mod Rule
 pub mod Judge
 pub mod Book
 pub mod Session
+pub mod Starred
+pub mod Examples
+pub mod Tests
 pub mod Stack

@@ -2,17 +2,19 @@
 pub mod Machine
 pub mod Sound
 pub mod Complete
+pub mod Counters
 use mathlib.Core.Path.{_≡_}
-use mathlib.Core.List.{List, [], _∷_, _++_}
-use Prim.Native.Nat.{ℕ}
+use mathlib.Core.Bool.{cond}
+use mathlib.Core.List.{List, [], _∷_, _++_, map}
+use Prim.Native.Nat.{ℕ, suc}
 use Prim.Native.Char.{code}
 use lib.Dec.{T}
 use Rattle.judge.specs.declared.rule.Sign.{Sign}
 use Rattle.judge.specs.declared.rule.Sign.the-variants.{None, Sequence, Choice, Interleaving}
 use Rattle.judge.specs.declared.rule.Mark.{Mark}
 use Rattle.judge.specs.declared.rule.Mark.the-variants.{Plain, Optional}
-use Rattle.judge.specs.Bytes.{Text, bytes, isName, isNumeral}
-use Rattle.judge.specs.Tree.{Node, leaf, group, Tree, marked, Members, none, _▹_, Formed}
+use Rattle.judge.specs.Bytes.{Text, bytes, isName, isNumeral, sameText}
+use Rattle.judge.specs.Tree.{Node, leaf, group, Tree, marked, Members, none, _▹_, leaves, Formed}
 
 -- a count as written, its numbers as digits: left out, [m..n], [m..*]
 pub data Count : Type 0 where
@@ -81,3 +83,15 @@ pub record Spelled (x : Text) : Type 0 where
 pub record Begins (x : Text) : Type 0 where
   pub more : Text
   pub whole : Spelled (x ++ more)
+
+-- the names in the order written
+abbrev pub names : Syntax → List Text
+names t = map (λ a. a .name) (leaves t)
+
+-- the number of a name among names that are numbered from k, and 0 if it is not among them
+abbrev pub numberFrom : ℕ → List Text → Text → ℕ
+numberFrom k [] x = 0
+numberFrom k (n ∷ ns) x = cond (sameText n x) k (numberFrom (suc k) ns x)
+
+abbrev pub numberIn : List Text → Text → ℕ
+numberIn ns x = numberFrom 1 ns x

@@ -1,5 +1,6 @@
 -- Trees of nodes over atoms of any kind: as written in a model text, or with their two counts alone.
 pub mod Map
+pub mod Leaves
 use mathlib.Core.List.{List, [], _∷_, _++_}
 use Prim.Native.Nat.{ℕ, suc, _+_, _≤_, max}
 use Rattle.judge.specs.declared.rule.Sign.{Sign}

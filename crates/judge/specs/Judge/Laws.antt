@@ -7,15 +7,15 @@ use Prim.Native.Nat.{ℕ, _≤_, _<_}
 use native.Mathlib.Omega.{arith}
 use lib.Dec.{leb, eqb}
 use lib.ListN.{length}
-use Rattle.judge.specs.declared.fault.JudgeFault.the-variants.{NoModel, LongRow, NoName}
+use Rattle.judge.specs.declared.fault.JudgeFault.the-variants.{NoModel, LongRow, BadTrail, NoName, NoRoom, NoChildren}
 use Rattle.judge.specs.declared.rule.Rule.{Rule}
 use Rattle.judge.specs.declared.verdict.Judged.{Judged}
 use Rattle.judge.specs.declared.verdict.Judged.the-variants.{Verdict, Refused}
-use Rattle.judge.specs.Tests.{by-test, Tells, untold, tells-le, tells-and}
+use Rattle.judge.specs.Tests.{by-test, Tells, untold, fails, tells-le, tells-and}
 use Rattle.judge.specs.Word.{Word}
 use Rattle.judge.specs.Types.{Ty, ε, ConflictFree}
 use Rattle.judge.specs.Verdict.{Says}
-use Rattle.judge.specs.Verdict.Laws.{verdict, verdict-says, says-once}
+use Rattle.judge.specs.Verdict.Laws.{verdict, verdict-says, verdict-is}
 use Rattle.judge.specs.Rule.{Readable, Means, names}
 use Rattle.judge.specs.Rule.Laws.{means-once}
 use Rattle.judge.specs.Rule.Decide.{readable, readable-is, ruleType, type-means, means-type, means-conflict-free}
@@ -49,3 +49,18 @@ judges r w =
     (λ c. rw (a, b, c) (i, j, untold (upto (names r) w) (upto-tells (names r) w) c)))
     (λ b. let n = untold (leb (length w) maxRow) (tells-le (length w) maxRow) b in rw (a, b) (i, omega arith)))
     (λ a. rw a (untold (readable r) (readable-is r) a))
+
+-- there is no second one
+pub judged-is : (r : Rule) (w : Word) (a : Judged) → Judges r w a → a ≡ judged r w
+unfolding judged
+judged-is r w (Refused NoModel) h = rw (fails (readable r) (readable-is r) h)
+judged-is r w (Refused LongRow) h =
+    rw (readable-is r .1 (h .0), fails (leb (length w) maxRow) (tells-le (length w) maxRow) (λ l. omega arith))
+judged-is r w (Refused BadTrail) h = absurd h
+judged-is r w (Refused NoName) h =
+    rw (readable-is r .1 (h .0), tells-le (length w) maxRow .1 (h .1), fails (upto (names r) w) (upto-tells (names r) w) (h .2))
+judged-is r w (Refused NoRoom) h = absurd h
+judged-is r w (Refused NoChildren) h = absurd h
+judged-is r w (Verdict v) (A, m, l, u, s) =
+    rw (readable-is r .1 (m .text, m .reads), tells-le (length w) maxRow .1 l, upto-tells (names r) w .1 u)
+    (ap Verdict (sym (verdict-is (ruleType r) (rw (means-type m) at (means-conflict-free m)) w v .1 (rw (means-type m) at s))))

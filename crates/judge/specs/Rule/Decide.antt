@@ -12,7 +12,10 @@ use Rattle.judge.specs.declared.rule.Rule.{Rule}
 use Rattle.judge.specs.Tests.{Tells, tells-and}
 use Rattle.judge.specs.Types.{Ty, ε, ConflictFree}
 use Rattle.judge.specs.Tree.{Formed, atoms, nodes, depth}
-use Rattle.judge.specs.Model.{Model, modelOf, encode, typeBy, typeOf}
+use Rattle.judge.specs.Tree.Map.{weight-map, depth-map}
+use Rattle.judge.specs.Accept.Laws.{accepted-within, accepted-counts}
+use Rattle.judge.specs.Accept.Readable.{readable as written}
+use Rattle.judge.specs.Model.{Model, countsOf, modelOf, encode, typeBy, typeOf}
 use Rattle.judge.specs.Model.Eval.{eval, eval-tree}
 use Rattle.judge.specs.Model.Laws.{length-encode}
 use Rattle.judge.specs.Model.Types.{CountsFit, type-conflict-free}
@@ -22,10 +25,20 @@ use Rattle.judge.specs.Rule.Test.{WellFormed, wellFormed, well-formed-is
 use Rattle.judge.specs.Limits.{maxNodes, maxAtoms, maxDepth}
 
 readable-well-formed : (r : Rule) → Readable r → WellFormed r
-readable-well-formed r (x, h) = ?
+readable-well-formed r (x, h) =
+    let t = h .tree in
+    let w = accepted-within x t (h .answered) in
+    record {
+      model = modelOf t;
+      rule-is = h .rule-is;
+      formed = accepted-counts x t (h .answered);
+      few-atoms = rw (weight-map (λ a. countsOf (a .count)) 1 0 t) (w .few-atoms);
+      few-nodes = rw (weight-map (λ a. countsOf (a .count)) 1 1 t) (w .few-nodes);
+      shallow = rw (depth-map (λ a. countsOf (a .count)) t) (w .shallow);
+    }
 
 well-formed-readable : (r : Rule) → WellFormed r → Readable r
-well-formed-readable r w = ?
+well-formed-readable r w = rw (w .rule-is) (written (w .model) (w .formed) (w .shallow) (w .few-atoms) (w .few-nodes))
 
 length-rule : (t : Model) → nodes t ≤ maxNodes → length (ruleOf t .nodes) ≡ maxNodes
 length-rule t h =
@@ -61,4 +74,4 @@ type-means {r} (x, h) =
     record { text = x; reads = h; type-is = ap ruleType (h .rule-is) ∙ rule-type (modelOf (h .tree)) }
 
 pub means-conflict-free : {r : Rule} {A : Ty} → Means r A → ConflictFree A
-means-conflict-free m = rw (m .type-is) (type-conflict-free (modelOf (m .reads .tree)) ?)
+means-conflict-free m = rw (m .type-is) (type-conflict-free (modelOf (m .reads .tree)) (accepted-counts (m .text) (m .reads .tree) (m .reads .answered)))

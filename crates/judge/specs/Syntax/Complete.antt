@@ -1,7 +1,7 @@
 -- A tree's text leads the automaton to the tree. So a text spells at most one tree, and begins a model text exactly where the automaton is alive.
-use mathlib.Core.Path.{_≡_, refl, sym, ap, subst, _∙_}
+use mathlib.Core.Path.{_≡_, refl, sym, ap, _∙_}
 use mathlib.Core.Logic.{_⊎_, inl, inr, _↔_}
-use mathlib.Core.Bool.{Bool, true, false, cond, not, _&&_, and-false}
+use mathlib.Core.Bool.{true, false, cond, not, _&&_, and-false}
 use mathlib.Core.List.{List, [], _∷_, _++_, append-assoc, append-nil}
 use mathlib.Core.Option.{Option, none as nothing, some, Option·none-ne-some, Option·some-injective}
 use Prim.Native.Nat.{ℕ, suc, _≤_}
@@ -19,7 +19,7 @@ use Rattle.judge.specs.Bytes.{Text, bytes, isLetter, isDigit, isInner, a
 use Rattle.judge.specs.Bytes.Laws.{cond-cases, cond-true}
 use Rattle.judge.specs.Tree.{Node, leaf, group, marked, Members, none, _▹_, SignFits, size, Formed, NodeFormed, MembersFormed}
 use Rattle.judge.specs.Syntax.{Count, between, onward, unwritten, Spelling, Syntax, countText, signText, markText, nodeText, text, membersText, moreText, CountFormed, SpellingFormed, Spells, Spelled, Begins}
-use Rattle.judge.specs.Syntax.Machine.{snoc, signOf, byteOf, markOf, isPlain, atom, bare, Frame, opened, signed, low, dot, dots, high, Focus, expect, naming, counting, after, State, dead, at, Alive, close, grows, stepAfter, step, run, start, whole, result}
+use Rattle.judge.specs.Syntax.Machine.{snoc, signOf, byteOf, markOf, isPlain, atom, Frame, opened, signed, low, dot, dots, high, Focus, expect, naming, counting, after, State, dead, at, Alive, close, grows, stepAfter, step, run, start, whole, result}
 use Rattle.judge.specs.Syntax.Sound.{plain-is, run-dead, run-append, sound, alive-begins}
 
 -- names and numerals
@@ -104,7 +104,7 @@ mark-run : (k : List Frame) (n : Node Spelling) (m : Mark) → run (at k (behind
 mark-run k n Plain = refl
 mark-run k n Optional = node-step k n (code "?") refl refl
 
-after-parts : (k : List Frame) (t : Syntax) (b : ℕ) → markOf b ≡ Plain → stepAfter k t b ≡ close k t b
+pub after-parts : (k : List Frame) (t : Syntax) (b : ℕ) → markOf b ≡ Plain → stepAfter k t b ≡ close k t b
 after-parts k (marked m n) b e = rw (e, and-false)
 
 -- one that is no mark either closes a group or parts two members
@@ -176,17 +176,24 @@ mutual
   pub tree-run : (t : Syntax) (k : List Frame) → Formed SpellingFormed t → run (at k expect) (text t) ≡ at k (behind t)
   tree-run (marked m n) k p = rw (run-append (at k expect) (nodeText n) (markText m), node-run n k p) (mark-run k n m)
 
-  members-run : (ts : Members Spelling) (s : Sign) (k : List Frame) → SignFits s (size ts) → MembersFormed SpellingFormed ts → run (at (opened ∷ k) expect) (membersText ts s ++ bytes ")") ≡ at k (after (marked Plain (group s ts)))
+  members-run : (ts : Members Spelling) (s : Sign) (k : List Frame) → SignFits s (size ts) → MembersFormed SpellingFormed ts
+      → run (at (opened ∷ k) expect) (membersText ts s ++ bytes ")") ≡ at k (after (marked Plain (group s ts)))
   members-run none s k q p = rw (few s {n = 0} (omega arith) q)
-  members-run (t ▹ ts) s k q p = rw (append-assoc (text t) (moreText ts s) (bytes ")"), run-append (at (opened ∷ k) expect) (text t) (moreText ts s ++ bytes ")"), tree-run t (opened ∷ k) (p .0)) (first-run ts s t k q (p .1))
+  members-run (t ▹ ts) s k q p =
+      rw (append-assoc (text t) (moreText ts s) (bytes ")"), run-append (at (opened ∷ k) expect) (text t) (moreText ts s ++ bytes ")"), tree-run t (opened ∷ k) (p .0))
+      (first-run ts s t k q (p .1))
 
-  first-run : (ts : Members Spelling) (s : Sign) (t : Syntax) (k : List Frame) → SignFits s (size (t ▹ ts)) → MembersFormed SpellingFormed ts → run (at (opened ∷ k) (behind t)) (moreText ts s ++ bytes ")") ≡ at k (after (marked Plain (group s (t ▹ ts))))
+  first-run : (ts : Members Spelling) (s : Sign) (t : Syntax) (k : List Frame) → SignFits s (size (t ▹ ts)) → MembersFormed SpellingFormed ts
+      → run (at (opened ∷ k) (behind t)) (moreText ts s ++ bytes ")") ≡ at k (after (marked Plain (group s (t ▹ ts))))
   first-run none s t k q p = rw (few s {n = 1} (omega arith) q, parts (opened ∷ k) t (code ")") refl refl refl)
   first-run (u ▹ us) s t k q p =
       let o : (o : Operator) × (s ≡ signOf o) = many s {n = suc (suc (size us))} (omega arith) q in
-      rw (o .1) (next-run us (o .0) (opened ∷ k) (signed (o .0) t none ∷ k) t u (sign-first k t (o .0)) (tree-run u (signed (o .0) t none ∷ k) (p .0)) ∙ more-run us (o .0) t none u k (p .1) ∙ rw (snocs-cons u none us, snocs-none us))
+      rw (o .1)
+      (next-run us (o .0) (opened ∷ k) (signed (o .0) t none ∷ k) t u (sign-first k t (o .0)) (tree-run u (signed (o .0) t none ∷ k) (p .0))
+      ∙ more-run us (o .0) t none u k (p .1) ∙ rw (snocs-cons u none us, snocs-none us))
 
-  more-run : (ts : Members Spelling) (o : Operator) (u : Syntax) (us : Members Spelling) (t : Syntax) (k : List Frame) → MembersFormed SpellingFormed ts → run (at (signed o u us ∷ k) (behind t)) (moreText ts (signOf o) ++ bytes ")") ≡ at k (after (marked Plain (group (signOf o) (u ▹ snocs (snoc us t) ts))))
+  more-run : (ts : Members Spelling) (o : Operator) (u : Syntax) (us : Members Spelling) (t : Syntax) (k : List Frame) → MembersFormed SpellingFormed ts
+      → run (at (signed o u us ∷ k) (behind t)) (moreText ts (signOf o) ++ bytes ")") ≡ at k (after (marked Plain (group (signOf o) (u ▹ snocs (snoc us t) ts))))
   more-run none o u us t k p = rw (parts (signed o u us ∷ k) t (code ")") refl refl refl)
   more-run (x ▹ xs) o u us t k p = next-run xs o (signed o u us ∷ k) (signed o u (snoc us t) ∷ k) t x (sign-next k u us t o) (tree-run x (signed o u (snoc us t) ∷ k) (p .0)) ∙ more-run xs o u (snoc us t) x k (p .1)
 

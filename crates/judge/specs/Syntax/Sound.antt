@@ -1,9 +1,9 @@
 -- What a state of the automaton has seen; each step sees one byte more. So what the automaton takes is a model text, and where it is alive one begins.
 use mathlib.Core.Path.{_≡_, refl, sym, ap, subst, _∙_}
 use mathlib.Core.Logic.{_⊎_, inl, inr}
-use mathlib.Core.Bool.{Bool, true, false, cond, not, _&&_}
+use mathlib.Core.Bool.{true, cond, not, _&&_}
 use mathlib.Core.List.{List, [], _∷_, _++_, append-assoc, append-nil}
-use mathlib.Core.Option.{Option, none as nothing, some, Option·none-ne-some, Option·some-injective}
+use mathlib.Core.Option.{some, Option·none-ne-some, Option·some-injective}
 use Prim.Native.Nat.{ℕ, suc, _≤_}
 use Prim.Native.Char.{code}
 use native.Mathlib.Omega.{arith}
@@ -17,14 +17,20 @@ use Rattle.judge.specs.Types.{Operator, sequence, choice, interleaving}
 use Rattle.judge.specs.Bytes.{Text, bytes, isLetter, isDigit, isInner, all, isName, isNumeral}
 use Rattle.judge.specs.Bytes.Laws.{cond-cases, all-snoc, name-snoc}
 use Rattle.judge.specs.Tree.{Node, group, marked, Members, none, _▹_, SignFits, size, Formed, MembersFormed}
-use Rattle.judge.specs.Syntax.{between, onward, unwritten, Spelling, Syntax, signText, markText, nodeText, text, moreText, SpellingFormed, Spells, Spelled, Begins}
-use Rattle.judge.specs.Syntax.Machine.{snoc, signOf, byteOf, markOf, isPlain, atom, bare, Frame, opened, signed, Part, low, dot, dots, high, star, Focus, expect, naming, counting, after, State, dead, at, Alive, bySign, close, shut, grows, some-digit, stepCount, stepAfter, stepAt, step, run, start, whole, result}
+use Rattle.judge.specs.Syntax.{between, onward, Spelling, Syntax, signText, markText, nodeText, text, moreText, SpellingFormed, Spells, Begins}
+use Rattle.judge.specs.Model.{operator}
+use Rattle.judge.specs.Syntax.Machine.{snoc, signOf, byteOf, markOf, isPlain, atom, bare, Frame, opened, signed, Part, low, dot, dots, high, star, Focus, expect, naming, counting, after, State, dead, at, Alive, bySign, close, shut, grows, some-digit, stepCount, stepAfter, step, run, start, whole, result}
 
 -- signs and marks
 pub sign-text : (o : Operator) → signText (signOf o) ≡ byteOf o ∷ []
 sign-text sequence = refl
 sign-text choice = refl
 sign-text interleaving = refl
+
+pub operator-sign : (o : Operator) → operator (signOf o) ≡ o
+operator-sign sequence = refl
+operator-sign choice = refl
+operator-sign interleaving = refl
 
 pub sign-fits : (o : Operator) {n : ℕ} → 2 ≤ n → SignFits (signOf o) n
 sign-fits sequence h = h
