@@ -1,0 +1,240 @@
+// Plays lists of calls on sessions. A line for each call has the call, its answer and the places of the trail; the file stdout has what the book of
+// document 01 says.
+
+ghost use mathlib.Core.Path.{_≡_};
+ghost use Rattle.judge.specs.Judge.{judgeNumber};
+
+use judge::fault::JudgeFault;
+use judge::rule::Kind;
+use judge::rule::MAX_NODES;
+use judge::rule::Mark;
+use judge::rule::NameNumber;
+use judge::rule::Node;
+use judge::rule::Rule;
+use judge::rule::Sign;
+use judge::rule::Upper;
+use judge::session::FREE;
+use judge::session::Outcome;
+use judge::session::Session;
+use judge::verdict::Judged;
+use judge::verdict::Verdict;
+use libc::STDOUT_FILENO;
+
+fn text(bytes: &[u8]) {
+    io::write_all(STDOUT_FILENO, bytes);
+}
+
+fn number(fault: JudgeFault) -> u64
+    ensures { λ r. ⌜ r ≡ judgeNumber fault ⌝ }
+{
+    match fault {
+        JudgeFault::NoModel => 40,
+        JudgeFault::LongRow => 41,
+        JudgeFault::BadTrail => 42,
+        JudgeFault::NoName => 43,
+        JudgeFault::NoRoom => 44,
+        JudgeFault::NoChildren => 45,
+    }
+}
+
+fn show_outcome(outcome: Outcome) {
+    match outcome {
+        Outcome::Done => text(b"done"),
+        Outcome::Refused(fault) => {
+            io::print_decimal(STDOUT_FILENO, number(fault));
+        }
+    }
+}
+
+fn show_verdict(verdict: Verdict) {
+    match verdict {
+        Verdict::Complete => text(b"complete"),
+        Verdict::Open => text(b"open"),
+        Verdict::Dead => text(b"dead"),
+    }
+}
+
+fn show_judged(judged: Judged) {
+    match judged {
+        Judged::Verdict(verdict) => show_verdict(verdict),
+        Judged::Refused(fault) => {
+            io::print_decimal(STDOUT_FILENO, number(fault));
+        }
+    }
+}
+
+// A free place is a full stop.
+fn show_place(place: u16) {
+    if place == FREE {
+        text(b" .");
+    } else {
+        text(b" ");
+        io::print_decimal(STDOUT_FILENO, place as u64);
+    }
+}
+
+fn show_trail(trail: &[u16]) {
+    text(b"\t");
+    let mut i: usize = 0;
+    while i < trail.len() {
+        show_place(trail[i]);
+        i += 1;
+    }
+    text(b"\n");
+}
+
+fn unused() -> Node {
+    Node {
+        kind: Kind::Group {
+            sign: Sign::None,
+            members: 0,
+        },
+        mark: Mark::Plain,
+    }
+}
+
+fn atom(min: u16, max: Upper) -> Node {
+    Node {
+        kind: Kind::Atom { min: min, max: max },
+        mark: Mark::Plain,
+    }
+}
+
+fn group(sign: Sign, members: u16, mark: Mark) -> Node {
+    Node {
+        kind: Kind::Group {
+            sign: sign,
+            members: members,
+        },
+        mark: mark,
+    }
+}
+
+// (axis,target,(crawl&gather)?,hold[0..2])
+fn move_rule() -> Rule {
+    let mut nodes = [unused(); MAX_NODES];
+    let one = atom(1, Upper::Number(1));
+    nodes[0] = group(Sign::Sequence, 4, Mark::Plain);
+    nodes[1] = one;
+    nodes[2] = one;
+    nodes[3] = group(Sign::Interleaving, 2, Mark::Optional);
+    nodes[4] = one;
+    nodes[5] = one;
+    nodes[6] = atom(0, Upper::Number(2));
+    Rule {
+        nodes: nodes,
+        len: 7,
+    }
+}
+
+// (a[2..3],b)
+fn pair_rule() -> Rule {
+    let mut nodes = [unused(); MAX_NODES];
+    nodes[0] = group(Sign::Sequence, 2, Mark::Plain);
+    nodes[1] = atom(2, Upper::Number(3));
+    nodes[2] = atom(1, Upper::Number(1));
+    Rule {
+        nodes: nodes,
+        len: 3,
+    }
+}
+
+// a[60000..60000]
+fn many_rule() -> Rule {
+    let mut nodes = [unused(); MAX_NODES];
+    nodes[0] = atom(60000, Upper::Number(60000));
+    Rule {
+        nodes: nodes,
+        len: 1,
+    }
+}
+
+// A group of two members, of which only one is there: no model text reads into it.
+fn damaged_rule() -> Rule {
+    let mut nodes = [unused(); MAX_NODES];
+    nodes[0] = group(Sign::Choice, 2, Mark::Plain);
+    nodes[1] = atom(1, Upper::Unbounded);
+    Rule {
+        nodes: nodes,
+        len: 2,
+    }
+}
+
+fn opened(session: Session, rule: Rule, trail: &mut [u16]) -> Session {
+    let step = session.open(rule, trail);
+    let outcome = step.outcome;
+    show_outcome(outcome);
+    step.session
+}
+
+fn added(session: Session, name: u16, trail: &mut [u16]) -> Session {
+    let step = session.add(NameNumber(name), trail);
+    let outcome = step.outcome;
+    show_outcome(outcome);
+    step.session
+}
+
+fn taken_back(session: Session, trail: &mut [u16]) -> Session {
+    let step = session.take_back(trail);
+    let outcome = step.outcome;
+    show_outcome(outcome);
+    step.session
+}
+
+// The last place of the trail, written behind the session's back.
+fn scribbled(place: u16, trail: &mut [u16]) {
+    if 0 < trail.len() {
+        let last = trail.len() - 1;
+        trail[last] = place;
+    }
+}
+
+// One byte is one call: m, p and d open with the rules above, a digit is added, < takes back, ? asks. Between calls # damages the trail, = mends it,
+// and x damages the session's rule.
+fn turn(session: Session, call: u8, trail: &mut [u16]) -> Session {
+    match call {
+        b'm' => opened(session, move_rule(), trail),
+        b'p' => opened(session, pair_rule(), trail),
+        b'd' => opened(session, damaged_rule(), trail),
+        b'<' => taken_back(session, trail),
+        b'?' => {
+            show_judged(session.verdict(trail));
+            session
+        }
+        b'#' => {
+            scribbled(7, trail);
+            session
+        }
+        b'=' => {
+            scribbled(FREE, trail);
+            session
+        }
+        b'x' => Session {
+            rule: damaged_rule(),
+            children: session.children,
+        },
+        b'0'..=b'9' => added(session, (call - b'0') as u16, trail),
+        _ => session,
+    }
+}
+
+fn play(calls: &[u8], trail: &mut [u16]) {
+    let mut session = Session {
+        rule: damaged_rule(),
+        children: 3,
+    };
+    let mut i: usize = 0;
+    while i < calls.len() {
+        text(&calls[i..i + 1]);
+        text(b"\t");
+        session = turn(session, calls[i], trail);
+        show_trail(trail);
+        i += 1;
+    }
+    text(b"\n");
+}
+
+fn main() {
+    let mut trail = [7u16; 5];
+    play(b"?1<m?1?2?3?4?5?5", &mut trail);
+}
