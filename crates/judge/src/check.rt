@@ -48,7 +48,7 @@ fn kind_fits(kind: Kind) -> bool
     }
 }
 
-fn members_of(kind: Kind) -> usize
+pub(crate) fn members_of(kind: Kind) -> usize
     ensures { λ r. ⌜ r ≡ needed kind ⌝ }
 {
     match kind {
@@ -58,7 +58,7 @@ fn members_of(kind: Kind) -> usize
 }
 
 // An atom is one, a group none.
-fn atoms_of(kind: Kind) -> usize
+pub(crate) fn atoms_of(kind: Kind) -> usize
     ensures { λ r. ⌜ (r ≡ after kind 0) × (r ≤ 1) ⌝ }
 {
     match kind {
@@ -89,7 +89,7 @@ fn is_unused(node: Node) -> bool
     (atoms_of(kind) == 0) & (members_of(kind) == 0) & fits & plain
 }
 
-fn smaller(a: usize, b: usize) -> usize
+pub(crate) fn smaller(a: usize, b: usize) -> usize
     ensures { λ r. ⌜ r ≡ min a b ⌝ }
 {
     if a < b { a } else { b }
