@@ -3,7 +3,6 @@
 
 ghost use mathlib.Core.Path.{_≡_};
 ghost use Rattle.judge.specs.Judge.{judgeNumber};
-
 use judge::fault::JudgeFault;
 use judge::rule::Kind;
 use judge::rule::MAX_NODES;

@@ -8,11 +8,11 @@ ghost use Rattle.judge.specs.Session.{free, allFree, intact, checked, st
 use crate::check::name_count;
 use crate::check::well_formed;
 use crate::fault::JudgeFault;
+use crate::row::MAX_ROW;
+use crate::row::verdict_by;
 use crate::rule::NameNumber;
 use crate::rule::Rule;
 use crate::verdict::Judged;
-
-pub const MAX_ROW: usize = 4096;
 
 // What a free place holds.
 pub const FREE: u16 = 65535;
@@ -197,6 +197,21 @@ impl Session {
                     session: shorter,
                     outcome: Outcome::Done,
                 }
+            }
+        }
+    }
+
+    // Refused with 40 or 42. Else the verdict on the children by the session's rule.
+    pub fn verdict(self, trail: &[u16]) -> Judged
+        ensures { λ r. ⌜ r ≡ asked self (now (trail .entry)) ⌝ }
+    {
+        let rule = self.rule;
+        let children = self.children;
+        match self.checked(trail) {
+            Outcome::Refused(fault) => Judged::Refused(fault),
+            Outcome::Done => {
+                let verdict = verdict_by(rule, &trail[0..children]);
+                Judged::Verdict(verdict)
             }
         }
     }

@@ -4,22 +4,25 @@ use mathlib.Core.Bool.{Bool, true, false, _&&_}
 use Prim.Native.Nat.{ℕ, _-_, _≤_, _<_}
 use native.Mathlib.Nat.{sub-zero}
 use native.Mathlib.Omega.{arith}
-use lib.ListN.{length-drop, length, take, drop}
+use lib.ListN.{length, take, drop, length-take, length-drop}
 use lib.Seq.{take-all}
 use borrow.Author.Tests.{eq-eqb, le-leb, lt-ltb, le-ltb, lt-leb}
-use Rattle.judge.specs.declared.fault.JudgeFault.the-variants.{NoModel, BadTrail, NoName, NoRoom, NoChildren}
 use Rattle.judge.specs.declared.fault.JudgeFault.{JudgeFault}
-use Rattle.judge.specs.Limits.{maxNodes}
-use Rattle.judge.specs.Rule.Test.{wellFormed}
+use Rattle.judge.specs.declared.fault.JudgeFault.the-variants.{NoModel, BadTrail, NoName, NoRoom, NoChildren}
 use Rattle.judge.specs.declared.rule.Rule.{Rule}
-use Rattle.judge.specs.declared.session.Session.{Session}
 use Rattle.judge.specs.declared.session.Outcome.the-variants.{Done, Refused}
+use Rattle.judge.specs.declared.session.Session.{Session}
+use Rattle.judge.specs.declared.verdict.Verdict.{Verdict as Said}
+use Rattle.judge.specs.declared.verdict.Judged.the-variants.{Verdict, Refused as RefusedRow}
+use Rattle.judge.specs.Verdict.Laws.{verdict}
 use Rattle.judge.specs.Rule.{names}
-use Rattle.judge.specs.Rule.Decide.{readable}
-use Rattle.judge.specs.Judge.Laws.{upto}
+use Rattle.judge.specs.Rule.Test.{wellFormed}
+use Rattle.judge.specs.Rule.Decide.{readable, ruleType}
+use Rattle.judge.specs.Judge.Laws.{upto, upto-tells}
 use Rattle.judge.specs.Book.{Call, opening, adding, takingBack, room}
-use Rattle.judge.specs.Session.{Trail, allFree, intact, checked, outcome, check, step, trailAfter, newSession, newTrail}
+use Rattle.judge.specs.Session.{Trail, allFree, intact, check, checked, outcome, newSession, newTrail, step, trailAfter, asked}
 use Rattle.judge.specs.Session.Laws.{intact-tells, checked-done}
+use Rattle.judge.specs.Limits.{maxNodes, maxRow}
 
 -- with the tests of the parts `[0..k]` and `[k..]`
 pub intact-holds : (k m : ℕ) (t : Trail) (a b : Bool) → k ≤ room (length t)
@@ -96,3 +99,25 @@ module _ (s : Session) (t : Trail) where
     pub checked-fits : s .children ≤ length t
     checked-fits =
         let h = intact-tells (s .children) (names (s .rule)) t .0 (checked-done s t e .1) .0 in omega arith
+
+    -- the part `[0..children]` is a row to judge
+    pub row-known : readable (s .rule) ≡ true
+    row-known = checked-done s t e .0
+
+    pub row-fits : length (take (s .children - 0) t) ≤ maxRow
+    row-fits =
+        let h = intact-tells (s .children) (names (s .rule)) t .0 (checked-done s t e .1) .0 in
+        rw (sub-zero, length-take) (omega arith)
+
+    pub row-named : upto (names (s .rule)) (take (s .children - 0) t) ≡ true
+    row-named =
+        let h = intact-tells (s .children) (names (s .rule)) t .0 (checked-done s t e .1) .1 in
+        rw sub-zero (upto-tells (names (s .rule)) (take (s .children) t) .1 h)
+
+    pub asked-done : (v : Said) → v ≡ verdict (ruleType (s .rule)) (take (s .children - 0) t) → Verdict v ≡ asked s t
+    unfolding outcome
+    asked-done v h = rw (e, ← sub-zero (s .children), ← h)
+
+  pub asked-refused : (f : JudgeFault) → checked s t ≡ Refused f → RefusedRow f ≡ asked s t
+  unfolding outcome
+  asked-refused f e = rw e
