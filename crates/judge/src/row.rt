@@ -1,6 +1,8 @@
 // What two passes over a row compute: the first of each name, the second of each node.
 
 ghost use mathlib.Core.Path.{_≡_};
+ghost use mathlib.Core.Bool.{true, _&&_};
+ghost use lib.Dec.{eqb};
 ghost use mathlib.Core.List.{[]};
 ghost use Prim.Native.Nat.{_+_, _≤_, _<_, max, min};
 ghost use lib.ListN.{length, getD};
@@ -11,10 +13,16 @@ ghost use Rattle.judge.specs.Model.{operator};
 ghost use Rattle.judge.specs.Rule.{names};
 ghost use Rattle.judge.specs.Judge.Tally.{unseen, noting, Tallied};
 ghost use Rattle.judge.specs.Judge.Root.{partAttribute, grownAttribute, rootAttribute};
+ghost use Rattle.judge.specs.Verdict.Laws.{verdictOf, verdict};
+ghost use Rattle.judge.specs.Rule.Decide.{readable, ruleType};
+ghost use Rattle.judge.specs.Judge.Laws.{upto, judged};
+ghost use Rattle.judge.specs.Judge.Pass.{seenVerdict};
 use crate::check::atoms_of;
 use crate::check::members_of;
 use crate::check::name_count;
 use crate::check::smaller;
+use crate::check::well_formed;
+use crate::fault::JudgeFault;
 use crate::rule::Kind;
 use crate::rule::MAX_ATOMS;
 use crate::rule::MAX_NODES;
@@ -22,6 +30,8 @@ use crate::rule::Mark;
 use crate::rule::Rule;
 use crate::rule::Sign;
 use crate::rule::Upper;
+use crate::verdict::Judged;
+use crate::verdict::Verdict;
 
 pub const MAX_ROW: usize = 4096;
 
@@ -257,4 +267,60 @@ fn root(rule: Rule, length: u16, seen: [Seen; MAX_ATOMS + 1]) -> Attribute
         stack[top] = marked(length, mark, x);
     }
     if top < MAX_NODES { stack[top] } else { none }
+}
+
+// A row with a foreign name is dead.
+fn verdict_of(foreign: u16, root: Attribute) -> Verdict
+    ensures { λ r. ⌜ r ≡ verdictOf (eqb foreign 0 && root .done) (eqb foreign 0 && root .alive) ⌝ }
+{
+    let known = foreign == 0;
+    let held = known & root.done;
+    let extended = known & root.alive;
+    if held {
+        Verdict::Complete
+    } else {
+        if extended {
+            Verdict::Open
+        } else {
+            Verdict::Dead
+        }
+    }
+}
+
+// The verdict on a row of this length, by what is seen of each name.
+fn verdict_seen(rule: Rule, length: u16, seen: [Seen; MAX_ATOMS + 1]) -> Verdict
+    requires { ⌜ (rule .len ≤ maxNodes) × (names rule ≤ maxAtoms) ⌝ }
+    ensures { λ r. ⌜ r ≡ seenVerdict rule length (λ k. getD seen k (unseen 0)) ⌝ }
+{
+    let foreign = seen[0];
+    verdict_of(foreign.count, root(rule, length, seen))
+}
+
+// The verdict by a rule that some model text reads into, on a row that is not refused.
+pub(crate) fn verdict_by(rule: Rule, row: &[u16]) -> Verdict
+    requires { ⌜ (readable rule ≡ true) × (length (now row) ≤ maxRow) × (upto (names rule) (now row) ≡ true) ⌝ }
+    ensures { λ r. ⌜ r ≡ verdict (ruleType rule) (now (row .entry)) ⌝ }
+{
+    let tally = tally_row(row, name_count(rule));
+    let seen = tally.seen;
+    verdict_seen(rule, row.len() as u16, seen)
+}
+
+// Refused with 40, 41 or 43, tried in this order. Else the verdict.
+pub fn judge_row(rule: Rule, row: &[u16]) -> Judged
+    ensures { λ r. ⌜ r ≡ judged rule (now (row .entry)) ⌝ }
+{
+    let good = well_formed(rule);
+    if good {
+        if row.len() <= MAX_ROW {
+            let tally = tally_row(row, name_count(rule));
+            if tally.named {
+                let seen = tally.seen;
+                return Judged::Verdict(verdict_seen(rule, row.len() as u16, seen));
+            }
+            return Judged::Refused(JudgeFault::NoName);
+        }
+        return Judged::Refused(JudgeFault::LongRow);
+    }
+    Judged::Refused(JudgeFault::NoModel)
 }

@@ -1,10 +1,9 @@
 -- From what the two passes over a row know to the verdict on it.
-use mathlib.Core.Path.{_≡_, refl, sym, ap, ap₂, _∙_}
+use mathlib.Core.Path.{_≡_, refl, sym, ap, _∙_}
 use mathlib.Core.Logic.{_↔_, by-cases}
 use mathlib.Core.Bool.{Bool, true, false, _&&_, and-eq-true-iff}
 use mathlib.Core.List.{List, [], _∷_, map}
-use Prim.Native.Nat.{ℕ, zero, suc, _+_, _≤_, _<_}
-use native.Mathlib.Nat.{zero-add}
+use Prim.Native.Nat.{ℕ, suc, _≤_, _<_}
 use native.Mathlib.Decide.{decLt}
 use native.Mathlib.Omega.{arith}
 use lib.Dec.{eqb, leb}
@@ -16,26 +15,29 @@ use Rattle.judge.specs.declared.rule.Mark.{Mark}
 use Rattle.judge.specs.declared.rule.Node.{Node}
 use Rattle.judge.specs.declared.rule.Rule.{Rule}
 use Rattle.judge.specs.declared.row.Seen.{Seen}
+use Rattle.judge.specs.declared.row.Tally.{Tally}
 use Rattle.judge.specs.declared.row.Attribute.{Attribute}
 use Rattle.judge.specs.declared.verdict.Verdict.{Verdict}
-use Rattle.judge.specs.Limits.{maxNodes}
+use Rattle.judge.specs.Limits.{maxAtoms, maxNodes}
 use Rattle.judge.specs.Tests.{by-test}
 use Rattle.judge.specs.Word.{Word, Names, only}
 use Rattle.judge.specs.Word.Projection.{keep, count}
-use Rattle.judge.specs.Types.{Ty, ε, symbols}
+use Rattle.judge.specs.Types.{symbols}
 use Rattle.judge.specs.Types.Decide.{over?, holds?, extends?}
 use Rattle.judge.specs.Types.Attribute.{emptyAttribute, attributeBy, attribute, attribute-is, attribute-atom, attribute-group, attribute-mark, seen, attributeOf}
 use Rattle.judge.specs.Verdict.Laws.{verdictOf, verdict}
-use Rattle.judge.specs.Tree.{Formed, atoms}
-use Rattle.judge.specs.Model.{Model, typeBy, typeOf, encode}
+use Rattle.judge.specs.Tree.{Formed, atoms, nodes}
+use Rattle.judge.specs.Model.{Model, typeBy, typeOf}
 use Rattle.judge.specs.Model.Eval.{after, after-from, step, eval, eval-map, number, number-from, number-range}
+use Rattle.judge.specs.Model.Laws.{length-encode}
 use Rattle.judge.specs.Model.Types.{CountsFit, type-conflict-free, type-symbols}
 use Rattle.judge.specs.Rule.{ruleOf, names}
-use Rattle.judge.specs.Rule.Laws.{used, used-is, rule-eval}
+use Rattle.judge.specs.Rule.Laws.{used, rule-eval}
 use Rattle.judge.specs.Rule.Names.{names-number, names-model}
 use Rattle.judge.specs.Rule.Test.{WellFormed, wellFormed, well-formed-is}
 use Rattle.judge.specs.Rule.Decide.{readable, ruleType, rule-type}
 use Rattle.judge.specs.Judge.Laws.{upto}
+use Rattle.judge.specs.Judge.Tally.{unseen, Tallied}
 use Rattle.judge.specs.Judge.Root.{rootAttribute}
 
 -- by what is seen of each name in a row of n children, of foreign names under 0
@@ -100,3 +102,21 @@ verdict-seen r e w h s g =
     let b : seenVerdict r (length w) (seen w) ≡ verdict (ruleType r) w =
     rw (v .rule-is, rule-type t) (verdict-model t (v .formed) w (rw (v .rule-is) at h)) in
     rw (a, g 0 (omega arith)) b
+
+-- with what the first pass has counted, up to as many names as the rule has
+pub verdict-tallied : (r : Rule) → readable r ≡ true → (w : Word) → upto (names r) w ≡ true → (m : ℕ) → m ≡ names r → (t : Tally) → Tallied m w t
+    → seenVerdict r (length w) (λ k. getD (t .seen) k (unseen 0)) ≡ verdict (ruleType r) w
+verdict-tallied r e w h m f t g = verdict-seen r e w h (λ k. getD (t .seen) k (unseen 0)) (λ k l. g .seen-is k (omega arith))
+
+-- what the code's test b says, whose array of nodes is as long as it should be
+pub readable-tested : (r : Rule) (b c : Bool) → length (r .nodes) ≡ maxNodes → b ≡ wellFormed r → b ≡ c → readable r ≡ c
+unfolding readable
+readable-tested r b c l e f = rw (eq-eqb (length (r .nodes)) maxNodes l) (sym e ∙ f)
+
+-- the limits that the passes ask for
+pub readable-within : (r : Rule) → readable r ≡ true → (r .len ≤ maxNodes) × (names r ≤ maxAtoms)
+readable-within r e =
+    let w = readable-formed r e in
+    let l : r .len ≡ nodes (w .model) = ap (λ s. s .len) (w .rule-is) ∙ length-encode (w .model) in
+    let n : names r ≡ atoms (w .model) = ap names (w .rule-is) ∙ names-model (w .model) in
+    (omega (arith, w .few-nodes), omega (arith, w .few-atoms))

@@ -24,8 +24,8 @@ use Rattle.judge.specs.Stack.{slice-back, first-entries, replaced}
 use Rattle.judge.specs.Types.{Operator}
 use Rattle.judge.specs.Types.Attribute.{emptyAttribute, atomAttribute, pairAttribute, countedAttribute, markedAttribute, joinedAttributeFrom, joinedAttribute, attributeBy}
 use Rattle.judge.specs.Model.{operator}
-use Rattle.judge.specs.Model.Eval.{after, needed, step, eval, number, number-from, number-next, after-from}
-use Rattle.judge.specs.Rule.{isAtom, atomsIn}
+use Rattle.judge.specs.Model.Eval.{after, needed, step, eval, number, number-next, after-from}
+use Rattle.judge.specs.Rule.{atomsIn}
 use Rattle.judge.specs.Rule.Laws.{used}
 use Rattle.judge.specs.Rule.Names.{names-number}
 
