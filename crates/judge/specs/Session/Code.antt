@@ -6,7 +6,7 @@ use native.Mathlib.Nat.{sub-zero}
 use native.Mathlib.Omega.{arith}
 use lib.ListN.{length, take, drop, length-take, length-drop}
 use lib.Seq.{take-all}
-use borrow.Author.Tests.{eq-eqb, le-leb, lt-ltb, le-ltb, lt-leb}
+use borrow.Author.Tests.{le-leb, lt-ltb, le-ltb, lt-leb}
 use Rattle.judge.specs.declared.fault.JudgeFault.{JudgeFault}
 use Rattle.judge.specs.declared.fault.JudgeFault.the-variants.{NoModel, BadTrail, NoName, NoRoom, NoChildren}
 use Rattle.judge.specs.declared.rule.Rule.{Rule}
@@ -19,6 +19,7 @@ use Rattle.judge.specs.Rule.{names}
 use Rattle.judge.specs.Rule.Test.{wellFormed}
 use Rattle.judge.specs.Rule.Decide.{readable, ruleType}
 use Rattle.judge.specs.Judge.Laws.{upto, upto-tells}
+use Rattle.judge.specs.Judge.Pass.{readable-tested}
 use Rattle.judge.specs.Book.{Call, opening, adding, takingBack, room}
 use Rattle.judge.specs.Session.{Trail, allFree, intact, check, checked, outcome, newSession, newTrail, step, trailAfter, asked}
 use Rattle.judge.specs.Session.Laws.{intact-tells, checked-done}
@@ -35,11 +36,6 @@ pub intact-over : (k m : ℕ) (t : Trail) → room (length t) < k → false ≡ 
 unfolding intact
 intact-over k m t h = rw (lt-leb k (room (length t)) h)
 
--- a rule in code has an array of 128 nodes
-pub readable-by : (r : Rule) → length (r .nodes) ≡ maxNodes → readable r ≡ wellFormed r
-unfolding readable
-readable-by r l = rw (eq-eqb _ _ l)
-
 -- what a call leaves that was refused, and one that was done
 pub refused : (q : Call) (s : Session) (t : Trail) (f : JudgeFault) → outcome q s t ≡ Refused f
     → (record { session = s; outcome = Refused f } ≡ step q s t) × (t ≡ trailAfter q s t)
@@ -49,19 +45,20 @@ pub completed : (q : Call) (s : Session) (t : Trail) → outcome q s t ≡ Done
     → (record { session = newSession q s; outcome = Done } ≡ step q s t) × (newTrail q s t ≡ trailAfter q s t)
 completed q s t e = rw e (refl, refl)
 
-pub opening-by : (r : Rule) (s : Session) (t : Trail) (b x : Bool) → length (r .nodes) ≡ maxNodes → b ≡ wellFormed r → b ≡ x → outcome (opening r) s t ≡ check x NoModel
+pub opening-by : (r : Rule) (s : Session) (t : Trail) (b x : Bool) → length (r .nodes) ≡ maxNodes → b ≡ wellFormed r → b ≡ x
+    → outcome (opening r) s t ≡ check x NoModel
 unfolding outcome
-opening-by r s t b x l e f = rw (readable-by r l, ← e, f)
+opening-by r s t b x l e f = rw (readable-tested r b x l e f)
 
 module _ (s : Session) (t : Trail) where
   module _ (b : Bool) (l : length (s .rule .nodes) ≡ maxNodes) (e : b ≡ wellFormed (s .rule)) where
     pub checked-no-model : b ≡ false → checked s t ≡ Refused NoModel
     unfolding checked
-    checked-no-model f = rw (readable-by (s .rule) l, ← e, f)
+    checked-no-model f = rw (readable-tested (s .rule) b false l e f)
 
-    pub checked-by : b ≡ true → (n : ℕ) (d y : Bool) → n ≡ names (s .rule) → d ≡ intact (s .children) n t → d ≡ y → checked s t ≡ check y BadTrail
+    pub checked-by : b ≡ true → (n : ℕ) (d x : Bool) → n ≡ names (s .rule) → d ≡ intact (s .children) n t → d ≡ x → checked s t ≡ check x BadTrail
     unfolding checked
-    checked-by f n d y g h i = rw (readable-by (s .rule) l, ← e, f, ← g, ← h, i)
+    checked-by f n d x g h i = rw (readable-tested (s .rule) b true l e f, ← g, ← h, i)
 
   module _ (x : ℕ) where
     pub adding-refused : (f : JudgeFault) → checked s t ≡ Refused f → outcome (adding x) s t ≡ Refused f

@@ -1,3 +1,4 @@
+-- both parts of the trail are tested, or there are more children than room
 use Rattle.judge.specs.Session.Code.{intact-holds, intact-over}
 use borrow.Author.Needs.{needs}
 use Rattle.judge.proofs.session.is_intact.Statement.{statement}

@@ -1,3 +1,4 @@
+-- each answer by the tests that led there
 use mathlib.Core.Path.{sym, _∙_}
 use Rattle.judge.specs.declared.fault.JudgeFault.the-variants.{NoName, NoRoom}
 use Rattle.judge.specs.Book.{adding}

@@ -1,3 +1,4 @@
+-- each answer by the tests that led there
 use mathlib.Core.Path.{_≡_, sym}
 use mathlib.Core.Bool.{true, false}
 use lib.ListN.{length}

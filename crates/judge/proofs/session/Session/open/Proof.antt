@@ -1,3 +1,4 @@
+-- each answer by the test of the rule; the trail by what free_all gives
 use mathlib.Core.Path.{_≡_, _∙_}
 use mathlib.Core.Bool.{true, false}
 use lib.ListN.{length}

@@ -1,3 +1,4 @@
+-- each answer by the tests that led there; a session that passes 42 has its children within the trail
 use mathlib.Core.Path.{sym, _∙_}
 use Rattle.judge.specs.declared.fault.JudgeFault.the-variants.{NoChildren}
 use Rattle.judge.specs.Book.{takingBack}

@@ -1,12 +1,9 @@
+-- each answer by the tests that led there; a session that passes 40 and 42 has a row that can be judged
 use mathlib.Core.Path.{sym, _∙_}
 use Rattle.judge.specs.Session.Code.{checked-fits, row-known, row-fits, row-named, asked-done, asked-refused}
 use borrow.Author.Needs.{needs}
 use Rattle.judge.proofs.session.Session.verdict.Statement.{statement}
 use Rattle.judge.proofs.session.Session.verdict.Tie as tie
-use Rattle.judge.proofs.session.Session.verdict.Reads as reads
-use Rattle.judge.proofs.session.Session.verdict.Lts as lts
-use Rattle.judge.proofs.row.verdict_by.Reads as verdict-by-reads
-use Rattle.judge.proofs.session.Session.checked.Reads as checked-reads
 
 checked-requires : tie.Need-checked-requires
 checked-requires c κs = search needs
