@@ -180,17 +180,21 @@ fn taken_back(session: Session, trail: &mut [u16]) -> Session {
     step.session
 }
 
-// The last place of the trail, written behind the session's back.
-fn scribbled(place: u16, trail: &mut [u16]) {
+// Writes the last place of the trail, as no call does.
+fn scribble(place: u16, trail: &mut [u16]) {
     if 0 < trail.len() {
         let last = trail.len() - 1;
         trail[last] = place;
     }
 }
 
-// One byte is one call: m, p and d open with the rules above, a digit is added, < takes back, ? asks. Between calls # damages the trail, = mends it,
-// and x damages the session's rule.
-fn turn(session: Session, call: u8, trail: &mut [u16]) -> Session {
+fn digit(byte: u8) -> u16 {
+    if byte < b'0' { 0 } else { (byte - b'0') as u16 }
+}
+
+// One byte is one call: m, p and d open with the rules above, a digit is added, < takes back, ? asks. Between calls # damages the last place of the
+// trail, = mends it, and x damages the session's rule.
+fn answered(session: Session, call: u8, trail: &mut [u16]) -> Session {
     match call {
         b'm' => opened(session, move_rule(), trail),
         b'p' => opened(session, pair_rule(), trail),
@@ -201,22 +205,30 @@ fn turn(session: Session, call: u8, trail: &mut [u16]) -> Session {
             session
         }
         b'#' => {
-            scribbled(7, trail);
+            scribble(7, trail);
             session
         }
         b'=' => {
-            scribbled(FREE, trail);
+            scribble(FREE, trail);
             session
         }
         b'x' => Session {
             rule: damaged_rule(),
             children: session.children,
         },
-        b'0'..=b'9' => added(session, (call - b'0') as u16, trail),
-        _ => session,
+        _ => added(session, digit(call), trail),
     }
 }
 
+fn turn(session: Session, call: u8, trail: &mut [u16]) -> Session {
+    text(&[call]);
+    text(b"\t");
+    let next = answered(session, call, trail);
+    show_trail(trail);
+    next
+}
+
+// Each call gets the session that the last one handed back, the first a session that no opening left.
 fn play(calls: &[u8], trail: &mut [u16]) {
     let mut session = Session {
         rule: damaged_rule(),
@@ -224,16 +236,57 @@ fn play(calls: &[u8], trail: &mut [u16]) {
     };
     let mut i: usize = 0;
     while i < calls.len() {
-        text(&calls[i..i + 1]);
-        text(b"\t");
         session = turn(session, calls[i], trail);
-        show_trail(trail);
         i += 1;
     }
     text(b"\n");
 }
 
+fn many_places() -> [u16; 4100] {
+    [0u16; 4100]
+}
+
+fn with_many(opened: Session, trail: &mut [u16]) -> Session {
+    let mut session = opened;
+    let mut i: usize = 0;
+    while i < 4096 {
+        session = session.add(NameNumber(1), trail).session;
+        i += 1;
+    }
+    session
+}
+
+// 4,096 children in a longer trail, of which one more is refused, and a damaged place past the room.
+fn fill() {
+    let mut trail = many_places();
+    let unopened = Session {
+        rule: damaged_rule(),
+        children: 3,
+    };
+    let opened = unopened.open(many_rule(), &mut trail).session;
+    let full = with_many(opened, &mut trail);
+    io::print_decimal(STDOUT_FILENO, full.children as u64);
+    text(b"\t");
+    let asked = answered(full, b'?', &mut trail);
+    text(b"\t");
+    let one_more = answered(asked, b'1', &mut trail);
+    text(b"\t");
+    let unnamed = answered(one_more, b'2', &mut trail);
+    scribble(7, &mut trail);
+    text(b"\t");
+    let damaged = answered(unnamed, b'<', &mut trail);
+    scribble(FREE, &mut trail);
+    text(b"\t");
+    let mended = answered(damaged, b'<', &mut trail);
+    text(b"\t");
+    io::print_decimal(STDOUT_FILENO, mended.children as u64);
+    text(b"\n");
+}
+
 fn main() {
     let mut trail = [7u16; 5];
-    play(b"?1<m?1?2?3?4?5?5", &mut trail);
+    play(b"?1<m?1?2?3?4?5?59<?0?<?6<<<<<?2?1?<<d?", &mut trail);
+    play(b"m1#?1<d=?p?1?2?<1?2?3x?1<m?", &mut trail);
+    play(b"m?1<", &mut trail[0..0]);
+    fill();
 }
