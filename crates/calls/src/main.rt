@@ -243,40 +243,32 @@ fn play(calls: &[u8], trail: &mut [u16]) {
 }
 
 fn many_places() -> [u16; 4100] {
-    [0u16; 4100]
+    let mut trail = [1u16; 4100];
+    trail[4096] = FREE;
+    trail[4097] = FREE;
+    trail[4098] = FREE;
+    trail[4099] = FREE;
+    trail
 }
 
-fn with_many(opened: Session, trail: &mut [u16]) -> Session {
-    let mut session = opened;
-    let mut i: usize = 0;
-    while i < 4096 {
-        session = session.add(NameNumber(1), trail).session;
-        i += 1;
-    }
-    session
-}
-
-// 4,096 children in a longer trail, of which one more is refused, and a damaged place past the room.
-fn fill() {
+// A session and a trail as 4,096 additions leave them, in a trail longer than that: a verdict, one more, a name above the rule's, taking back while a
+// place past the room is damaged, and after it is mended.
+fn play_full() {
     let mut trail = many_places();
-    let unopened = Session {
-        rule: damaged_rule(),
-        children: 3,
+    let full = Session {
+        rule: many_rule(),
+        children: 4096,
     };
-    let opened = unopened.open(many_rule(), &mut trail).session;
-    let full = with_many(opened, &mut trail);
-    io::print_decimal(STDOUT_FILENO, full.children as u64);
-    text(b"\t");
     let asked = answered(full, b'?', &mut trail);
     text(b"\t");
     let one_more = answered(asked, b'1', &mut trail);
     text(b"\t");
     let unnamed = answered(one_more, b'2', &mut trail);
+    text(b"\t");
     scribble(7, &mut trail);
-    text(b"\t");
     let damaged = answered(unnamed, b'<', &mut trail);
-    scribble(FREE, &mut trail);
     text(b"\t");
+    scribble(FREE, &mut trail);
     let mended = answered(damaged, b'<', &mut trail);
     text(b"\t");
     io::print_decimal(STDOUT_FILENO, mended.children as u64);
@@ -288,5 +280,5 @@ fn main() {
     play(b"?1<m?1?2?3?4?5?59<?0?<?6<<<<<?2?1?<<d?", &mut trail);
     play(b"m1#?1<d=?p?1?2?<1?2?3x?1<m?", &mut trail);
     play(b"m?1<", &mut trail[0..0]);
-    fill();
+    play_full();
 }
