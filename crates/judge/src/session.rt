@@ -79,10 +79,11 @@ fn free_all(trail: &mut [u16])
 fn is_intact(children: usize, names: usize, trail: &[u16]) -> bool
     ensures { λ r. ⌜ r ≡ intact children names (now (trail .entry)) ⌝ }
 {
-    let most = room_in(trail.len());
+    let places = trail.len();
+    let most = room_in(places);
     if children <= most {
         let named = all_named(names, &trail[0..children]);
-        let rest = all_free(&trail[children..]);
+        let rest = all_free(&trail[children..places]);
         named & rest
     } else {
         false

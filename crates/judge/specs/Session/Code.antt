@@ -1,5 +1,5 @@
 -- How the answers of the methods come from what their calls give.
-use mathlib.Core.Path.{_≡_, refl}
+use mathlib.Core.Path.{_≡_, refl, ap, _∙_}
 use mathlib.Core.Bool.{Bool, true, false, _&&_}
 use Prim.Native.Nat.{ℕ, _-_, _≤_, _<_}
 use native.Mathlib.Nat.{sub-zero}
@@ -25,7 +25,7 @@ use Rattle.judge.specs.Session.{Trail, allFree, intact, check, checked, 
 use Rattle.judge.specs.Session.Laws.{intact-tells, checked-done}
 use Rattle.judge.specs.Limits.{maxNodes, maxRow}
 
--- with the tests of the parts `[0..k]` and `[k..]`
+-- with the tests of the two parts, `[0..k]` and from k to the end
 pub intact-holds : (k m : ℕ) (t : Trail) (a b : Bool) → k ≤ room (length t)
     → a ≡ upto m (take (k - 0) t) → b ≡ allFree (take (length t - k) (drop k t)) → (a && b) ≡ intact k m t
 unfolding intact
@@ -113,7 +113,8 @@ module _ (s : Session) (t : Trail) where
 
     pub asked-done : (v : Said) → v ≡ verdict (ruleType (s .rule)) (take (s .children - 0) t) → Verdict v ≡ asked s t
     unfolding outcome
-    asked-done v h = rw (e, ← sub-zero (s .children), ← h)
+    asked-done v h =
+        rw e (ap Verdict (h ∙ ap (λ (k : ℕ). verdict (ruleType (s .rule)) (take k t)) (sub-zero (s .children))))
 
   pub asked-refused : (f : JudgeFault) → checked s t ≡ Refused f → RefusedRow f ≡ asked s t
   unfolding outcome
