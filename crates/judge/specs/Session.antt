@@ -6,6 +6,7 @@ pub mod Code
 pub mod Calls
 pub mod Agree
 pub mod Theorem
+use mathlib.Core.Path.{_≡_}
 use mathlib.Core.Bool.{Bool, true, cond, _&&_}
 use mathlib.Core.List.{List, [], _∷_}
 use Prim.Native.Nat.{ℕ, _+_, _-_}
@@ -85,6 +86,10 @@ step q s t = record { session = whenDone (outcome q s t) (newSession q s) s; out
 
 abbrev pub trailAfter : Call → Session → Trail → Trail
 trailAfter q s t = whenDone (outcome q s t) (newTrail q s t) t
+
+-- what the methods promise of the answer r and the trail t′ at exit
+abbrev pub Does : Call → Session → Trail → Step → Trail → Type 0
+Does q s t r t′ = (r ≡ step q s t) × (t′ ≡ trailAfter q s t)
 
 -- the answer of asking, which hands back no session and writes nothing
 abbrev pub judgedBy : Outcome → Session → Trail → Judged

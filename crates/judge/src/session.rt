@@ -4,7 +4,7 @@ ghost use mathlib.Core.Path.{_≡_};
 ghost use lib.ListN.{length, replicate};
 ghost use Rattle.judge.specs.Judge.Laws.{upto};
 ghost use Rattle.judge.specs.Book.{opening, adding, takingBack, room};
-ghost use Rattle.judge.specs.Session.{free, allFree, intact, checked, step, trailAfter, asked};
+ghost use Rattle.judge.specs.Session.{free, allFree, intact, checked, Does, asked};
 use crate::check::name_count;
 use crate::check::well_formed;
 use crate::fault::JudgeFault;
@@ -90,6 +90,28 @@ fn is_intact(children: usize, names: usize, trail: &[u16]) -> bool
     }
 }
 
+fn refused(session: Session, fault: JudgeFault) -> Step
+    ensures { λ r. ⌜ r ≡ record { session = session; outcome = Outcome.Refused fault } ⌝ }
+{
+    Step {
+        session: session,
+        outcome: Outcome::Refused(fault),
+    }
+}
+
+fn done(rule: Rule, children: usize) -> Step
+    ensures { λ r. ⌜ r ≡ record { session = record { rule = rule; children = children }; outcome = Outcome.Done } ⌝ }
+{
+    let session = Session {
+        rule: rule,
+        children: children,
+    };
+    Step {
+        session: session,
+        outcome: Outcome::Done,
+    }
+}
+
 impl Session {
     // 40 and 42, which every call but opening tries first.
     fn checked(self, trail: &[u16]) -> Outcome
@@ -111,93 +133,54 @@ impl Session {
 
     // Refused with 40. Else a session of the rule with no children, and every place is free.
     pub fn open(self, rule: Rule, trail: &mut [u16]) -> Step
-        ensures { λ r. ⌜ (r ≡ step (opening rule) self (now (trail .entry))) × (now (trail .exit) ≡ trailAfter (opening rule) self (now (trail .entry))) ⌝ }
+        ensures { λ r. ⌜ Does (opening rule) self (now (trail .entry)) r (now (trail .exit)) ⌝ }
     {
         let good = well_formed(rule);
         if good {
             free_all(trail);
-            let opened = Session {
-                rule: rule,
-                children: 0,
-            };
-            return Step {
-                session: opened,
-                outcome: Outcome::Done,
-            };
+            return done(rule, 0);
         }
-        Step {
-            session: self,
-            outcome: Outcome::Refused(JudgeFault::NoModel),
-        }
+        refused(self, JudgeFault::NoModel)
     }
 
     // Refused with 40, 42, 43 or 44. Else the next place holds the name's number.
     pub fn add(self, name: NameNumber, trail: &mut [u16]) -> Step
-        ensures { λ r. ⌜ (r ≡ step (adding (name .0)) self (now (trail .entry))) × (now (trail .exit) ≡ trailAfter (adding (name .0)) self (now (trail .entry))) ⌝ }
+        ensures { λ r. ⌜ Does (adding (name .0)) self (now (trail .entry)) r (now (trail .exit)) ⌝ }
     {
         let rule = self.rule;
         let children = self.children;
         let number = name.0;
         match self.checked(trail) {
-            Outcome::Refused(fault) => Step {
-                session: self,
-                outcome: Outcome::Refused(fault),
-            },
+            Outcome::Refused(fault) => refused(self, fault),
             Outcome::Done => {
                 let names = name_count(rule);
                 if names < number as usize {
-                    return Step {
-                        session: self,
-                        outcome: Outcome::Refused(JudgeFault::NoName),
-                    };
+                    return refused(self, JudgeFault::NoName);
                 }
                 let most = room_in(trail.len());
                 if most <= children {
-                    return Step {
-                        session: self,
-                        outcome: Outcome::Refused(JudgeFault::NoRoom),
-                    };
+                    return refused(self, JudgeFault::NoRoom);
                 }
                 trail[children] = number;
-                let longer = Session {
-                    rule: rule,
-                    children: children + 1,
-                };
-                Step {
-                    session: longer,
-                    outcome: Outcome::Done,
-                }
+                done(rule, children + 1)
             }
         }
     }
 
     // Refused with 40, 42 or 45. Else the last filled place is free.
     pub fn take_back(self, trail: &mut [u16]) -> Step
-        ensures { λ r. ⌜ (r ≡ step takingBack self (now (trail .entry))) × (now (trail .exit) ≡ trailAfter takingBack self (now (trail .entry))) ⌝ }
+        ensures { λ r. ⌜ Does takingBack self (now (trail .entry)) r (now (trail .exit)) ⌝ }
     {
         let rule = self.rule;
         let children = self.children;
         match self.checked(trail) {
-            Outcome::Refused(fault) => Step {
-                session: self,
-                outcome: Outcome::Refused(fault),
-            },
+            Outcome::Refused(fault) => refused(self, fault),
             Outcome::Done => {
                 if children == 0 {
-                    return Step {
-                        session: self,
-                        outcome: Outcome::Refused(JudgeFault::NoChildren),
-                    };
+                    return refused(self, JudgeFault::NoChildren);
                 }
                 trail[children - 1] = FREE;
-                let shorter = Session {
-                    rule: rule,
-                    children: children - 1,
-                };
-                Step {
-                    session: shorter,
-                    outcome: Outcome::Done,
-                }
+                done(rule, children - 1)
             }
         }
     }

@@ -12,6 +12,7 @@ use Rattle.judge.specs.declared.fault.JudgeFault.the-variants.{NoModel, 
 use Rattle.judge.specs.declared.rule.Rule.{Rule}
 use Rattle.judge.specs.declared.session.Outcome.the-variants.{Done, Refused}
 use Rattle.judge.specs.declared.session.Session.{Session}
+use Rattle.judge.specs.declared.session.Step.{Step}
 use Rattle.judge.specs.declared.verdict.Verdict.{Verdict as Said}
 use Rattle.judge.specs.declared.verdict.Judged.the-variants.{Verdict, Refused as RefusedRow}
 use Rattle.judge.specs.Verdict.Laws.{verdict}
@@ -21,7 +22,7 @@ use Rattle.judge.specs.Rule.Decide.{readable, ruleType}
 use Rattle.judge.specs.Judge.Laws.{upto, upto-tells}
 use Rattle.judge.specs.Judge.Pass.{readable-tested}
 use Rattle.judge.specs.Book.{Call, opening, adding, takingBack, room}
-use Rattle.judge.specs.Session.{Trail, allFree, intact, check, checked, outcome, newSession, newTrail, step, trailAfter, asked}
+use Rattle.judge.specs.Session.{Trail, allFree, intact, check, checked, outcome, newSession, newTrail, Does, asked}
 use Rattle.judge.specs.Session.Laws.{intact-tells, checked-done}
 use Rattle.judge.specs.Limits.{maxNodes, maxRow}
 
@@ -37,13 +38,13 @@ unfolding intact
 intact-over k m t h = rw (lt-leb k (room (length t)) h)
 
 -- what a call leaves that was refused, and one that was done
-pub refused : (q : Call) (s : Session) (t : Trail) (f : JudgeFault) → outcome q s t ≡ Refused f
-    → (record { session = s; outcome = Refused f } ≡ step q s t) × (t ≡ trailAfter q s t)
-refused q s t f e = rw e (refl, refl)
+pub refused : (q : Call) (s : Session) (t : Trail) (f : JudgeFault) (r : Step) → outcome q s t ≡ Refused f
+    → r ≡ record { session = s; outcome = Refused f } → Does q s t r t
+refused q s t f r e h = rw e (h, refl)
 
-pub completed : (q : Call) (s : Session) (t : Trail) → outcome q s t ≡ Done
-    → (record { session = newSession q s; outcome = Done } ≡ step q s t) × (newTrail q s t ≡ trailAfter q s t)
-completed q s t e = rw e (refl, refl)
+pub completed : (q : Call) (s : Session) (t : Trail) (r : Step) → outcome q s t ≡ Done
+    → r ≡ record { session = newSession q s; outcome = Done } → Does q s t r (newTrail q s t)
+completed q s t r e h = rw e (h, refl)
 
 pub opening-by : (r : Rule) (s : Session) (t : Trail) (b x : Bool) → length (r .nodes) ≡ maxNodes → b ≡ wellFormed r → b ≡ x
     → outcome (opening r) s t ≡ check x NoModel

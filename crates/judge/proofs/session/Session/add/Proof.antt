@@ -13,6 +13,9 @@ checked-requires c κs = search needs
 enum-known-fault : tie.Need-enum-known-fault
 enum-known-fault c = search needs
 
+refused-requires : tie.Need-refused-requires
+refused-requires c κs = search needs
+
 enum-told : tie.Need-enum-told
 enum-told c = search needs
 
@@ -22,31 +25,41 @@ name-count-requires c κs = search needs
 cast-if1 : tie.Need-cast-if1
 cast-if1 c = search needs
 
+refused-requires-2 : tie.Need-refused-requires-2
+refused-requires-2 c κs = search needs
+
 same-length : tie.Need-same-length
 same-length c = search needs
 
 returns : tie.Need-returns
 returns c =
-    let n = c .before in
+    let n = c .before .before in
     let k = n .before .before .before in
     let a = k .before .before .before .before .args in
-    refused (adding (a .name .0)) (a .self) (a .trail .now) NoName
-    (adding-unnamed (a .self) (a .trail .now) (a .name .0) (sym (k .checked .ensures) ∙ n .before .enum-told .given .1) _ (n .name-count .ensures) (c .if1 .taken))
+    let x = a .name .0 in
+    let f = sym (k .checked .ensures) ∙ n .before .enum-told .given .1 in
+    let e = adding-unnamed (a .self) (a .trail .now) x f _ (n .name-count .ensures) (c .before .if1 .taken) in
+    refused (adding x) (a .self) (a .trail .now) NoName _ e (c .refused2 .ensures)
 
 room-in-requires : tie.Need-room-in-requires
 room-in-requires c κs = search needs
+
+refused-requires-3 : tie.Need-refused-requires-3
+refused-requires-3 c κs = search needs
 
 same-length-2 : tie.Need-same-length-2
 same-length-2 c = search needs
 
 returns-2 : tie.Need-returns-2
 returns-2 c =
-    let n = c .before .before .before in
+    let m = c .before .before in
+    let n = m .before .before in
     let k = n .before .before .before in
     let a = k .before .before .before .before .args in
-    refused (adding (a .name .0)) (a .self) (a .trail .now) NoRoom
-    (adding-full (a .self) (a .trail .now) (a .name .0) (sym (k .checked .ensures) ∙ n .before .enum-told .given .1) _ (n .name-count .ensures)
-    (c .before .before .if1 .left) _ (c .before .room-in .ensures) (c .if2 .taken))
+    let x = a .name .0 in
+    let f = sym (k .checked .ensures) ∙ n .before .enum-told .given .1 in
+    let e = adding-full (a .self) (a .trail .now) x f _ (n .name-count .ensures) (m .before .if1 .left) _ (m .room-in .ensures) (c .before .if2 .taken) in
+    refused (adding x) (a .self) (a .trail .now) NoRoom _ e (c .refused3 .ensures)
 
 mul-trail : tie.Need-mul-trail
 mul-trail c = search needs
@@ -54,30 +67,37 @@ mul-trail c = search needs
 slice-write-trail : tie.Need-slice-write-trail
 slice-write-trail c = search needs
 
-add-t16 : tie.Need-add-t16
-add-t16 c = search needs
+add-done : tie.Need-add-done
+add-done c = search needs
+
+done-requires : tie.Need-done-requires
+done-requires c κs = search needs
 
 same-length-3 : tie.Need-same-length-3
 same-length-3 c = search needs
 
 returns-3 : tie.Need-returns-3
 returns-3 c =
-    let k = c .before .before .before in
+    let o = c .before .before in
+    let k = o .before .before in
     let a = k .before .before .before .before .args in
-    refused (adding (a .name .0)) (a .self) (a .trail .now) (c .before .fault .given .0 .0)
-    (adding-refused (a .self) (a .trail .now) (a .name .0) _ (sym (k .checked .ensures) ∙ c .before .fault .given .1))
+    let x = a .name .0 in
+    let e = adding-refused (a .self) (a .trail .now) x _ (sym (k .checked .ensures) ∙ o .fault .given .1) in
+    refused (adding x) (a .self) (a .trail .now) _ _ e (c .refused .ensures)
 
 same-length-4 : tie.Need-same-length-4
 same-length-4 c = search needs
 
 returns-4 : tie.Need-returns-4
 returns-4 c =
-    let n = c .before .before .before in
+    let m = c .before .before in
+    let n = m .before .before in
     let k = n .before .before .before in
     let a = k .before .before .before .before .args in
-    completed (adding (a .name .0)) (a .self) (a .trail .now)
-    (adding-done (a .self) (a .trail .now) (a .name .0) (sym (k .checked .ensures) ∙ n .before .enum-told .given .1) _ (n .name-count .ensures)
-    (c .before .before .if1 .left) _ (c .before .room-in .ensures) (c .if2 .left))
+    let x = a .name .0 in
+    let f = sym (k .checked .ensures) ∙ n .before .enum-told .given .1 in
+    let e = adding-done (a .self) (a .trail .now) x f _ (n .name-count .ensures) (m .before .if1 .left) _ (m .room-in .ensures) (c .before .if2 .left) in
+    completed (adding x) (a .self) (a .trail .now) _ e (c .done .ensures)
 
 pub add-spec : {M : Type 1} → statement M
 add-spec =
@@ -85,17 +105,21 @@ add-spec =
     (tie.spec
     checked-requires
     enum-known-fault
+    refused-requires
     enum-told
     name-count-requires
     cast-if1
+    refused-requires-2
     same-length
     returns
     room-in-requires
+    refused-requires-3
     same-length-2
     returns-2
     mul-trail
     slice-write-trail
-    add-t16
+    add-done
+    done-requires
     same-length-3
     returns-3
     same-length-4

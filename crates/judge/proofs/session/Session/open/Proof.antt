@@ -16,23 +16,40 @@ well-formed-requires c κs = search needs
 free-all-requires : tie.Need-free-all-requires
 free-all-requires c κs = search needs
 
+done-requires : tie.Need-done-requires
+done-requires c κs = search needs
+
 same-length : tie.Need-same-length
 same-length c = search needs
 
 returns : tie.Need-returns
 returns c =
-    let w = c .before .before .before .before in
+    let w = c .before .before .before .before .before in
     let a = w .before .before .before .args in
     let l : length (a .rule .nodes) ≡ 128 = search (needs, unmapped) in
-    let d = completed (opening (a .rule)) (a .self) (a .trail .now) (opening-by (a .rule) (a .self) (a .trail .now) _ true l (w .before .well-formed .ensures) (w .if1 .taken)) in
-    (d .0, c .before .before .free-all .ensures ∙ d .1)
+    let e = opening-by (a .rule) (a .self) (a .trail .now) _ true l (w .before .well-formed .ensures) (w .if1 .taken) in
+    let d = completed (opening (a .rule)) (a .self) (a .trail .now) _ e (c .done .ensures) in
+    (d .0, c .before .before .before .free-all .ensures ∙ d .1)
+
+refused-requires : tie.Need-refused-requires
+refused-requires c κs = search needs
 
 returns-2 : tie.Need-returns-2
 returns-2 c =
-    let a = c .before .before .before .args in
+    let w = c .before in
+    let a = w .before .before .before .args in
     let l : length (a .rule .nodes) ≡ 128 = search (needs, unmapped) in
-    refused (opening (a .rule)) (a .self) (a .trail .now) NoModel (opening-by (a .rule) (a .self) (a .trail .now) _ false l (c .before .well-formed .ensures) (c .if1 .left))
+    let e = opening-by (a .rule) (a .self) (a .trail .now) _ false l (w .before .well-formed .ensures) (w .if1 .left) in
+    refused (opening (a .rule)) (a .self) (a .trail .now) NoModel _ e (c .refused .ensures)
 
 pub open-spec : {M : Type 1} → statement M
 open-spec =
-    tie.close (tie.spec well-formed-requires free-all-requires same-length returns returns-2)
+    tie.close
+    (tie.spec
+    well-formed-requires
+    free-all-requires
+    done-requires
+    same-length
+    returns
+    refused-requires
+    returns-2)

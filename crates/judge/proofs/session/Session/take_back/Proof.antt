@@ -13,19 +13,25 @@ checked-requires c κs = search needs
 enum-known-fault : tie.Need-enum-known-fault
 enum-known-fault c = search needs
 
+refused-requires : tie.Need-refused-requires
+refused-requires c κs = search needs
+
 enum-told : tie.Need-enum-told
 enum-told c = search needs
+
+refused-requires-2 : tie.Need-refused-requires-2
+refused-requires-2 c κs = search needs
 
 same-length : tie.Need-same-length
 same-length c = search needs
 
 returns : tie.Need-returns
 returns c =
-    let o = c .before in
+    let o = c .before .before in
     let k = o .before .before in
     let a = k .before .before .before .before .args in
-    refused takingBack (a .self) (a .trail .now) NoChildren
-    (taking-none (a .self) (a .trail .now) (sym (k .checked .ensures) ∙ o .enum-told .given .1) (c .if1 .taken))
+    let f = sym (k .checked .ensures) ∙ o .enum-told .given .1 in
+    refused takingBack (a .self) (a .trail .now) NoChildren _ (taking-none (a .self) (a .trail .now) f (c .before .if1 .taken)) (c .refused2 .ensures)
 
 sub-trail : tie.Need-sub-trail
 sub-trail c = search needs
@@ -35,7 +41,8 @@ mul-trail c =
     let o = c .before in
     let k = o .before .before in
     let a = k .before .before .before .before .args in
-    let h = checked-fits (a .self) (a .trail .now) (sym (k .checked .ensures) ∙ o .enum-told .given .1) in
+    let f = sym (k .checked .ensures) ∙ o .enum-told .given .1 in
+    let h = checked-fits (a .self) (a .trail .now) f in
     search needs
 
 slice-write-trail : tie.Need-slice-write-trail
@@ -43,32 +50,37 @@ slice-write-trail c =
     let o = c .before in
     let k = o .before .before in
     let a = k .before .before .before .before .args in
-    let h = checked-fits (a .self) (a .trail .now) (sym (k .checked .ensures) ∙ o .enum-told .given .1) in
+    let f = sym (k .checked .ensures) ∙ o .enum-told .given .1 in
+    let h = checked-fits (a .self) (a .trail .now) f in
     search needs
 
-sub-t15 : tie.Need-sub-t15
-sub-t15 c = search needs
+sub-done : tie.Need-sub-done
+sub-done c = search needs
+
+done-requires : tie.Need-done-requires
+done-requires c κs = search needs
 
 same-length-2 : tie.Need-same-length-2
 same-length-2 c = search needs
 
 returns-2 : tie.Need-returns-2
 returns-2 c =
-    let k = c .before .before .before in
+    let o = c .before .before in
+    let k = o .before .before in
     let a = k .before .before .before .before .args in
-    refused takingBack (a .self) (a .trail .now) (c .before .fault .given .0 .0)
-    (taking-refused (a .self) (a .trail .now) _ (sym (k .checked .ensures) ∙ c .before .fault .given .1))
+    let e = taking-refused (a .self) (a .trail .now) _ (sym (k .checked .ensures) ∙ o .fault .given .1) in
+    refused takingBack (a .self) (a .trail .now) _ _ e (c .refused .ensures)
 
 same-length-3 : tie.Need-same-length-3
 same-length-3 c = search needs
 
 returns-3 : tie.Need-returns-3
 returns-3 c =
-    let o = c .before in
+    let o = c .before .before in
     let k = o .before .before in
     let a = k .before .before .before .before .args in
-    completed takingBack (a .self) (a .trail .now)
-    (taking-done (a .self) (a .trail .now) (sym (k .checked .ensures) ∙ o .enum-told .given .1) (search needs))
+    let f = sym (k .checked .ensures) ∙ o .enum-told .given .1 in
+    completed takingBack (a .self) (a .trail .now) _ (taking-done (a .self) (a .trail .now) f (search needs)) (c .done .ensures)
 
 pub take-back-spec : {M : Type 1} → statement M
 take-back-spec =
@@ -76,13 +88,16 @@ take-back-spec =
     (tie.spec
     checked-requires
     enum-known-fault
+    refused-requires
     enum-told
+    refused-requires-2
     same-length
     returns
     sub-trail
     mul-trail
     slice-write-trail
-    sub-t15
+    sub-done
+    done-requires
     same-length-2
     returns-2
     same-length-3
