@@ -3,6 +3,7 @@ pub mod Laws
 pub mod Tally
 pub mod Root
 pub mod Pass
+pub mod Code
 use mathlib.Core.Bool.{_&&_}
 use mathlib.Core.List.{List, [], _∷_}
 use Prim.Native.Nat.{ℕ, _≤_, _<_}

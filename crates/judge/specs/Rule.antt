@@ -4,6 +4,7 @@ pub mod Test
 pub mod Scan
 pub mod Names
 pub mod Decide
+pub mod Numbers
 use mathlib.Core.Path.{_≡_}
 use mathlib.Core.List.{List, [], _∷_, _++_}
 use Prim.Native.Nat.{ℕ, _+_, _-_}
