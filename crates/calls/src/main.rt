@@ -4,17 +4,12 @@
 ghost use mathlib.Core.Path.{_≡_};
 ghost use Rattle.judge.specs.Judge.{judgeNumber};
 use judge::fault::JudgeFault;
-use judge::rule::Kind;
-use judge::rule::MAX_NODES;
-use judge::rule::Mark;
 use judge::rule::NameNumber;
-use judge::rule::Node;
 use judge::rule::Rule;
-use judge::rule::Sign;
-use judge::rule::Upper;
 use judge::session::FREE;
 use judge::session::Outcome;
 use judge::session::Session;
+use judge::text::read_model;
 use judge::verdict::Judged;
 use judge::verdict::Verdict;
 use libc::STDOUT_FILENO;
@@ -82,81 +77,16 @@ fn show_trail(trail: &[u16]) {
     text(b"\n");
 }
 
-fn unused() -> Node {
-    Node {
-        kind: Kind::Group {
-            sign: Sign::None,
-            members: 0,
-        },
-        mark: Mark::Plain,
-    }
+fn rule_of(model: &[u8]) -> Rule {
+    let reading = read_model(model);
+    reading.rule
 }
 
-fn atom(min: u16, max: Upper) -> Node {
-    Node {
-        kind: Kind::Atom { min: min, max: max },
-        mark: Mark::Plain,
-    }
-}
-
-fn group(sign: Sign, members: u16, mark: Mark) -> Node {
-    Node {
-        kind: Kind::Group {
-            sign: sign,
-            members: members,
-        },
-        mark: mark,
-    }
-}
-
-// (axis,target,(crawl&gather)?,hold[0..2])
-fn move_rule() -> Rule {
-    let mut nodes = [unused(); MAX_NODES];
-    let one = atom(1, Upper::Number(1));
-    nodes[0] = group(Sign::Sequence, 4, Mark::Plain);
-    nodes[1] = one;
-    nodes[2] = one;
-    nodes[3] = group(Sign::Interleaving, 2, Mark::Optional);
-    nodes[4] = one;
-    nodes[5] = one;
-    nodes[6] = atom(0, Upper::Number(2));
-    Rule {
-        nodes: nodes,
-        len: 7,
-    }
-}
-
-// (a[2..3],b)
-fn pair_rule() -> Rule {
-    let mut nodes = [unused(); MAX_NODES];
-    nodes[0] = group(Sign::Sequence, 2, Mark::Plain);
-    nodes[1] = atom(2, Upper::Number(3));
-    nodes[2] = atom(1, Upper::Number(1));
-    Rule {
-        nodes: nodes,
-        len: 3,
-    }
-}
-
-// a[60000..60000]
-fn many_rule() -> Rule {
-    let mut nodes = [unused(); MAX_NODES];
-    nodes[0] = atom(60000, Upper::Number(60000));
-    Rule {
-        nodes: nodes,
-        len: 1,
-    }
-}
-
-// A group of two members, of which only one is there: no model text reads into it.
+// A group of two members, of which one is cut off: no model text reads into it.
 fn damaged_rule() -> Rule {
-    let mut nodes = [unused(); MAX_NODES];
-    nodes[0] = group(Sign::Choice, 2, Mark::Plain);
-    nodes[1] = atom(1, Upper::Unbounded);
-    Rule {
-        nodes: nodes,
-        len: 2,
-    }
+    let mut rule = rule_of(b"(a|b)");
+    rule.len = 2;
+    rule
 }
 
 fn opened(session: Session, rule: Rule, trail: &mut [u16]) -> Session {
@@ -192,12 +122,16 @@ fn digit(byte: u8) -> u16 {
     if byte < b'0' { 0 } else { (byte - b'0') as u16 }
 }
 
-// One byte is one call: m, p and d open with the rules above, a digit is added, < takes back, ? asks. Between calls # damages the last place of the
-// trail, = mends it, and x damages the session's rule.
+// One byte is one call: m, p and d open, a digit is added, < takes back, ? asks. Between calls # damages the last place of the trail, = mends it, and x
+// damages the session's rule.
 fn answered(session: Session, call: u8, trail: &mut [u16]) -> Session {
     match call {
-        b'm' => opened(session, move_rule(), trail),
-        b'p' => opened(session, pair_rule(), trail),
+        b'm' => opened(
+            session,
+            rule_of(b"(axis,target,(crawl&gather)?,hold[0..2])"),
+            trail,
+        ),
+        b'p' => opened(session, rule_of(b"(a[2..3],b)"), trail),
         b'd' => opened(session, damaged_rule(), trail),
         b'<' => taken_back(session, trail),
         b'?' => {
@@ -256,7 +190,7 @@ fn many_places() -> [u16; 4100] {
 fn play_full() {
     let mut trail = many_places();
     let full = Session {
-        rule: many_rule(),
+        rule: rule_of(b"a[60000..60000]"),
         children: 4096,
     };
     let asked = answered(full, b'?', &mut trail);

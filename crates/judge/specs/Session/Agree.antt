@@ -50,6 +50,9 @@ upto-append m [] w = (λ h. (tt, h), λ h. h .1)
 upto-append m (x ∷ v) w =
     (λ h. let i = upto-append m v w .0 (h .1) in ((h .0, i .0), i .1), λ h. (h .0 .0, upto-append m v w .1 (h .0 .1, h .1)))
 
+below-apart : (m n : ℕ) → m < n → ¬ m ≡ n
+below-apart m n h e = omega arith
+
 empty : (w : Word) → length w ≤ 0 → w ≡ []
 empty [] h = refl
 empty (x ∷ w) h = absurd (omega arith)
@@ -129,7 +132,7 @@ module _ (n : ℕ) (b : Book) (k : Kept n b) where
       let j = filled n (b .row) x (omega arith) in
       rw (checked-shown, e, length-shown, l) (
         record { rule = b .rule; row = b .row ++ (x ∷ []) },
-        adds h (λ z. let y : length (b .row) ≡ room n = z in omega arith),
+        adds h (below-apart (length (b .row)) (room n) g),
         cc,
         record { known = k .known; named = upto-append _ (b .row) (x ∷ []) .1 (k .named, (h, tt)); fits = omega arith },
       ))
