@@ -2,9 +2,12 @@
 use mathlib.Core.Path.{_≡_, sym}
 use mathlib.Core.Logic.{_↔_}
 use mathlib.Core.Bool.{true}
-use Prim.Native.Nat.{_≤_}
+use mathlib.Core.List.{List}
+use Prim.Native.Nat.{ℕ, _≤_}
 use lib.ListN.{length}
 use Rattle.judge.specs.declared.rule.Rule.{Rule}
+use Rattle.judge.specs.declared.session.Outcome.{Outcome}
+use Rattle.judge.specs.declared.session.Session.{Session}
 use Rattle.judge.specs.declared.verdict.Verdict.{Verdict}
 use Rattle.judge.specs.declared.verdict.Judged.{Judged}
 use Rattle.judge.specs.declared.verdict.Judged.the-variants.{Verdict as Said}
@@ -28,6 +31,12 @@ use Rattle.judge.specs.Rule.Laws.{means-once}
 use Rattle.judge.specs.Rule.Decide.{readable, readable-is, means-conflict-free}
 use Rattle.judge.specs.Judge.{Upto, Judges}
 use Rattle.judge.specs.Judge.Laws.{judged, judges, judged-is}
+use Rattle.judge.specs.Book.{Call, opening, Reply, nothing, Book, fresh, room, Keeps}
+use Rattle.judge.specs.Book.Laws.{keeps-once}
+use Rattle.judge.specs.Session.{Trail, outcome, asked}
+use Rattle.judge.specs.Session.Table.{Answers as Tried, Asks, outcome-is, asked-is}
+use Rattle.judge.specs.Session.Calls.{World, plays, replyTo, after, replies, shown}
+use Rattle.judge.specs.Session.Theorem.{agrees-with-book}
 use Rattle.judge.specs.Limits.{maxRow}
 use Rattle.judge.specs.Starred.{starred, AllRight}
 use Rattle.judge.specs.Starred.Laws.{starred-right}
@@ -81,6 +90,24 @@ verdict-exactly {r} {A} m w l u v = (
   λ e. let h = judged-exactly r w (Said v) .0 e in rw (means-once m (h .1)) (h .4),
   λ s. judged-exactly r w (Said v) .1 (A, m, l, u, s),
 )
+
+-- Demand 1, sessions: a call of any session with any trail is refused just as the table says, and asking is else answered by the meaning.
+pub refused-exactly : (s : Session) (t : Trail) (q : Call) (o : Outcome) → (outcome q s t ≡ o) ↔ Tried s t q o
+refused-exactly = outcome-is
+
+pub asked-exactly : (s : Session) (t : Trail) (a : Judged) → (asked s t ≡ a) ↔ Asks s t a
+asked-exactly = asked-is
+
+-- Demand 3: whatever session and trail there were, every list of calls behind an opening that was not refused is answered as the book is, and leaves
+-- what the book has. The book gives one reply to each call.
+pub calls-keep-book : (w₀ : World) (r : Rule) → replyTo (opening r) w₀ ≡ nothing → (qs : List Call) →
+    let n = length (w₀ .trail) in
+    let w = plays (opening r) w₀ in
+    (b : Book) × Keeps n (fresh r) qs (replies qs w) b × (after qs w ≡ shown n b) × (length (b .row) ≤ room n)
+calls-keep-book = agrees-with-book
+
+pub book-once : {n : ℕ} {b c d : Book} {qs : List Call} {rs rs′ : List Reply} → Keeps n b qs rs c → Keeps n b qs rs′ d → (rs ≡ rs′) × (c ≡ d)
+book-once = keeps-once
 
 -- the starred rows of document 01
 pub starred-rows : AllRight starred

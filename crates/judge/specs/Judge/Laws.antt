@@ -11,7 +11,7 @@ use Rattle.judge.specs.declared.fault.JudgeFault.the-variants.{NoModel, 
 use Rattle.judge.specs.declared.rule.Rule.{Rule}
 use Rattle.judge.specs.declared.verdict.Judged.{Judged}
 use Rattle.judge.specs.declared.verdict.Judged.the-variants.{Verdict, Refused}
-use Rattle.judge.specs.Tests.{by-test, Tells, tells-le, tells-and}
+use Rattle.judge.specs.Tests.{by-test, Tells, untold, fails, tells-le, tells-and}
 use Rattle.judge.specs.Word.{Word}
 use Rattle.judge.specs.Types.{Ty, ε, ConflictFree}
 use Rattle.judge.specs.Verdict.{Says}
@@ -35,13 +35,6 @@ judged r w =
     cond (readable r)
     (cond (leb (length w) maxRow) (cond (upto (names r) w) (Verdict (verdict (ruleType r) w)) (Refused NoName)) (Refused LongRow))
     (Refused NoModel)
-
--- a test that fails tells that P does not hold, and where P does not hold the test fails
-untold : (b : Bool) {P : Type 0} → Tells b P → b ≡ false → ¬ P
-untold b t e p = true≢false (sym (t .1 p) ∙ e)
-
-fails : (b : Bool) {P : Type 0} → Tells b P → ¬ P → b ≡ false
-fails b t n = by-test b (λ e. absurd (n (t .0 e))) (λ e. e)
 
 pub judges : (r : Rule) (w : Word) → Judges r w (judged r w)
 unfolding judged
