@@ -13,13 +13,14 @@ use lib.Seq.{drop-cons, getD-take, take-all, take-nil}
 use mir.Facts.{and-yes, yes-and, or-yes}
 use borrow.Author.Tests.{eq-eqb, ne-eqb}
 use Rattle.judge.specs.declared.text.NamePlace.{NamePlace}
-use Rattle.judge.specs.Bytes.{Text, isInner}
-use Rattle.judge.specs.Bytes.Laws.{T-true, front-take}
+use Rattle.judge.specs.Bytes.{Text, isInner, sameText}
+use Rattle.judge.specs.Bytes.Laws.{T-true, front-take, same-text}
 use Rattle.judge.specs.Fault.{nameAt, nameFrom, Twice}
 use Rattle.judge.specs.Fault.Ties.{places, in-places, twice-there, twice-only}
 use Rattle.judge.specs.Limits.{maxAtoms}
 use Rattle.judge.specs.declared.text.Names.{Names}
-use Rattle.judge.specs.Reading.{namePlace, noPlace, sameText, numberFrom, numberIn, partAt, partsOf}
+use Rattle.judge.specs.Syntax.{numberFrom}
+use Rattle.judge.specs.Reading.{namePlace, noPlace, partAt, partsOf}
 use Rattle.judge.specs.Reading.Packed.{placeOf}
 use Rattle.judge.specs.Reading.Lexeme.Laws.{front-short}
 use Rattle.judge.specs.Reading.Filled.{map-length}
@@ -53,20 +54,6 @@ module _ (a b : Text) (i : ℕ) where
 
   pub same-end : length a ≤ i → length b ≤ i → true ≡ sameText (drop i a) (drop i b)
   same-end h k = rw (drop-of-length-le a {i = i} h, drop-of-length-le b {i = i} k)
-
-pub same-is : (a b : Text) → T (sameText a b) → a ≡ b
-same-is [] [] h = refl
-same-is [] (c ∷ b) h = absurd h
-same-is (c ∷ a) [] h = absurd h
-same-is (c ∷ a) (d ∷ b) h =
-    let k : T (eqb c d) × T (sameText a b) = and-yes (eqb c d) (sameText a b) h in
-    let e : c ≡ d = eqb→eq c d (k .0) in
-    let f : a ≡ b = same-is a b (k .1) in
-    cc
-
-pub is-same : (a : Text) → T (sameText a a)
-is-same [] = tt
-is-same (c ∷ a) = yes-and (eqb c c) (sameText a a) (eqb-refl c) (is-same a)
 
 -- equal images: element by element
 pub images : {A B C : Type 0} (f : A → C) (g : B → C) (l : List A) (m : List B) → map f l ≡ map g m → (i : ℕ) (d : A) (e : B) → i < length l → f (getD l i d) ≡ g (getD m i e)
@@ -146,7 +133,7 @@ module _ (x : Text) (names : List ℕ) (n start end : ℕ) (c : Comparable x nam
 pub among-is : (x : Text) (l : List ℕ) (p : ℕ) → T (among x l p) → (q : ℕ) × (List·Memᴰ q l × (nameFrom x q ≡ nameFrom x p))
 among-is x [] p h = absurd h
 among-is x (q ∷ l) p h =
-    ⊎-elim (λ s. (q, (List·Memᴰ·head refl, same-is (nameFrom x q) (nameFrom x p) s)))
+    ⊎-elim (λ s. (q, (List·Memᴰ·head refl, same-text (nameFrom x q) (nameFrom x p) .0 (T-true (sameText (nameFrom x q) (nameFrom x p)) s))))
     (λ s. let r = among-is x l p s in (r .0, (List·Memᴰ·tail (r .1 .0), r .1 .1)))
     (or-yes (sameText (nameFrom x q) (nameFrom x p)) (among x l p) h)
 
@@ -155,7 +142,7 @@ is-among x [] p q m e = absurd (List·Memᴰ·not-nil m)
 is-among x (r ∷ l) p q m e = ⊎-elim (λ i. here r i) (λ k. rw (T-true (among x l p) (is-among x l p q k e), or-true) tt) (List·Memᴰ·cases-cons m)
   where
     here : (r : ℕ) → q ≡ r → T (sameText (nameFrom x r) (nameFrom x p) || among x l p)
-    here r i = rw (T-true (sameText (nameFrom x r) (nameFrom x p)) (rw (← i, e) (is-same (nameFrom x p)))) tt
+    here r i = rw (same-text (nameFrom x r) (nameFrom x p) .1 (ap (nameFrom x) (sym i) ∙ e)) tt
 
 pub twice-found : (x : Text) (p : ℕ) → T (nameAt x p) → among x (places x p) p ≡ true → Twice x p
 twice-found x p h e = let r = among-is x (places x p) p (rw e tt) in twice-there x p (r .0) h (r .1 .0) (r .1 .1)

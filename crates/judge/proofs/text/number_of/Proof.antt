@@ -6,7 +6,8 @@ use native.Mathlib.Omega.{arith}
 use borrow.Author.Needs.{needs}
 use lib.ListN.{length, take, drop, getD}
 use Rattle.judge.specs.declared.text.NamePlace.{NamePlace}
-use Rattle.judge.specs.Reading.{numberFrom, numberIn, partsOf, sameText}
+use Rattle.judge.specs.Syntax.{numberFrom, numberIn}
+use Rattle.judge.specs.Reading.{partsOf}
 use Rattle.judge.specs.Reading.Search.{number-found, number-next, number-none}
 use Rattle.judge.proofs.text.number_of.Statement.{statement}
 use Rattle.judge.proofs.text.number_of.Tie as tie

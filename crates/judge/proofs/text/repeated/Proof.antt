@@ -3,10 +3,9 @@ use mathlib.Core.Path.{_≡_, refl, sym, ap, _∙_}
 use native.Mathlib.Omega.{arith}
 use borrow.Author.Needs.{needs}
 use lib.ListN.{length, take, drop, getD}
-use Rattle.judge.specs.Bytes.{Text}
 use Rattle.judge.specs.Fault.{nameFrom}
 use Rattle.judge.specs.Fault.Ties.{places}
-use Rattle.judge.specs.Reading.{sameText}
+use Rattle.judge.specs.Bytes.{sameText}
 use Rattle.judge.specs.Reading.Search.{Comparable, among, name-fits, name-part, earlier-fits, search-found, search-next, search-end}
 use Rattle.judge.proofs.text.repeated.Statement.{statement}
 use Rattle.judge.proofs.text.repeated.Tie as tie

@@ -2,7 +2,7 @@ use Prim.Native.Nat.{_≤_, _-_}
 use mathlib.Core.Path.{_≡_, refl, _∙_}
 use lib.ListN.{length, drop}
 use native.Mathlib.Omega.{arith}
-use Rattle.judge.specs.Reading.{sameText}
+use Rattle.judge.specs.Bytes.{sameText}
 use Rattle.judge.specs.Reading.Search.{same-lengths, same-step, same-differ, same-end}
 use Rattle.judge.proofs.text.same_bytes.Statement.{statement}
 use Rattle.judge.proofs.text.same_bytes.Tie as tie
