@@ -21,7 +21,6 @@ use Rattle.judge.specs.declared.rule.Node.{Node as RuleNode}
 use Rattle.judge.specs.declared.rule.Rule.{Rule}
 use Rattle.judge.specs.declared.text.NamePlace.{NamePlace}
 use Rattle.judge.specs.declared.text.Names.{Names}
-use Rattle.judge.specs.declared.text.Outcome.{Outcome}
 use Rattle.judge.specs.declared.text.Outcome.the-variants.{Read, Refused}
 use Rattle.judge.specs.declared.text.Reading.{Reading}
 use Rattle.judge.specs.Bytes.{Text}

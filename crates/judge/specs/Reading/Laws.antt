@@ -1,21 +1,18 @@
 -- What is known of a reading: the rule of a text that was read is readable, its names are those of the tree, in order and all different.
 use mathlib.Core.Path.{_≡_, refl, sym, ap, subst, _∙_}
 use mathlib.Core.Bool.{true, false}
-use mathlib.Core.List.{List, [], _∷_, _++_, map, map-append}
+use mathlib.Core.List.{List, [], _∷_, map, map-append}
 use Prim.Native.Nat.{ℕ, zero, suc, _+_, _-_, _≤_, _<_}
 use native.Mathlib.Decide.{ℕ-discrete}
 use native.Mathlib.Omega.{arith}
-use lib.Dec.{T}
 use lib.ListN.{length-map}
 use lib.ListN.{length, take, drop, getD, replicate}
 use lib.Seq.{take-suc, take-all, take-append-seam}
-use borrow.Author.Tests.{eqb-true}
-use Rattle.judge.specs.declared.text.Names.{Names}
 use Rattle.judge.specs.declared.text.NamePlace.{NamePlace}
 use Rattle.judge.specs.declared.text.Outcome.the-variants.{Read}
 use Rattle.judge.specs.declared.text.Reading.{Reading}
 use Rattle.judge.specs.Bytes.{Text, isInner, sameText}
-use Rattle.judge.specs.Bytes.Laws.{T-true, front-take, same-text}
+use Rattle.judge.specs.Bytes.Laws.{front-take, same-text}
 use Rattle.judge.specs.Tests.{by-test}
 use Rattle.judge.specs.Tree.{leaves, atoms, Formed}
 use Rattle.judge.specs.Tree.Leaves.{length-leaves}
@@ -32,7 +29,7 @@ use Rattle.judge.specs.Accept.Starts.{name-at, name-place}
 use Rattle.judge.specs.Rule.{ruleOf, Readable, names as ruleNames}
 use Rattle.judge.specs.Rule.Names.{names-model}
 use Rattle.judge.specs.Limits.{maxAtoms}
-use Rattle.judge.specs.Reading.{namePlace, noPlace, namesWith, namesOf, readingBy, reading, partAt, partsOf}
+use Rattle.judge.specs.Reading.{namePlace, noPlace, namesOf, readingBy, reading, partAt, partsOf}
 
 -- the parts of a text where its names stand
 names-begin : (x : Text) (p : ℕ) → map (partAt x) (map (namePlace x) (places x p)) ≡ map (nameFrom x) (places x p)

@@ -7,10 +7,10 @@ use Prim.Native.Nat.{ℕ, zero, suc, _+_, _-_, _/_, _%_, _≤_, _<_, min}
 use native.Mathlib.Numerals.{add-one}
 use native.Mathlib.Omega.{arith}
 use native.Mathlib.Decide.{decLe}
-use lib.Dec.{T, eqb, eqb→eq, eqb-refl}
-use lib.ListN.{length, take, drop, getD, drop-of-length-le, length-take, length-drop, List·getD-map}
+use lib.Dec.{T, eqb}
+use lib.ListN.{length, take, drop, getD, drop-of-length-le, length-take, length-drop, length-map, List·getD-map}
 use lib.Seq.{drop-cons, getD-take, take-all, take-nil}
-use mir.Facts.{and-yes, yes-and, or-yes}
+use mir.Facts.{or-yes}
 use borrow.Author.Tests.{eq-eqb, ne-eqb}
 use Rattle.judge.specs.declared.text.NamePlace.{NamePlace}
 use Rattle.judge.specs.Bytes.{Text, isInner, sameText}
@@ -23,7 +23,6 @@ use Rattle.judge.specs.Syntax.{numberFrom}
 use Rattle.judge.specs.Reading.{namePlace, noPlace, partAt, partsOf}
 use Rattle.judge.specs.Reading.Packed.{placeOf}
 use Rattle.judge.specs.Reading.Lexeme.Laws.{front-short}
-use Rattle.judge.specs.Reading.Filled.{map-length}
 
 -- the name at p begins at one of these places too
 abbrev pub among : Text → List ℕ → ℕ → Bool
@@ -167,7 +166,7 @@ clipped x s l = go (decLe s (length x)) (decLe (s + l) (length x))
 
 module _ (x : Text) (names : Names) (name : Text) (long : length (names .places) ≡ maxAtoms) where
   pub parts-many : length (partsOf x names) ≡ min (names .len) maxAtoms
-  parts-many = map-length (partAt x) [] (names .places) (take (names .len) (names .places)) ∙ length-take (names .len) (names .places) ∙ omega arith
+  parts-many = length-map (take (names .len) (names .places)) (partAt x) ∙ length-take (names .len) (names .places) ∙ omega arith
 
   module _ (i : ℕ) (h : i < min (names .len) maxAtoms) where
     abbrev pub place : NamePlace
