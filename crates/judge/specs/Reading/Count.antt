@@ -1,9 +1,9 @@
 -- A number and a count under the automaton: what `numeralAt` and `countAt` say is what it finds.
 use mathlib.Core.Path.{_≡_, refl, sym, ap, subst, _∙_}
-use mathlib.Core.Bool.{Bool, true, false, cond, not, _&&_, _||_, and-false, or-false, or-true}
+use mathlib.Core.Bool.{true, false, cond, _&&_, _||_, and-false, or-false, or-true}
 use mathlib.Core.List.{List, [], _∷_, _++_}
 use mathlib.Core.Option.{none as nothing}
-use Prim.Native.Nat.{ℕ, suc, _+_, _≤_, _<_}
+use Prim.Native.Nat.{ℕ, _+_, _≤_, _<_}
 use Prim.Native.Char.{code}
 use native.Mathlib.Decide.{decLt}
 use native.Mathlib.Omega.{arith}
@@ -26,13 +26,12 @@ use Rattle.judge.specs.Bytes.Laws.{cond-true, T-true}
 use Rattle.judge.specs.Tests.{by-test}
 use Rattle.judge.specs.Tree.{marked}
 use Rattle.judge.specs.Syntax.{Count, between, onward}
-use Rattle.judge.specs.Syntax.Machine.{atom, Frame, Part, low, dot, dots, high, star, naming, counting, after, State, dead, at, Alive, grows, some-digit, step, result}
+use Rattle.judge.specs.Syntax.Machine.{atom, Frame, Part, low, dot, dots, high, star, naming, counting, after, State, at, grows, some-digit, step, result}
 use Rattle.judge.specs.Syntax.Counters.{isExpect}
 use Rattle.judge.specs.Syntax.Complete.{behindAtom}
-use Rattle.judge.specs.Model.{Counts as BothCounts, countsOf}
+use Rattle.judge.specs.Model.{countsOf}
 use Rattle.judge.specs.Limits.{maxCount}
 use Rattle.judge.specs.Fault.{is, wrong, refused, Answers}
-use Rattle.judge.specs.Fault.Decide.{endsWrong}
 use Rattle.judge.specs.Fault.Answered.{byte-inside}
 use Rattle.judge.specs.Fault.Places.{wrong-answers}
 use Rattle.judge.specs.Fault.Ties.{capped, wrongPair, capped-wrong, capped-over}
