@@ -30,9 +30,8 @@ pub record Book : Type 0 where
   pub rule : Rule
   pub row : Word
 
--- the book of a list's start: the rule that was opened, and an empty row
-abbrev pub fresh : Rule → Book
-fresh r = record { rule = r; row = [] }
+abbrev pub book : Rule → Word → Book
+book r w = record { rule = r; row = w }
 
 -- the trail's length, or 4,096 if that is less
 abbrev pub room : ℕ → ℕ
@@ -41,13 +40,13 @@ room n = min n maxRow
 -- One call: the book before it, the call, the book's reply and the book after it. n is the trail's length.
 pub data Enters (n : ℕ) : Book → Call → Reply → Book → Type 0 where
   no-model : {b : Book} {r : Rule} → ¬ Readable r → Enters n b (opening r) (refuses NoModel) b
-  opens : {b : Book} {r : Rule} → Readable r → Enters n b (opening r) nothing (fresh r)
-  no-name : {b : Book} {x : ℕ} → names (b .rule) < x → Enters n b (adding x) (refuses NoName) b
-  no-room : {b : Book} {x : ℕ} → x ≤ names (b .rule) → length (b .row) ≡ room n → Enters n b (adding x) (refuses NoRoom) b
-  adds : {b : Book} {x : ℕ} → x ≤ names (b .rule) → ¬ length (b .row) ≡ room n → Enters n b (adding x) nothing (record { rule = b .rule; row = b .row ++ (x ∷ []) })
-  no-children : {b : Book} → b .row ≡ [] → Enters n b takingBack (refuses NoChildren) b
-  takes : {b : Book} {w : Word} (x : ℕ) → b .row ≡ w ++ (x ∷ []) → Enters n b takingBack nothing (record { rule = b .rule; row = w })
-  judges : {b : Book} {A : Ty} {v : Verdict} → Means (b .rule) A → Says A (b .row) v → Enters n b asking (says v) b
+  opens : {b : Book} {r : Rule} → Readable r → Enters n b (opening r) nothing (book r [])
+  no-name : {r : Rule} {w : Word} {x : ℕ} → names r < x → Enters n (book r w) (adding x) (refuses NoName) (book r w)
+  no-room : {r : Rule} {w : Word} {x : ℕ} → x ≤ names r → length w ≡ room n → Enters n (book r w) (adding x) (refuses NoRoom) (book r w)
+  adds : {r : Rule} {w : Word} {x : ℕ} → x ≤ names r → ¬ length w ≡ room n → Enters n (book r w) (adding x) nothing (book r (w ++ (x ∷ [])))
+  no-children : {r : Rule} → Enters n (book r []) takingBack (refuses NoChildren) (book r [])
+  takes : {r : Rule} {w : Word} (x : ℕ) → Enters n (book r (w ++ (x ∷ []))) takingBack nothing (book r w)
+  judges : {r : Rule} {w : Word} {A : Ty} {v : Verdict} → Means r A → Says A w v → Enters n (book r w) asking (says v) (book r w)
 
 -- A list of calls, with the book's reply to each (`Book.Laws.keeps-once`: there are no other replies, and no other book at the end).
 pub data Keeps (n : ℕ) : Book → List Call → List Reply → Book → Type 0 where

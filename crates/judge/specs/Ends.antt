@@ -2,7 +2,7 @@
 use mathlib.Core.Path.{_≡_, sym}
 use mathlib.Core.Logic.{_↔_}
 use mathlib.Core.Bool.{true}
-use mathlib.Core.List.{List}
+use mathlib.Core.List.{List, []}
 use Prim.Native.Nat.{ℕ, _≤_}
 use lib.ListN.{length}
 use Rattle.judge.specs.declared.rule.Rule.{Rule}
@@ -31,7 +31,7 @@ use Rattle.judge.specs.Rule.Laws.{means-once}
 use Rattle.judge.specs.Rule.Decide.{readable, readable-is, means-conflict-free}
 use Rattle.judge.specs.Judge.{Upto, Judges}
 use Rattle.judge.specs.Judge.Laws.{judged, judges, judged-is}
-use Rattle.judge.specs.Book.{Call, opening, Reply, nothing, Book, fresh, room, Keeps}
+use Rattle.judge.specs.Book.{Call, opening, Reply, nothing, Book, book, room, Keeps}
 use Rattle.judge.specs.Book.Laws.{keeps-once}
 use Rattle.judge.specs.Session.{Trail, outcome, asked}
 use Rattle.judge.specs.Session.Table.{Answers as Tried, Asks, outcome-is, asked-is}
@@ -103,7 +103,7 @@ asked-exactly = asked-is
 pub calls-keep-book : (w₀ : World) (r : Rule) → replyTo (opening r) w₀ ≡ nothing → (qs : List Call) →
     let n = length (w₀ .trail) in
     let w = plays (opening r) w₀ in
-    (b : Book) × Keeps n (fresh r) qs (replies qs w) b × (after qs w ≡ shown n b) × (length (b .row) ≤ room n)
+    (b : Book) × Keeps n (book r []) qs (replies qs w) b × (after qs w ≡ shown n b) × (length (b .row) ≤ room n)
 calls-keep-book = agrees-with-book
 
 pub book-once : {n : ℕ} {b c d : Book} {qs : List Call} {rs rs′ : List Reply} → Keeps n b qs rs c → Keeps n b qs rs′ d → (rs ≡ rs′) × (c ≡ d)

@@ -19,7 +19,8 @@ use Rattle.judge.specs.Verdict.Laws.{verdict-says}
 use Rattle.judge.specs.Rule.{Readable, names}
 use Rattle.judge.specs.Rule.Decide.{readable, readable-is, ruleType, type-means, means-conflict-free}
 use Rattle.judge.specs.Judge.{Upto}
-use Rattle.judge.specs.Book.{Call, opening, adding, takingBack, asking, nothing, refuses, Book, fresh, room, Enters, no-model, opens, no-name, no-room, adds, no-children, takes, judges}
+use Rattle.judge.specs.Book.{Call, opening, adding, takingBack, asking, nothing, refuses, Book, book, room, Enters, no-model, opens, no-name, no-room, adds, no-children, judges}
+use Rattle.judge.specs.Book.Laws.{takes-last}
 use Rattle.judge.specs.Session.{free, intact, checked, outcome}
 use Rattle.judge.specs.Session.Calls.{World, plays, replyTo, shown}
 use Rattle.judge.specs.Session.Laws.{AllFree, intact-tells}
@@ -69,18 +70,18 @@ pub record Kept (n : ℕ) (b : Book) : Type 0 where
   pub named : Upto (names (b .rule)) (b .row)
   pub fits : length (b .row) ≤ room n
 
-kept-fresh : (n : ℕ) (r : Rule) → Readable r → Kept n (fresh r)
+kept-fresh : (n : ℕ) (r : Rule) → Readable r → Kept n (book r [])
 kept-fresh n r h = record { known = h; named = tt; fits = omega arith }
 
 -- opening shows a fresh book, whatever session and trail there were
-opened : (w : World) (r : Rule) → readable r ≡ true → plays (opening r) w ≡ shown (length (w .trail)) (fresh r)
+opened : (w : World) (r : Rule) → readable r ≡ true → plays (opening r) w ≡ shown (length (w .trail)) (book r [])
 unfolding outcome
 opened w r e = rw (e, sub-zero)
 
 -- an opening that was not refused
 pub record Opened (w : World) (r : Rule) : Type 0 where
-  pub kept : Kept (length (w .trail)) (fresh r)
-  pub shows : plays (opening r) w ≡ shown (length (w .trail)) (fresh r)
+  pub kept : Kept (length (w .trail)) (book r [])
+  pub shows : plays (opening r) w ≡ shown (length (w .trail)) (book r [])
 
 pub done-opened : (w : World) (r : Rule) → replyTo (opening r) w ≡ nothing → Opened w r
 unfolding outcome
@@ -117,7 +118,7 @@ module _ (n : ℕ) (b : Book) (k : Kept n b) where
   unfolding outcome
   agrees-opening r = by-test (readable r)
       (λ e. let h = readable-is r .0 e in
-      (fresh r, rw e (opens h), opened (shown n b) r e ∙ ap (λ (m : ℕ). shown m (fresh r)) length-shown, kept-fresh n r h))
+      (book r [], rw e (opens h), opened (shown n b) r e ∙ ap (λ (m : ℕ). shown m (book r [])) length-shown, kept-fresh n r h))
       (λ e. rw e (b, no-model (untold (readable r) (readable-is r) e), refl, k))
 
   agrees-adding : (x : ℕ) → Agrees n b (adding x)
@@ -150,11 +151,11 @@ module _ (n : ℕ) (b : Book) (k : Kept n b) where
       let j = freed n (b .row) w x i (omega arith) in
       rw (checked-shown, e) (
         record { rule = b .rule; row = w },
-        takes x i,
+        takes-last (b .row) w x i,
         cc,
         record { known = k .known; named = upto-append _ w (x ∷ []) .0 (rw i at (k .named)) .0; fits = omega arith },
       ))
-      (λ e. let h : length (b .row) ≤ 0 = ltb-false _ _ e in rw (checked-shown, e) (b, no-children (empty (b .row) h), refl, k))
+      (λ e. let h : length (b .row) ≤ 0 = ltb-false _ _ e in rw (checked-shown, e) (b, rw (empty (b .row) h) no-children, refl, k))
 
   agrees-asking : Agrees n b asking
   unfolding outcome

@@ -4,7 +4,7 @@ use mathlib.Core.List.{List, [], _∷_}
 use Prim.Native.Nat.{ℕ, _≤_}
 use lib.ListN.{length}
 use Rattle.judge.specs.declared.rule.Rule.{Rule}
-use Rattle.judge.specs.Book.{Call, opening, nothing, Book, fresh, room, Keeps, done, next}
+use Rattle.judge.specs.Book.{Call, opening, nothing, Book, book, room, Keeps, done, next}
 use Rattle.judge.specs.Session.Calls.{World, plays, replyTo, after, replies, shown}
 use Rattle.judge.specs.Session.Agree.{Kept, agrees, done-opened}
 
@@ -21,5 +21,5 @@ keeps n b w k e (q ∷ qs) =
 pub agrees-with-book : (w₀ : World) (r : Rule) → replyTo (opening r) w₀ ≡ nothing → (qs : List Call) →
     let n = length (w₀ .trail) in
     let w = plays (opening r) w₀ in
-    (b : Book) × Keeps n (fresh r) qs (replies qs w) b × (after qs w ≡ shown n b) × (length (b .row) ≤ room n)
-agrees-with-book w₀ r e qs = let o = done-opened w₀ r e in keeps (length (w₀ .trail)) (fresh r) (plays (opening r) w₀) (o .kept) (o .shows) qs
+    (b : Book) × Keeps n (book r []) qs (replies qs w) b × (after qs w ≡ shown n b) × (length (b .row) ≤ room n)
+agrees-with-book w₀ r e qs = let o = done-opened w₀ r e in keeps (length (w₀ .trail)) (book r []) (plays (opening r) w₀) (o .kept) (o .shows) qs
