@@ -367,8 +367,9 @@ fn mark(text: &[u8], work: &mut [u64; MAX_NODES], c: Cursor, i: usize) -> Cursor
     let at = c.at;
     if stands(text, at, b'?') {
         work[i] = packed_optional(work[i]);
+        let behind = at + 1;
         return Cursor {
-            at: at + 1,
+            at: behind,
             nodes: c.nodes,
             names: c.names,
         };

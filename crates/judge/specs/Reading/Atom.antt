@@ -170,9 +170,6 @@ module _ (x : Text) (work names : List ℕ) (c : Cursor) (k : List Frame) (r : E
     unfolding faults
     answer-by f d n = found-by x (c .at) (LetterFault x (c .at)) faults (r .at-is .clean) f d n
 
-    never : {P : Type 0} (m n : ℕ) → n ≤ m → m < n → P → ⊥
-    never m n h i p = omega arith
-
     pub name-length : length (nameFrom x (c .at)) ≡ suc (length (nameFrom x (c .at + 1)))
     unfolding letter-inside
     name-length = ap length (front-step isInner x (c .at) letter-inside (T-true (isInner (getD x (c .at) 0)) (letter-inner (getD x (c .at) 0) (rw l tt))))
@@ -183,18 +180,18 @@ module _ (x : Text) (work names : List ℕ) (c : Cursor) (k : List Frame) (r : E
       long = omega (arith, name-length)
 
       pub long-name : maxName < end - c .at → Answers x (refused LongName (c .at))
-      unfolding long answer-by lesser never
-      long-name h = answer-by LongName (omega (arith, long)) (lesser LongName (never 12 12 (omega arith)) (never 15 12 (omega arith)) (never 16 12 (omega arith)) (never 17 12 (omega arith)))
+      unfolding long answer-by lesser
+      long-name h = answer-by LongName (omega (arith, long)) (lesser LongName (λ i _. omega (arith, i)) (λ i _. omega (arith, i)) (λ i _. omega (arith, i)) (λ i _. omega (arith, i)))
 
       module _ (s : end - c .at ≤ maxName) where
         pub many-atoms : c .names ≡ maxAtoms → Answers x (refused ManyAtoms (c .at))
-        unfolding long answer-by lesser never names-many
-        many-atoms h = answer-by ManyAtoms (omega (arith, names-many)) (lesser ManyAtoms (λ _ k. omega (arith, k, long)) (never 15 15 (omega arith)) (never 16 15 (omega arith)) (never 17 15 (omega arith)))
+        unfolding long answer-by lesser names-many
+        many-atoms h = answer-by ManyAtoms (omega (arith, names-many)) (lesser ManyAtoms (λ _ k. omega (arith, k, long)) (λ i _. omega (arith, i)) (λ i _. omega (arith, i)) (λ i _. omega (arith, i)))
 
         module _ (a : c .names < maxAtoms) where
           pub many-nodes : c .nodes ≡ maxNodes → Answers x (refused ManyNodes (c .at))
-          unfolding long answer-by lesser never names-many nodes-many
-          many-nodes h = answer-by ManyNodes (omega (arith, nodes-many)) (lesser ManyNodes (λ _ k. omega (arith, k, long)) (λ _ k. omega (arith, k, names-many)) (never 16 16 (omega arith)) (never 17 16 (omega arith)))
+          unfolding long answer-by lesser names-many nodes-many
+          many-nodes h = answer-by ManyNodes (omega (arith, nodes-many)) (lesser ManyNodes (λ _ k. omega (arith, k, long)) (λ _ k. omega (arith, k, names-many)) (λ i _. omega (arith, i)) (λ i _. omega (arith, i)))
 
           pub comparable : Comparable x names (c .names) (c .at) end
           unfolding letter-inside name-length
@@ -206,10 +203,10 @@ module _ (x : Text) (work names : List ℕ) (c : Cursor) (k : List Frame) (r : E
             named-here = rw (← level .fresh-here, r .at-is .is, l)
 
             pub repeated-name : among x (places x (c .at)) (c .at) ≡ true → Answers x (refused Repeated (c .at))
-            unfolding long answer-by lesser never names-many nodes-many named-here
+            unfolding long answer-by lesser names-many nodes-many named-here
             repeated-name h =
                 answer-by Repeated (twice-found x (c .at) (rw named-here tt) h)
-                (lesser Repeated (λ _ k. omega (arith, k, long)) (λ _ k. omega (arith, k, names-many)) (λ _ k. omega (arith, k, nodes-many)) (never 17 17 (omega arith)))
+                (lesser Repeated (λ _ k. omega (arith, k, long)) (λ _ k. omega (arith, k, names-many)) (λ _ k. omega (arith, k, nodes-many)) (λ i _. omega (arith, i)))
 
             module _ (n : among x (places x (c .at)) (c .at) ≡ false) where
               letter-read : At x (r .spots ++ (c .at ∷ [])) (c .at + 1) (at k (naming (getD x (c .at) 0 ∷ [])))
