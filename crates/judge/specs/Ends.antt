@@ -14,7 +14,7 @@ use Rattle.judge.specs.declared.verdict.Judged.the-variants.{Verdict as 
 use Rattle.judge.specs.Word.{Word, Shuffle, Blocks}
 use Rattle.judge.specs.Word.Laws.{shuffle-is}
 use Rattle.judge.specs.Types.{Ty, Holds, Extends, ConflictFree}
-use Rattle.judge.specs.Types.Decide.{dec-holds, dec-extends}
+use Rattle.judge.specs.Types.Decide.{dec-holds, dec-extends, nullable, nullable-is}
 use Rattle.judge.specs.Verdict.{Says}
 use Rattle.judge.specs.Verdict.Laws.{verdict, verdict-says, says-once}
 use Rattle.judge.specs.Bytes.{Text}
@@ -41,7 +41,8 @@ use Rattle.judge.specs.Limits.{maxRow}
 use Rattle.judge.specs.Starred.{starred, AllRight}
 use Rattle.judge.specs.Starred.Laws.{starred-right}
 
--- 001: the shuffle is that of definition 2.1; membership and extendability of a conflict-free type are decided; one verdict holds, and only one
+-- 001: the shuffle is that of definition 2.1; membership and extendability of a conflict-free type are decided; lemma 2.5; one verdict holds, and
+-- only one
 pub shuffle : {u v w : Word} → Shuffle u v w ↔ Blocks u v w
 shuffle = shuffle-is
 
@@ -50,6 +51,9 @@ membership = dec-holds
 
 pub extendability : (A : Ty) → ConflictFree A → (w : Word) → Dec (Extends A w)
 extendability = dec-extends
+
+pub empty-word : (A : Ty) → ConflictFree A → (nullable A ≡ true) ↔ Holds A []
+empty-word = nullable-is
 
 pub some-verdict : (A : Ty) → ConflictFree A → (w : Word) → (v : Verdict) × Says A w v
 some-verdict A c w = (verdict A w, verdict-says A c w)

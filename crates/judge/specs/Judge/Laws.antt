@@ -1,11 +1,10 @@
 -- Every row has one answer, and `judged` computes it.
-use mathlib.Core.Path.{_≡_, refl, sym, ap, _∙_, subst}
-use mathlib.Core.Logic.{_↔_}
-use mathlib.Core.Bool.{Bool, true, false, cond, _&&_, true≢false, false≢true}
-use mathlib.Core.List.{List, [], _∷_}
-use Prim.Native.Nat.{ℕ, _≤_, _<_}
+use mathlib.Core.Path.{_≡_, refl, sym, ap}
+use mathlib.Core.Bool.{Bool, true, cond, _&&_}
+use mathlib.Core.List.{[], _∷_}
+use Prim.Native.Nat.{ℕ}
 use native.Mathlib.Omega.{arith}
-use lib.Dec.{leb, eqb}
+use lib.Dec.{leb}
 use lib.ListN.{length}
 use Rattle.judge.specs.declared.fault.JudgeFault.the-variants.{NoModel, LongRow, BadTrail, NoName, NoRoom, NoChildren}
 use Rattle.judge.specs.declared.rule.Rule.{Rule}
@@ -13,11 +12,8 @@ use Rattle.judge.specs.declared.verdict.Judged.{Judged}
 use Rattle.judge.specs.declared.verdict.Judged.the-variants.{Verdict, Refused}
 use Rattle.judge.specs.Tests.{by-test, Tells, untold, fails, tells-le, tells-and}
 use Rattle.judge.specs.Word.{Word}
-use Rattle.judge.specs.Types.{Ty, ε, ConflictFree}
-use Rattle.judge.specs.Verdict.{Says}
 use Rattle.judge.specs.Verdict.Laws.{verdict, verdict-says, verdict-is}
-use Rattle.judge.specs.Rule.{Readable, Means, names}
-use Rattle.judge.specs.Rule.Laws.{means-once}
+use Rattle.judge.specs.Rule.{names}
 use Rattle.judge.specs.Rule.Decide.{readable, readable-is, ruleType, type-means, means-type, means-conflict-free}
 use Rattle.judge.specs.Judge.{Upto, Judges}
 use Rattle.judge.specs.Limits.{maxRow}
