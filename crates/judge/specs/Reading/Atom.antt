@@ -69,7 +69,7 @@ AtomRead x work c end k (Faulty f q) = Answers x (refused f q)
 abbrev pub past : Cursor → ℕ → Cursor
 past c p = record { at = p; nodes = c .nodes + 1; names = c .names + 1 }
 
-module _ (x : Text) (work : List ℕ) (c : Cursor) (end : ℕ) (k : List Frame) (r : NameRead x work c end k) where
+module _ {x : Text} {work : List ℕ} {c : Cursor} {end : ℕ} {k : List Frame} (r : NameRead x work c end k) where
   -- a node more
   one-node : (w : ℕ) (y : Count) (m : ℕ) (u : Upper) → countsOf y ≡ record { min = m; max = u } → nodeOf w ≡ plain (Atom m u) → NodesHeld (set work (c .nodes) w) (c .nodes + 1) (stackNodes k ++ treeNodes (marked Plain (atom (r .name) y)))
   one-node w y m u e q = rw e (holds-more nodeOf 128 work (c .nodes) (stackNodes k) (r .held) w (plain (Atom m u)) (r .few) q)
@@ -78,25 +78,25 @@ module _ (x : Text) (work : List ℕ) (c : Cursor) (end : ℕ) (k : List Frame) 
   node-is = sym (holds-count nodeOf 128 work (c .nodes) (stackNodes k) (r .held))
 
   -- no count: `a` is `a[1..1]`
-  pub atom-bare : is x (code "[") end ≡ false → (w : ℕ) → nodeOf w ≡ plain (Atom 1 (Number 1)) → (work′ : List ℕ) (d : Cursor) → Marking x (set work (c .nodes) w) work′ (past c end) (c .nodes) d → AtomRead x work′ c end k (Past d)
+  pub atom-bare : is x (code "[") end ≡ false → (w : ℕ) → nodeOf w ≡ plain (Atom 1 (Number 1)) → {work′ : List ℕ} {d : Cursor} → Marking x (set work (c .nodes) w) work′ (past c end) (c .nodes) d → AtomRead x work′ c end k (Past d)
   unfolding one-node node-is
-  atom-bare e w q work′ d m =
+  atom-bare e w q {work′} {d} m =
       let h = one-node w unwritten 1 (Number 1) refl q in
       let s = node-step k (atom (r .name) unwritten) (getD x end 0) (r .over) e in
       record {
         spots = r .spots;
         same = r .at-is .names;
-        read = mark-read x (set work (c .nodes) w) (r .spots) (c .at) (c .nodes) k (atom (r .name) unwritten) (past c end) (r .on) (r .at-is) s h node-is work′ d m;
-        one-more = mark-names x (set work (c .nodes) w) (r .spots) (c .at) (c .nodes) k (atom (r .name) unwritten) (past c end) (r .on) (r .at-is) s h node-is work′ d m;
+        read = mark-read x (set work (c .nodes) w) (r .spots) (c .at) (c .nodes) k (atom (r .name) unwritten) (past c end) (r .on) (r .at-is) s h node-is m;
+        one-more = mark-names x (set work (c .nodes) w) (r .spots) (c .at) (c .nodes) k (atom (r .name) unwritten) (past c end) (r .on) (r .at-is) s h node-is m;
       }
 
   counted : is x (code "[") end ≡ true → (o : Counted) → o ≡ countAt x end → CountRead x (r .spots) k (r .name) end (r .at-is) o
   counted e o q = rw q (count-read x (r .spots) k (r .name) end (r .at-is) e)
 
-  module _ (e : is x (code "[") end ≡ true) (o : Counted) (q : o ≡ countAt x end) where
-    pub atom-counted : (m : ℕ) (u : Upper) (p : ℕ) → o ≡ Counts m u p → (w : ℕ) → nodeOf w ≡ plain (Atom m u) → (work′ : List ℕ) (d : Cursor) → Marking x (set work (c .nodes) w) work′ (past c p) (c .nodes) d → AtomRead x work′ c end k (Past d)
+  module _ (e : is x (code "[") end ≡ true) {o : Counted} (q : o ≡ countAt x end) where
+    pub atom-counted : {m : ℕ} {u : Upper} {p : ℕ} → o ≡ Counts m u p → (w : ℕ) → nodeOf w ≡ plain (Atom m u) → {work′ : List ℕ} {d : Cursor} → Marking x (set work (c .nodes) w) work′ (past c p) (c .nodes) d → AtomRead x work′ c end k (Past d)
     unfolding counted one-node node-is
-    atom-counted m u p f w g work′ d j =
+    atom-counted {m} {u} {p} f w g {work′} {d} j =
         let t : CountDone x (r .spots) k (r .name) end (r .at-is) m u p = counted e (Counts m u p) (sym f ∙ q) in
         let h = one-node w (t .count) m u (t .counts-are) g in
         let a : At x (r .spots) p (at k (behindAtom (r .name) (t .count))) = rw (t .written) (t .at-is) in
@@ -105,21 +105,21 @@ module _ (x : Text) (work : List ℕ) (c : Cursor) (end : ℕ) (k : List Frame) 
         record {
           spots = r .spots;
           same = r .at-is .names;
-          read = mark-read x (set work (c .nodes) w) (r .spots) (c .at) (c .nodes) k (atom (r .name) (t .count)) (past c p) b a s h node-is work′ d j;
-          one-more = mark-names x (set work (c .nodes) w) (r .spots) (c .at) (c .nodes) k (atom (r .name) (t .count)) (past c p) b a s h node-is work′ d j;
+          read = mark-read x (set work (c .nodes) w) (r .spots) (c .at) (c .nodes) k (atom (r .name) (t .count)) (past c p) b a s h node-is j;
+          one-more = mark-names x (set work (c .nodes) w) (r .spots) (c .at) (c .nodes) k (atom (r .name) (t .count)) (past c p) b a s h node-is j;
         }
 
-    pub count-fits : (m : ℕ) (u : Upper) (p : ℕ) → o ≡ Counts m u p → p ≤ length x
+    pub count-fits : {m : ℕ} {u : Upper} {p : ℕ} → o ≡ Counts m u p → p ≤ length x
     unfolding counted
-    count-fits m u p f = counted e (Counts m u p) (sym f ∙ q) .at-is .within
+    count-fits {m} {u} {p} f = counted e (Counts m u p) (sym f ∙ q) .at-is .within
 
-    pub atom-misspelt : (p : ℕ) → o ≡ Bad p → Answers x (refused Misspelling p)
+    pub atom-misspelt : {p : ℕ} → o ≡ Bad p → Answers x (refused Misspelling p)
     unfolding counted
-    atom-misspelt p f = counted e (Bad p) (sym f ∙ q)
+    atom-misspelt {p} f = counted e (Bad p) (sym f ∙ q)
 
-    pub atom-wrong : (p : ℕ) → o ≡ Wrong p → Answers x (refused WrongCount p)
+    pub atom-wrong : {p : ℕ} → o ≡ Wrong p → Answers x (refused WrongCount p)
     unfolding counted
-    atom-wrong p f = counted e (Wrong p) (sym f ∙ q)
+    atom-wrong {p} f = counted e (Wrong p) (sym f ∙ q)
 
 -- the nodes of the open groups are as many as the automaton's state counts
 frame-count : (f : Frame) → length (frameNodes f) ≡ frameWeight 1 1 f
@@ -131,7 +131,7 @@ stack-count [] = refl
 stack-count (f ∷ k) = rw (length-append, stack-count k, frame-count f)
 
 -- where a member is to begin: how many names and nodes there are
-module _ (x : Text) (work names : List ℕ) (c : Cursor) (k : List Frame) (r : Expecting x work names c k) where
+module _ {x : Text} {work names : List ℕ} {c : Cursor} {k : List Frame} (r : Expecting x work names c k) where
   pub level : Even x (c .at)
   level = even x (c .at) (r .at-is .within) (rw (r .at-is .is) tt)
 
@@ -174,7 +174,7 @@ module _ (x : Text) (work names : List ℕ) (c : Cursor) (k : List Frame) (r : E
     unfolding letter-inside
     name-length = ap length (front-step isInner x (c .at) letter-inside (T-true (isInner (getD x (c .at) 0)) (letter-inner (getD x (c .at) 0) (rw l tt))))
 
-    module _ (end : ℕ) (e : end ≡ c .at + 1 + length (nameFrom x (c .at + 1))) where
+    module _ {end : ℕ} (e : end ≡ c .at + 1 + length (nameFrom x (c .at + 1))) where
       long : end - c .at ≡ length (nameFrom x (c .at))
       unfolding name-length
       long = omega (arith, name-length)

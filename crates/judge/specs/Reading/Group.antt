@@ -50,7 +50,7 @@ expecting (f ∷ k) = refl
 abbrev pub inside : Cursor → Cursor
 inside c = record { at = c .at + 1; nodes = c .nodes + 1; names = c .names }
 
-module _ (x : Text) (work names : List ℕ) (c : Cursor) (left : ℕ) (k : List Frame) (r : Ready x work names c left k) where
+module _ {x : Text} {work names : List ℕ} {c : Cursor} {left : ℕ} {k : List Frame} (r : Ready x work names c left k) where
   pub member-stops : c .at ≡ length x → Answers x (refused Misspelling (c .at))
   member-stops e = bad x (r .expecting .spots) (c .at) (at k expect) (r .expecting .at-is) tt (rw (List·getD-eq-default x 0 {n = c .at} (omega arith))) (expecting k)
 
@@ -83,7 +83,7 @@ module _ (x : Text) (work names : List ℕ) (c : Cursor) (left : ℕ) (k : List 
     module _ (z : left ≡ 0 → ⊥) where
       pub many-groups : c .nodes ≡ maxNodes → Answers x (refused ManyNodes (c .at))
       unfolding faults
-      many-groups e = found-by x (c .at) (BracketFault x (c .at) (length k)) faults (r .expecting .at-is .clean) ManyNodes (omega (arith, nodes-many x work names c k (r .expecting))) go
+      many-groups e = found-by x (c .at) (BracketFault x (c .at) (length k)) faults (r .expecting .at-is .clean) ManyNodes (omega (arith, nodes-many (r .expecting))) go
         where
           go : (g : ModelFault) → modelNumber g < modelNumber ManyNodes → BracketFault x (c .at) (length k) g → ⊥
           go Size i f = f
@@ -103,7 +103,7 @@ module _ (x : Text) (work names : List ℕ) (c : Cursor) (left : ℕ) (k : List 
               sized = r .expecting .at-is .sized;
               within = omega arith;
               is = rw add-one (bracket-next x (c .at) (r .expecting .at-is .sized) h k (r .expecting .at-is .is) o);
-              clean = clean-more x (c .at) (r .expecting .at-is .clean) (bracket-faultless x (c .at) (length k) faults (omega (arith, r .room)) (omega (arith, nodes-many x work names c k (r .expecting))));
+              clean = clean-more x (c .at) (r .expecting .at-is .clean) (bracket-faultless x (c .at) (length k) faults (omega (arith, r .room)) (omega (arith, nodes-many (r .expecting))));
               names = rw (add-one, o, and-false) (r .expecting .at-is .names);
             }
 
@@ -125,7 +125,7 @@ module _ (x : Text) (work names : List ℕ) (c : Cursor) (left : ℕ) (k : List 
             })
 
         -- the group was read: its mark is left
-        module _ (work₁ names′ : List ℕ) (g : Got) (y : GroupRead x work₁ names′ (c .at + 1) (tail (stackOf (here x (c .at + 1)))) g) (d : Cursor) (u : g ≡ Past d) where
+        module _ (work₁ names′ : List ℕ) {g : Got} {d : Cursor} (y : GroupRead x work₁ names′ (c .at + 1) (tail (stackOf (here x (c .at + 1)))) g) (u : g ≡ Past d) where
           closed : Closed x work₁ names′ (c .at + 1) k d
           unfolding inside-stack
           closed = let v : Closed x work₁ names′ (c .at + 1) (tail (stackOf (here x (c .at + 1)))) d = rw u at y in rw inside-stack at v
@@ -134,15 +134,15 @@ module _ (x : Text) (work names : List ℕ) (c : Cursor) (left : ℕ) (k : List 
           unfolding closed
           closed-fits = closed .at-is .within
 
-          pub group-member : (work₂ : List ℕ) (e : Cursor) → Marking x work₁ work₂ d (c .nodes) e → Member x work₂ names′ (c .at) k (Past e)
+          pub group-member : {work₂ : List ℕ} {e : Cursor} → Marking x work₁ work₂ d (c .nodes) e → Member x work₂ names′ (c .at) k (Past e)
           unfolding closed
-          group-member work₂ e q =
+          group-member q =
               let n : c .nodes ≡ length (stackNodes k) = sym (holds-count nodeOf 128 work (c .nodes) (stackNodes k) (r .expecting .held)) in
               let b : c .at < d .at = omega (arith, closed .on) in
               record {
                 spots = closed .spots;
-                read = mark-read x work₁ (closed .spots) (c .at) (c .nodes) k (group (closed .sign) (closed .members)) d b (closed .at-is) refl (closed .held) n work₂ e q;
-                named = rw (mark-names x work₁ (closed .spots) (c .at) (c .nodes) k (group (closed .sign) (closed .members)) d b (closed .at-is) refl (closed .held) n work₂ e q) (closed .named);
+                read = mark-read x work₁ (closed .spots) (c .at) (c .nodes) k (group (closed .sign) (closed .members)) d b (closed .at-is) refl (closed .held) n q;
+                named = rw (mark-names x work₁ (closed .spots) (c .at) (c .nodes) k (group (closed .sign) (closed .members)) d b (closed .at-is) refl (closed .held) n q) (closed .named);
               }
 
 -- signs and their bytes
@@ -256,7 +256,7 @@ close-bad opened k t b e j =
 close-bad (signed o u ts) k t b e j = rw (e, sym (joins-by o b) ∙ j)
 
 -- READING ON IN A GROUP
-module _ (x : Text) (work names : List ℕ) (c : Cursor) (left node sign members : ℕ) (i : Inside x work names c left node sign members (tail (stackOf (here x (c .at))))) where
+module _ {x : Text} {work names : List ℕ} {c : Cursor} {left node sign members : ℕ} (i : Inside x work names c left node sign members (tail (stackOf (here x (c .at))))) where
   abbrev below : List Frame
   below = tail (stackOf (here x (c .at)))
 
@@ -317,7 +317,7 @@ module _ (x : Text) (work names : List ℕ) (c : Cursor) (left node sign members
       shuts (signed o u ts) q e = refl
 
   -- behind a member
-  module _ (work′ names′ : List ℕ) (g : Got) (y : Member x work′ names′ (c .at) (stackOf (here x (c .at))) g) (d : Cursor) (u : g ≡ Past d) where
+  module _ (work′ names′ : List ℕ) {g : Got} {d : Cursor} (y : Member x work′ names′ (c .at) (stackOf (here x (c .at))) g) (u : g ≡ Past d) where
     m : Behind x work′ names′ (c .at) (stackOf (here x (c .at))) d
     m = rw u at y
 

@@ -80,7 +80,7 @@ pub name-part : (x : Text) (p n : ℕ) → n ≡ length (nameFrom x p) → take 
 name-part x p n e = rw e (front-take isInner (drop p x))
 
 -- a turn of the search
-module _ (x : Text) (names : List ℕ) (n start end : ℕ) (c : Comparable x names n start end) where
+module _ {x : Text} {names : List ℕ} {n start end : ℕ} (c : Comparable x names n start end) where
   pub many : length (places x start) ≡ n
   many = sym (images-long placeOf (namePlace x) (take n names) (places x start) (c .held)) ∙ length-take n names ∙ omega (arith, c .few, c .whole)
 

@@ -74,7 +74,7 @@ whole-behind (marked Plain (leaf a)) = go (a .count)
 
 module _ (x : Text) (work names : List ℕ) (g : Got) (y : Member x work names 0 [] g) where
   pub fault-read : (f : ModelFault) (q : ℕ) → g ≡ Faulty f q → refusal f q ≡ reading x
-  fault-read f q e = refused-is x f q (member-fault x work names 0 [] g f q y e)
+  fault-read f q e = refused-is x f q (member-fault x work names 0 [] y e)
 
   module _ (d : Cursor) (u : g ≡ Past d) where
     b : Behind x work names 0 [] d
