@@ -21,13 +21,23 @@ returns-2 : tie.Need-returns-2
 returns-2 c = let r = c .before .before .before .before .pre in many-atoms (r .0) (r .1) (c .before .before .name-end .ensures .0) (c .before .if1 .left) (c .if2 .taken)
 
 returns-3 : tie.Need-returns-3
-returns-3 c = let r = c .before .before .before .before .before .before .pre in many-nodes (r .0) (r .1) (c .before .before .before .before .name-end .ensures .0) (c .before .before .before .if1 .left) (omega (arith, r .0 .named .few, c .before .before .if2 .left)) (c .if3 .taken)
+returns-3 c =
+    let r = c .before .before .before .before .before .before .pre in
+    many-nodes (r .0) (r .1) (c .before .before .before .before .name-end .ensures .0) (c .before .before .before .if1 .left)
+    (omega (arith, r .0 .named .few, c .before .before .if2 .left)) (c .if3 .taken)
 
 repeated-requires : tie.Need-repeated-requires
-repeated-requires c κs = let r = c .before .before .before .before .before .before .before .pre in comparable (r .0) (r .1) (c .before .before .before .before .before .name-end .ensures .0) (c .before .before .before .before .if1 .left) (omega (arith, r .0 .named .few, c .before .before .before .if2 .left))
+repeated-requires c κs =
+    let r = c .before .before .before .before .before .before .before .pre in
+    comparable (r .0) (r .1) (c .before .before .before .before .before .name-end .ensures .0) (c .before .before .before .before .if1 .left)
+    (omega (arith, r .0 .named .few, c .before .before .before .if2 .left))
 
 returns-4 : tie.Need-returns-4
-returns-4 c = let r = c .before .before .before .before .before .before .before .before .before .pre in repeated-name (r .0) (r .1) (c .before .before .before .before .before .before .before .name-end .ensures .0) (c .before .before .before .before .before .before .if1 .left) (omega (arith, r .0 .named .few, c .before .before .before .before .before .if2 .left)) (omega (arith, r .0 .held .few, c .before .before .before .if3 .left)) (sym (c .before .repeated .ensures) ∙ c .if4 .taken)
+returns-4 c =
+    let r = c .before .before .before .before .before .before .before .before .before .pre in
+    repeated-name (r .0) (r .1) (c .before .before .before .before .before .before .before .name-end .ensures .0)
+    (c .before .before .before .before .before .before .if1 .left) (omega (arith, r .0 .named .few, c .before .before .before .before .before .if2 .left))
+    (omega (arith, r .0 .held .few, c .before .before .before .if3 .left)) (sym (c .before .repeated .ensures) ∙ c .if4 .taken)
 
 cast-names : tie.Need-cast-names
 cast-names c = let r = c .before .before .before .before .before .before .before .before .before .pre in omega (arith, letter-inside (r .0) (r .1), r .0 .at-is .sized .1)
@@ -42,19 +52,34 @@ cast-names-2 : tie.Need-cast-names-2
 cast-names-2 c = omega arith
 
 add-names : tie.Need-add-names
-add-names c = let r = c .before .before .before .before .before .before .before .before .before .pre in omega (arith, letter-inside (r .0) (r .1), r .0 .at-is .sized .1, c .before .before .before .before .before .before .if1 .left)
+add-names c =
+    let r = c .before .before .before .before .before .before .before .before .before .pre in
+    omega (arith, letter-inside (r .0) (r .1), r .0 .at-is .sized .1, c .before .before .before .before .before .before .if1 .left)
 
 mul-names-2 : tie.Need-mul-names-2
 mul-names-2 c = omega (arith, c .before .before .before .before .before .before .before .before .before .pre .0 .named .few)
 
 element-write-names : tie.Need-element-write-names
-element-write-names c = omega (arith, c .before .before .before .before .before .before .before .before .before .pre .0 .named .few, c .before .before .before .before .before .if2 .left)
+element-write-names c =
+    omega
+    (arith, c .before .before .before .before .before .before .before .before .before .pre .0 .named .few, c .before .before .before .before .before .if2 .left)
 
 atom-rest-requires : tie.Need-atom-rest-requires
-atom-rest-requires c κs = let r = c .before .before .before .before .before .before .before .before .before .before .pre in rw (name-stack (r .0) (r .1) (c .before .before .before .before .before .before .before .before .name-end .ensures .0) (c .before .before .before .before .before .before .before .if1 .left) (omega (arith, r .0 .named .few, c .before .before .before .before .before .before .if2 .left)) (omega (arith, r .0 .held .few, c .before .before .before .before .if3 .left)) (sym (c .before .before .repeated .ensures) ∙ c .before .if4 .left)) (name-read (r .0) (r .1) (c .before .before .before .before .before .before .before .before .name-end .ensures .0) (c .before .before .before .before .before .before .before .if1 .left) (omega (arith, r .0 .named .few, c .before .before .before .before .before .before .if2 .left)) (omega (arith, r .0 .held .few, c .before .before .before .before .if3 .left)) (sym (c .before .before .repeated .ensures) ∙ c .before .if4 .left))
+atom-rest-requires c κs =
+    let r = c .before .before .before .before .before .before .before .before .before .before .pre in
+    rw
+    (name-stack (r .0) (r .1) (c .before .before .before .before .before .before .before .before .name-end .ensures .0) (c .before .before .before .before .before .before .before .if1 .left) (omega (arith, r .0 .named .few, c .before .before .before .before .before .before .if2 .left)) (omega (arith, r .0 .held .few, c .before .before .before .before .if3 .left)) (sym (c .before .before .repeated .ensures) ∙ c .before .if4 .left))
+    (name-read (r .0) (r .1) (c .before .before .before .before .before .before .before .before .name-end .ensures .0) (c .before .before .before .before .before .before .before .if1 .left) (omega (arith, r .0 .named .few, c .before .before .before .before .before .before .if2 .left)) (omega (arith, r .0 .held .few, c .before .before .before .before .if3 .left)) (sym (c .before .before .repeated .ensures) ∙ c .before .if4 .left))
 
 returns-5 : tie.Need-returns-5
-returns-5 c = let r = c .before .before .before .before .before .before .before .before .before .before .before .pre in atom-member (r .0) (r .1) (c .before .before .before .before .before .before .before .before .before .name-end .ensures .0) (c .before .before .before .before .before .before .before .before .if1 .left) (omega (arith, r .0 .named .few, c .before .before .before .before .before .before .before .if2 .left)) (omega (arith, r .0 .held .few, c .before .before .before .before .before .if3 .left)) (sym (c .before .before .before .repeated .ensures) ∙ c .before .before .if4 .left) (c .atom-rest .last .1 .0) (c .atom-rest .result) (c .atom-rest .ensures)
+returns-5 c =
+    let r = c .before .before .before .before .before .before .before .before .before .before .before .pre in
+    atom-member (r .0) (r .1) (c .before .before .before .before .before .before .before .before .before .name-end .ensures .0)
+    (c .before .before .before .before .before .before .before .before .if1 .left)
+    (omega (arith, r .0 .named .few, c .before .before .before .before .before .before .before .if2 .left))
+    (omega (arith, r .0 .held .few, c .before .before .before .before .before .if3 .left))
+    (sym (c .before .before .before .repeated .ensures) ∙ c .before .before .if4 .left) (c .atom-rest .last .1 .0) (c .atom-rest .result)
+    (c .atom-rest .ensures)
 
 pub atom-spec : {M : Type 1} → statement M
 atom-spec =

@@ -14,7 +14,9 @@ stands-requires : tie.Need-stands-requires
 stands-requires c κs = search needs
 
 count-requires : tie.Need-count-requires
-count-requires c κs = stands-inside (c .before .before .before .before .args .text .now) 91 (c .before .before .before .before .args .end) (omega arith) (sym (c .before .stands .ensures) ∙ c .if1 .taken)
+count-requires c κs =
+    stands-inside (c .before .before .before .before .args .text .now) 91 (c .before .before .before .before .args .end) (omega arith)
+    (sym (c .before .stands .ensures) ∙ c .if1 .taken)
 
 enum-known-min : tie.Need-enum-known-min
 enum-known-min c = search needs
@@ -32,22 +34,40 @@ add-t17 : tie.Need-add-t17
 add-t17 c = search needs
 
 mark-requires : tie.Need-mark-requires
-mark-requires c κs = let r = c .before .before .before .before .before .before .before .before .before .before .pre in let k = c .before .before .before .before .before .count in (omega (arith, r .few), count-fits r (sym (c .before .before .before .before .before .before .before .stands .ensures) ∙ c .before .before .before .before .before .before .if1 .taken) (k .ensures) (c .before .before .before .min .given .1))
+mark-requires c κs =
+    let r = c .before .before .before .before .before .before .before .before .before .before .pre in
+    let k = c .before .before .before .before .before .count in (
+      omega (arith, r .few),
+      count-fits r
+          (sym (c .before .before .before .before .before .before .before .stands .ensures) ∙ c .before .before .before .before .before .before .if1 .taken)
+          (k .ensures) (c .before .before .before .min .given .1),
+    )
 
 returns : tie.Need-returns
-returns c = let k = c .before .before .before .before .before .before .count in atom-counted (c .before .before .before .before .before .before .before .before .before .before .before .pre) (sym (c .before .before .before .before .before .before .before .before .stands .ensures) ∙ c .before .before .before .before .before .before .before .if1 .taken) (k .ensures) (c .before .before .before .before .min .given .1) (c .before .before .packed-atom .result) (c .before .before .packed-atom .ensures) (c .mark .ensures)
+returns c =
+    let k = c .before .before .before .before .before .before .count in
+    atom-counted (c .before .before .before .before .before .before .before .before .before .before .before .pre)
+    (sym (c .before .before .before .before .before .before .before .before .stands .ensures) ∙ c .before .before .before .before .before .before .before .if1 .taken)
+    (k .ensures) (c .before .before .before .before .min .given .1) (c .before .before .packed-atom .result) (c .before .before .packed-atom .ensures)
+    (c .mark .ensures)
 
 enum-known-p : tie.Need-enum-known-p
 enum-known-p c = search needs
 
 returns-2 : tie.Need-returns-2
-returns-2 c = atom-misspelt (c .before .before .before .before .before .before .before .before .pre) (sym (c .before .before .before .before .before .stands .ensures) ∙ c .before .before .before .before .if1 .taken) (c .before .before .before .count .ensures) (c .before .p .given .1)
+returns-2 c =
+    atom-misspelt (c .before .before .before .before .before .before .before .before .pre)
+    (sym (c .before .before .before .before .before .stands .ensures) ∙ c .before .before .before .before .if1 .taken)
+    (c .before .before .before .count .ensures) (c .before .p .given .1)
 
 enum-known-p-2 : tie.Need-enum-known-p-2
 enum-known-p-2 c = search needs
 
 returns-3 : tie.Need-returns-3
-returns-3 c = atom-wrong (c .before .before .before .before .before .before .before .before .pre) (sym (c .before .before .before .before .before .stands .ensures) ∙ c .before .before .before .before .if1 .taken) (c .before .before .before .count .ensures) (c .before .p2 .given .1)
+returns-3 c =
+    atom-wrong (c .before .before .before .before .before .before .before .before .pre)
+    (sym (c .before .before .before .before .before .stands .ensures) ∙ c .before .before .before .before .if1 .taken)
+    (c .before .before .before .count .ensures) (c .before .p2 .given .1)
 
 packed-atom-requires-2 : tie.Need-packed-atom-requires-2
 packed-atom-requires-2 c κs = search needs
@@ -65,7 +85,10 @@ mark-requires-2 : tie.Need-mark-requires-2
 mark-requires-2 c κs = search needs
 
 returns-4 : tie.Need-returns-4
-returns-4 c = atom-bare (c .before .before .before .before .before .before .before .pre) (sym (c .before .before .before .before .stands .ensures) ∙ c .before .before .before .if1 .left) (c .before .before .packed-atom2 .result) (c .before .before .packed-atom2 .ensures) (c .mark2 .ensures)
+returns-4 c =
+    atom-bare (c .before .before .before .before .before .before .before .pre)
+    (sym (c .before .before .before .before .stands .ensures) ∙ c .before .before .before .if1 .left) (c .before .before .packed-atom2 .result)
+    (c .before .before .packed-atom2 .ensures) (c .mark2 .ensures)
 
 pub atom-rest-spec : {M : Type 1} → statement M
 atom-rest-spec =
