@@ -41,7 +41,8 @@ use Rattle.judge.specs.Reading.At.{At, Quiet, next, step-on, bad, run-fr
 
 -- a number, from a state r whose followers s hold the digits
 module _ (r : State) (s : Text → State) (first : (d : ℕ) → T (isDigit d) → step r d ≡ s (d ∷ []))
-    (grow : (ds : Text) (d : ℕ) → T (isDigit d && grows ds) → step (s ds) d ≡ s (ds ++ (d ∷ []))) (waits : isExpect r ≡ false) (quiet : (ds : Text) → Quiet (s ds)) (x : Text) (l : List ℕ) (p : ℕ) (a : At x l p r) where
+    (grow : (ds : Text) (d : ℕ) → T (isDigit d && grows ds) → step (s ds) d ≡ s (ds ++ (d ∷ []))) (waits : isExpect r ≡ false) (quiet : (ds : Text)
+    → Quiet (s ds)) (x : Text) (l : List ℕ) (p : ℕ) (a : At x l p r) where
   -- the digits are read, and the byte behind them is none of theirs
   pub record Digits (v q : ℕ) : Type 0 where
     pub text : Text
@@ -59,10 +60,12 @@ module _ (r : State) (s : Text → State) (first : (d : ℕ) → T (isDigit d) �
   unfolding numeralAt
   numeral-read = by-test (isDigit (getD x p 0)) (λ t. digit t (byte-inside isDigit x p tt (rw t tt))) (λ n. rw n (refl, n))
     where
-      made : (y : Text) → isDigit (getD x p 0) ≡ true → digits (drop p x) ≡ y → Digits (capped (value y)) (p + length y) → NumeralRead (cond (isDigit (getD x p 0)) (Value (capped (value (digits (drop p x)))) (p + length (digits (drop p x)))) (NoNumeral p))
+      made : (y : Text) → isDigit (getD x p 0) ≡ true → digits (drop p x) ≡ y → Digits (capped (value y)) (p + length y)
+          → NumeralRead (cond (isDigit (getD x p 0)) (Value (capped (value (digits (drop p x)))) (p + length (digits (drop p x)))) (NoNumeral p))
       made y t e d = rw (t, e) d
 
-      digit : isDigit (getD x p 0) ≡ true → p < length x → NumeralRead (cond (isDigit (getD x p 0)) (Value (capped (value (digits (drop p x)))) (p + length (digits (drop p x)))) (NoNumeral p))
+      digit : isDigit (getD x p 0) ≡ true → p < length x
+          → NumeralRead (cond (isDigit (getD x p 0)) (Value (capped (value (digits (drop p x)))) (p + length (digits (drop p x)))) (NoNumeral p))
       digit t h =
           let b : At x l (p + 1) (s (getD x p 0 ∷ [])) = step-on x l p r a (s (getD x p 0 ∷ [])) h (first (getD x p 0) (rw t tt)) waits (quiet (getD x p 0 ∷ []) .0) (quiet (getD x p 0 ∷ []) .1 .1) in
           by-test (eqb (getD x p 0) (code "0"))
@@ -104,7 +107,8 @@ module _ (x : Text) (l : List ℕ) (k : List Frame) (n : Text) (p : ℕ) (a : At
   CountRead (Wrong q) = Answers x (refused WrongCount q)
 
   -- at the `]`
-  module _ (c : Count) (w : behindAtom n c ≡ after (marked Plain (atom n c))) (q : ℕ) (s : State) (b : At x l q s) (o : p < q) (e : isExpect s ≡ false) (h : q < length x) (g : step s (getD x q 0) ≡ at k (after (marked Plain (atom n c)))) where
+  module _ (c : Count) (w : behindAtom n c ≡ after (marked Plain (atom n c))) (q : ℕ) (s : State) (b : At x l q s) (o : p < q) (e : isExpect s ≡ false)
+      (h : q < length x) (g : step s (getD x q 0) ≡ at k (after (marked Plain (atom n c)))) where
     wrong-count : wrong c ≡ true → Answers x (refused WrongCount q)
     wrong-count t = wrong-answers x q (b .sized) (b .clean) h (ap isExpect (b .is) ∙ e) (rw (next x l q s b h ∙ g, t) tt)
 
@@ -132,7 +136,9 @@ module _ (x : Text) (l : List ℕ) (k : List Frame) (n : Text) (p : ℕ) (a : At
       → (o : Numeral) → NumeralRead (at k (counting n (dots t))) (λ ds. at k (counting n (high t ds))) (λ d i. cond-true (isDigit d) _ _ i) (λ ds d i. cond-true (isDigit d && grows ds) _ _ i) refl (λ ds. (tt, (refl, refl))) x l q b o → CountRead (betweenAt x o m)
   unfolding betweenAt
   between-read t m q i o b z (NoNumeral r) (e, f) = rw e (bad x l q (at k (counting n (dots t))) b tt (rw (f, z)) (in-count k n (dots t)))
-  between-read t m q i o b z (Value v r) d = by-test (is x (code "]") r) closed (λ f. rw f (bad x l r (at k (counting n (high t (d .text)))) (d .at-is) tt (rw (d .over, f)) (in-count k n (high t (d .text)))))
+  between-read t m q i o b z (Value v r) d =
+      by-test (is x (code "]") r) closed
+      (λ f. rw f (bad x l r (at k (counting n (high t (d .text)))) (d .at-is) tt (rw (d .over, f)) (in-count k n (high t (d .text)))))
     where
       closed : is x (code "]") r ≡ true → CountRead (cond (is x (code "]") r) (cond (eqb v 0 || ltb v m || ltb maxCount v) (Wrong r) (Counts m (Number v) (r + 1))) (Bad r))
       closed e =
@@ -152,7 +158,8 @@ module _ (x : Text) (l : List ℕ) (k : List Frame) (n : Text) (p : ℕ) (a : At
       → (o : Numeral) → NumeralRead (at k (counting n (low []))) (λ ds. at k (counting n (low ds))) (λ d i. cond-true (isDigit d && true) _ _ (yes-and (isDigit d) true i tt)) (λ ds d i. cond-true (isDigit d && grows ds) _ _ i) refl (λ ds. (tt, (refl, refl))) x l (p + 1) b o → CountRead (boundedAt x o)
   unfolding boundedAt
   bounded-read b (NoNumeral q) (e, f) = rw e (bad x l (p + 1) (at k (counting n (low []))) b tt (rw (f, and-false)) (in-count k n (low [])))
-  bounded-read b (Value m q) d = by-test (is x (code ".") q) one (λ f. rw f (bad x l q (at k (counting n (low (d .text)))) (d .at-is) tt (rw (d .over, f)) (in-count k n (low (d .text)))))
+  bounded-read b (Value m q) d =
+      by-test (is x (code ".") q) one (λ f. rw f (bad x l q (at k (counting n (low (d .text)))) (d .at-is) tt (rw (d .over, f)) (in-count k n (low (d .text)))))
     where
       o : p < q
       o = omega (arith, d .on)
@@ -160,7 +167,8 @@ module _ (x : Text) (l : List ℕ) (k : List Frame) (n : Text) (p : ℕ) (a : At
       some : some-digit (d .text) ≡ true
       some = rw (d .some .2)
 
-      one : is x (code ".") q ≡ true → CountRead (cond (is x (code ".") q) (cond (is x (code ".") (q + 1)) (cond (is x (code "*") (q + 2)) (onwardAt x (q + 3) m) (betweenAt x (numeralAt x (q + 2)) m)) (Bad (q + 1))) (Bad q))
+      one : is x (code ".") q ≡ true
+          → CountRead (cond (is x (code ".") q) (cond (is x (code ".") (q + 1)) (cond (is x (code "*") (q + 2)) (onwardAt x (q + 3) m) (betweenAt x (numeralAt x (q + 2)) m)) (Bad (q + 1))) (Bad q))
       one e =
           let b₁ : At x l (q + 1) (at k (counting n (dot (d .text)))) = step-on x l q _ (d .at-is) (at k (counting n (dot (d .text)))) (stands-inside x (code ".") q (omega arith) e) (rw (d .over, e, some)) refl tt refl in
           by-test (is x (code ".") (q + 1))

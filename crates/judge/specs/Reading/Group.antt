@@ -103,7 +103,9 @@ module _ {x : Text} {work names : List ℕ} {c : Cursor} {left : ℕ} {k : List 
               sized = r .expecting .at-is .sized;
               within = omega arith;
               is = rw add-one (bracket-next x (c .at) (r .expecting .at-is .sized) h k (r .expecting .at-is .is) o);
-              clean = clean-more x (c .at) (r .expecting .at-is .clean) (bracket-faultless x (c .at) (length k) faults (omega (arith, r .room)) (omega (arith, nodes-many (r .expecting))));
+              clean =
+                  clean-more x (c .at) (r .expecting .at-is .clean)
+                  (bracket-faultless x (c .at) (length k) faults (omega (arith, r .room)) (omega (arith, nodes-many (r .expecting))));
               names = rw (add-one, o, and-false) (r .expecting .at-is .names);
             }
 
@@ -117,7 +119,9 @@ module _ {x : Text} {work names : List ℕ} {c : Cursor} {left : ℕ} {k : List 
             rw inside-stack
             (record {
               top = opened;
-              expecting = record { spots = r .expecting .spots; at-is = opens; held = holds-more nodeOf 128 work (c .nodes) (stackNodes k) (r .expecting .held) 0 unused m refl; named = r .expecting .named };
+              expecting =
+                  record
+                  { spots = r .expecting .spots; at-is = opens; held = holds-more nodeOf 128 work (c .nodes) (stackNodes k) (r .expecting .held) 0 unused m refl; named = r .expecting .named };
               signs = refl;
               sizes = refl;
               node-is = sym (holds-count nodeOf 128 work (c .nodes) (stackNodes k) (r .expecting .held));
@@ -142,7 +146,10 @@ module _ {x : Text} {work names : List ℕ} {c : Cursor} {left : ℕ} {k : List 
               record {
                 spots = closed .spots;
                 read = mark-read x work₁ (closed .spots) (c .at) (c .nodes) k (group (closed .sign) (closed .members)) d b (closed .at-is) refl (closed .held) n q;
-                named = rw (mark-names x work₁ (closed .spots) (c .at) (c .nodes) k (group (closed .sign) (closed .members)) d b (closed .at-is) refl (closed .held) n q) (closed .named);
+                named =
+                    rw
+                    (mark-names x work₁ (closed .spots) (c .at) (c .nodes) k (group (closed .sign) (closed .members)) d b (closed .at-is) refl (closed .held) n q)
+                    (closed .named);
               }
 
 -- signs and their bytes
@@ -206,7 +213,8 @@ unfolding closedMembers
 close-ends opened k t = refl
 close-ends (signed o u ts) k t = rw (sign-by o)
 
-closed-nodes : (f : Frame) (t : Syntax) → treeNodes (marked Plain (group (signBy (frameSign f)) (closedMembers f t))) ≡ plain (Group (signBy (frameSign f)) (frameSize f + 1)) ∷ (behindBracket f ++ treeNodes t)
+closed-nodes : (f : Frame) (t : Syntax)
+    → treeNodes (marked Plain (group (signBy (frameSign f)) (closedMembers f t))) ≡ plain (Group (signBy (frameSign f)) (frameSize f + 1)) ∷ (behindBracket f ++ treeNodes t)
 unfolding closedMembers
 closed-nodes opened t = rw (append-nil (treeNodes t))
 closed-nodes (signed o u ts) t =
@@ -350,7 +358,8 @@ module _ {x : Text} {work names : List ℕ} {c : Cursor} {left node sign members
       unfolding read
       past-inside = omega (arith, read .at-is .within)
 
-      pub group-ends : getD x (d .at) 0 ≡ code ")" → (w : ℕ) → nodeOf w ≡ plain (Group (signBy sign) (members + 1)) → Closed x (set work′ node w) names′ (c .at) below (record { at = d .at + 1; nodes = d .nodes; names = d .names })
+      pub group-ends : getD x (d .at) 0 ≡ code ")" → (w : ℕ) → nodeOf w ≡ plain (Group (signBy sign) (members + 1))
+          → Closed x (set work′ node w) names′ (c .at) below (record { at = d .at + 1; nodes = d .nodes; names = d .names })
       unfolding read nodes-held past-inside m
       group-ends b w q =
           let s : step (at (i .top ∷ below) (behind (read .tree))) (getD x (d .at) 0) ≡ at below (after (marked Plain (group (signBy (frameSign (i .top))) (closedMembers (i .top) (read .tree))))) = read .settled ∙ rw b (close-ends (i .top) below (read .tree)) in
@@ -360,14 +369,18 @@ module _ {x : Text} {work names : List ℕ} {c : Cursor} {left node sign members
             sign = signBy (frameSign (i .top));
             members = closedMembers (i .top) (read .tree);
             at-is = step-on x (m .spots) (d .at) _ (read .at-is) _ past-inside s (not-expecting (i .top ∷ below) (read .tree)) tt refl;
-            held = rw (closed-nodes (i .top) (read .tree)) (holds-set nodeOf 128 work′ (d .nodes) (stackNodes below) (behindBracket (i .top) ++ treeNodes (read .tree)) unused nodes-held node (i .node-is) w (plain (Group (signBy (frameSign (i .top))) (frameSize (i .top) + 1))) (rw (i .signs, i .sizes) q));
+            held =
+                rw (closed-nodes (i .top) (read .tree))
+                (holds-set nodeOf 128 work′ (d .nodes) (stackNodes below) (behindBracket (i .top) ++ treeNodes (read .tree)) unused nodes-held node (i .node-is) w (plain (Group (signBy (frameSign (i .top))) (frameSize (i .top) + 1))) (rw (i .signs, i .sizes) q));
             named = m .named;
           }
 
       module _ (b : getD x (d .at) 0 ≡ code ")" → ⊥) where
         pub group-bad : joins sign (getD x (d .at) 0) ≡ false → Answers x (refused Misspelling (d .at))
         unfolding read
-        group-bad j = bad x (m .spots) (d .at) (at (i .top ∷ below) (behind (read .tree))) (read .at-is) tt (read .settled ∙ close-bad (i .top) below (read .tree) (getD x (d .at) 0) (ne-eqb (getD x (d .at) 0) (code ")") b) (rw (i .signs) j)) refl
+        group-bad j =
+            bad x (m .spots) (d .at) (at (i .top ∷ below) (behind (read .tree))) (read .at-is) tt
+            (read .settled ∙ close-bad (i .top) below (read .tree) (getD x (d .at) 0) (ne-eqb (getD x (d .at) 0) (code ")") b) (rw (i .signs) j)) refl
 
         module _ (j : joins sign (getD x (d .at) 0) ≡ true) where
           grown : Grown (i .top) below (read .tree) (getD x (d .at) 0)
@@ -375,7 +388,9 @@ module _ {x : Text} {work names : List ℕ} {c : Cursor} {left node sign members
 
           parts : At x (m .spots) (d .at + 1) (at (grown .top ∷ below) expect)
           unfolding read grown past-inside m
-          parts = step-on x (m .spots) (d .at) _ (read .at-is) (at (grown .top ∷ below) expect) past-inside (read .settled ∙ grown .is) (not-expecting (i .top ∷ below) (read .tree)) tt refl
+          parts =
+              step-on x (m .spots) (d .at) _ (read .at-is) (at (grown .top ∷ below) expect) past-inside (read .settled ∙ grown .is)
+              (not-expecting (i .top ∷ below) (read .tree)) tt refl
 
           pub same-group : tail (stackOf (here x (d .at + 1))) ≡ below
           unfolding parts

@@ -90,7 +90,9 @@ module _ {x : Text} {names : List ℕ} {n start end : ℕ} (c : Comparable x nam
 
     place-is : placeOf (getD names i 0) ≡ namePlace x earlier
     unfolding earlier
-    place-is = subst (λ (w : ℕ). placeOf w ≡ namePlace x (getD (places x start) i 0)) (getD-take n names i 0 h) (images placeOf (namePlace x) (take n names) (places x start) (c .held) i 0 0 (rw length-take (omega (arith, c .few, c .whole))))
+    place-is =
+        subst (λ (w : ℕ). placeOf w ≡ namePlace x (getD (places x start) i 0)) (getD-take n names i 0 h)
+        (images placeOf (namePlace x) (take n names) (places x start) (c .held) i 0 0 (rw length-take (omega (arith, c .few, c .whole))))
 
     pub from-is : getD names i 0 / 256 % 65536 ≡ earlier
     unfolding placeOf place-is

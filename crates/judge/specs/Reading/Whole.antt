@@ -53,7 +53,9 @@ start-ready x e =
     record {
       expecting = record {
         spots = [];
-        at-is = record { sized = (omega arith, nltb→le maxText (length x) (s .1)); within = omega arith; is = refl; clean = λ q h. absurd (let k : q < 0 = h in omega arith); names = refl };
+        at-is =
+            record
+            { sized = (omega arith, nltb→le maxText (length x) (s .1)); within = omega arith; is = refl; clean = λ q h. absurd (let k : q < 0 = h in omega arith); names = refl };
         held = record { whole = refl; few = omega arith; held = refl };
         named = record { whole = refl; few = omega arith; held = refl };
       };
@@ -90,7 +92,8 @@ module _ (x : Text) (work names : List ℕ) (g : Got) (y : Member x work names 0
     unfolding b
     buffers-fit = ((b .read .held .few, b .read .held .whole), (b .named .few, b .named .whole))
 
-    pub whole-read : length x ≤ d .at → (r : Rule) (n : Names) → r ≡ ruleWith (map nodeOf (take (d .nodes) work)) → n ≡ namesWith (map placeOf (take (d .names) names)) → _≡_ {A = Reading} (record { outcome = Read; rule = r; names = n }) (reading x)
+    pub whole-read : length x ≤ d .at → (r : Rule) (n : Names) → r ≡ ruleWith (map nodeOf (take (d .nodes) work))
+        → n ≡ namesWith (map placeOf (take (d .names) names)) → _≡_ {A = Reading} (record { outcome = Read; rule = r; names = n }) (reading x)
     unfolding b
     whole-read h r n e f =
         let a = b .read .at-is in
