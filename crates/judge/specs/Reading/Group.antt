@@ -52,11 +52,11 @@ inside c = record { at = c .at + 1; nodes = c .nodes + 1; names = c .names }
 
 module _ {x : Text} {work names : List ℕ} {c : Cursor} {left : ℕ} {k : List Frame} (r : Ready x work names c left k) where
   pub member-stops : c .at ≡ length x → Answers x (refused Misspelling (c .at))
-  member-stops e = bad x (r .expecting .spots) (c .at) (at k expect) (r .expecting .at-is) tt (rw (List·getD-eq-default x 0 {n = c .at} (omega arith))) (expecting k)
+  member-stops e = bad (r .expecting .at-is) tt (rw (List·getD-eq-default x 0 {n = c .at} (omega arith))) (expecting k)
 
   -- no letter and no bracket
   pub member-bad : isLetter (getD x (c .at) 0) ≡ false → (getD x (c .at) 0 ≡ code "(" → ⊥) → Answers x (refused Misspelling (c .at))
-  member-bad l o = bad x (r .expecting .spots) (c .at) (at k expect) (r .expecting .at-is) tt dies (expecting k)
+  member-bad l o = bad (r .expecting .at-is) tt dies (expecting k)
     where
       dies : step (at k expect) (getD x (c .at) 0) ≡ dead
       dies = by-test (is x (code ")") (c .at)) (λ e. rw (l, ne-eqb (getD x (c .at) 0) (code "(") o, e) (r .no-end e)) (λ e. rw (l, ne-eqb (getD x (c .at) 0) (code "(") o, e))
@@ -263,7 +263,7 @@ close-bad opened k t b e j =
     no-true false h = refl
 close-bad (signed o u ts) k t b e j = rw (e, sym (joins-by o b) ∙ j)
 
--- READING ON IN A GROUP
+-- reading on in a group
 module _ {x : Text} {work names : List ℕ} {c : Cursor} {left node sign members : ℕ} (i : Inside x work names c left node sign members (tail (stackOf (here x (c .at))))) where
   abbrev below : List Frame
   below = tail (stackOf (here x (c .at)))
@@ -299,7 +299,7 @@ module _ {x : Text} {work names : List ℕ} {c : Cursor} {left node sign members
       go opened r q =
           let h : c .at < length x = stands-inside x (code ")") (c .at) (omega arith) e in
           let b : getD x (c .at) 0 ≡ code ")" = eqb-true (getD x (c .at) 0) (code ")") e in
-          let s : here x (suc (c .at)) ≡ at below (after (marked Plain (group None none))) = next x (r .spots) (c .at) (at (opened ∷ below) expect) (r .at-is) h ∙ rw b in
+          let s : here x (suc (c .at)) ≡ at below (after (marked Plain (group None none))) = next (r .at-is) h ∙ rw b in
           record {
             spots = r .spots;
             on = omega arith;
@@ -341,7 +341,7 @@ module _ {x : Text} {work names : List ℕ} {c : Cursor} {left node sign members
     unfolding read
     group-stops e =
         let z : getD x (d .at) 0 ≡ 0 = List·getD-eq-default x 0 {n = d .at} (omega arith) in
-        bad x (m .spots) (d .at) (at (i .top ∷ below) (behind (read .tree))) (read .at-is) tt (read .settled ∙ rw z (close-bad (i .top) below (read .tree) 0 refl (none-joins (i .top)))) refl
+        bad (read .at-is) tt (read .settled ∙ rw z (close-bad (i .top) below (read .tree) 0 refl (none-joins (i .top)))) refl
       where
         none-joins : (f : Frame) → joins (frameSign f) 0 ≡ false
         none-joins opened = refl
@@ -368,7 +368,7 @@ module _ {x : Text} {work names : List ℕ} {c : Cursor} {left node sign members
             on = omega (arith, read .on);
             sign = signBy (frameSign (i .top));
             members = closedMembers (i .top) (read .tree);
-            at-is = step-on x (m .spots) (d .at) _ (read .at-is) _ past-inside s (not-expecting (i .top ∷ below) (read .tree)) tt refl;
+            at-is = step-on (read .at-is) past-inside s (not-expecting (i .top ∷ below) (read .tree)) tt refl;
             held =
                 rw (closed-nodes (i .top) (read .tree))
                 (holds-set nodeOf 128 work′ (d .nodes) (stackNodes below) (behindBracket (i .top) ++ treeNodes (read .tree)) unused nodes-held node (i .node-is) w (plain (Group (signBy (frameSign (i .top))) (frameSize (i .top) + 1))) (rw (i .signs, i .sizes) q));
@@ -379,7 +379,7 @@ module _ {x : Text} {work names : List ℕ} {c : Cursor} {left node sign members
         pub group-bad : joins sign (getD x (d .at) 0) ≡ false → Answers x (refused Misspelling (d .at))
         unfolding read
         group-bad j =
-            bad x (m .spots) (d .at) (at (i .top ∷ below) (behind (read .tree))) (read .at-is) tt
+            bad (read .at-is) tt
             (read .settled ∙ close-bad (i .top) below (read .tree) (getD x (d .at) 0) (ne-eqb (getD x (d .at) 0) (code ")") b) (rw (i .signs) j)) refl
 
         module _ (j : joins sign (getD x (d .at) 0) ≡ true) where
@@ -389,7 +389,7 @@ module _ {x : Text} {work names : List ℕ} {c : Cursor} {left node sign members
           parts : At x (m .spots) (d .at + 1) (at (grown .top ∷ below) expect)
           unfolding read grown past-inside m
           parts =
-              step-on x (m .spots) (d .at) _ (read .at-is) (at (grown .top ∷ below) expect) past-inside (read .settled ∙ grown .is)
+              step-on (read .at-is) past-inside (read .settled ∙ grown .is)
               (not-expecting (i .top ∷ below) (read .tree)) tt refl
 
           pub same-group : tail (stackOf (here x (d .at + 1))) ≡ below

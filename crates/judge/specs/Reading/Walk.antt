@@ -184,7 +184,7 @@ module _ (x : Text) (work : List ℕ) (l : List ℕ) (p i : ℕ) (k : List Frame
         on = omega arith;
         tree = marked Optional n;
         at-is =
-            step-on x l (c .at) (at k (behindNode n)) a (at k (after (marked Optional n))) (stands-inside x (code "?") (c .at) (omega arith) b) s
+            step-on a (stands-inside x (code "?") (c .at) (omega arith) b) s
             (not-expecting k (marked Plain n)) tt refl;
         settled = refl;
         held =

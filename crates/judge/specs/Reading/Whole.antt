@@ -86,7 +86,7 @@ module _ (x : Text) (work names : List ℕ) (g : Got) (y : Member x work names 0
     unfolding b
     more-read h =
         let a = b .read .at-is in
-        refused-is x Misspelling (d .at) (dead-answers x (d .at) (a .sized) (a .clean) h (rw (a .is) tt) (next x (b .spots) (d .at) (at [] (behind (b .read .tree))) a h ∙ b .read .settled))
+        refused-is x Misspelling (d .at) (dead-answers x (d .at) (a .sized) (a .clean) h (rw (a .is) tt) (next a h ∙ b .read .settled))
 
     pub buffers-fit : ((d .nodes ≤ 128) × (length work ≡ 128)) × ((d .names ≤ 64) × (length names ≡ 64))
     unfolding b
