@@ -4,8 +4,7 @@ pub mod Tally
 pub mod Root
 pub mod Pass
 pub mod Code
-use mathlib.Core.Bool.{_&&_}
-use mathlib.Core.List.{List, [], _∷_}
+use mathlib.Core.List.{[], _∷_}
 use Prim.Native.Nat.{ℕ, _≤_, _<_}
 use lib.ListN.{length}
 use Rattle.judge.specs.declared.fault.JudgeFault.{JudgeFault}

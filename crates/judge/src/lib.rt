@@ -5,4 +5,6 @@ pub mod fault;
 pub mod nodes;
 pub mod row;
 pub mod rule;
+pub mod session;
+pub mod text;
 pub mod verdict;

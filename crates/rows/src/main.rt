@@ -1,81 +1,16 @@
-// Judges the rows of document 01, "Rows to try", that have no star, and prints each with its model and its answer. The rules are built by hand, a
-// node after the other; the names of each model are the letters from `a` on, in the order written.
+// Runs what document 01 gives to try and is not proved, and the examples of document 001: a line for each, with the text or the model and the row,
+// and the answer.
 
-use judge::nodes::names;
+use judge::fault::ModelFault;
 use judge::row::judge_row;
-use judge::rule::Kind;
-use judge::rule::MAX_NODES;
-use judge::rule::Mark;
-use judge::rule::Node;
-use judge::rule::Rule;
-use judge::rule::Sign;
-use judge::rule::Upper;
+use judge::text::Outcome;
+use judge::text::number_of;
+use judge::text::read_model;
 use judge::verdict::Judged;
 use judge::verdict::Verdict;
 
-fn group(sign: Sign, members: u16, mark: Mark) -> Node {
-    let kind = Kind::Group {
-        sign: sign,
-        members: members,
-    };
-    Node {
-        kind: kind,
-        mark: mark,
-    }
-}
-
-fn atom(min: u16, max: Upper, mark: Mark) -> Node {
-    let kind = Kind::Atom { min: min, max: max };
-    Node {
-        kind: kind,
-        mark: mark,
-    }
-}
-
-fn once() -> Node {
-    atom(1, Upper::Number(1), Mark::Plain)
-}
-
-// No node yet.
-fn nothing() -> Rule {
-    let unused = group(Sign::None, 0, Mark::Plain);
-    Rule {
-        nodes: [unused; MAX_NODES],
-        len: 0,
-    }
-}
-
-fn with(rule: Rule, node: Node) -> Rule {
-    let mut next = rule;
-    let len = rule.len;
-    if len < MAX_NODES {
-        next.nodes[len] = node;
-        next.len = len + 1;
-    }
-    next
-}
-
-fn pair(rule: Rule, sign: Sign, first: Node, second: Node) -> Rule {
-    let rule = with(rule, group(sign, 2, Mark::Plain));
-    let rule = with(rule, first);
-    with(rule, second)
-}
-
-fn three(rule: Rule, sign: Sign) -> Rule {
-    let rule = with(rule, group(sign, 3, Mark::Plain));
-    let rule = with(rule, once());
-    let rule = with(rule, once());
-    with(rule, once())
-}
-
-// The number of the name that is this letter.
-fn number(letter: u8, names: usize) -> u16 {
-    if letter < b'a' {
-        return 0;
-    }
-    let number = letter as u16 - 96;
-    if number as usize <= names { number } else { 0 }
-}
+// No row here is longer.
+const MOST: usize = 12;
 
 fn write(text: &[u8]) {
     io::write_all(1, text);
@@ -92,7 +27,7 @@ fn write_answer(answer: Judged) {
     }
 }
 
-fn print(model: &[u8], row: &[u8], answer: Judged) {
+fn write_row(model: &[u8], row: &[u8], answer: Judged) {
     write(model);
     write(b"\t");
     if row.len() == 0 {
@@ -104,58 +39,188 @@ fn print(model: &[u8], row: &[u8], answer: Judged) {
     write_answer(answer);
 }
 
-// A row of at most eight letters.
-fn run(model: &[u8], rule: Rule, row: &[u8]) {
-    let mut numbers = [0u16; 8];
-    let names = names(rule);
+// A row of letters, each the name of a child.
+fn run(model: &[u8], row: &[u8]) {
+    let reading = read_model(model);
+    let rule = reading.rule;
+    let names = reading.names;
+    let mut numbers = [0u16; MOST];
     let mut len: usize = 0;
-    while len < 8 {
+    while len < MOST {
         if row.len() <= len {
             break;
         }
-        numbers[len] = number(row[len], names);
-        len += 1;
+        let end = len + 1;
+        let number = number_of(model, names, &row[len..end]);
+        numbers[len] = number.0;
+        len = end;
     }
-    print(model, row, judge_row(rule, &numbers[0..len]));
+    write_row(model, row, judge_row(rule, &numbers[0..len]));
+}
+
+// The longest row there is, of one name.
+fn run_longest(model: &[u8]) {
+    let reading = read_model(model);
+    let rule = reading.rule;
+    let row = [1u16; 4096];
+    write_row(model, b"4096 of a", judge_row(rule, &row));
+}
+
+fn number(fault: ModelFault) -> u64 {
+    match fault {
+        ModelFault::Size => 10,
+        ModelFault::Spelling => 11,
+        ModelFault::LongName => 12,
+        ModelFault::WrongCount => 13,
+        ModelFault::TooDeep => 14,
+        ModelFault::ManyAtoms => 15,
+        ModelFault::ManyNodes => 16,
+        ModelFault::Repeated => 17,
+    }
+}
+
+fn write_outcome(outcome: Outcome) {
+    match outcome {
+        Outcome::Read => write(b"read\n"),
+        Outcome::Refused(fault, place) => {
+            io::print_decimal(1, number(fault));
+            write(b"\t");
+            io::print_decimal(1, place as u64);
+            write(b"\n");
+        }
+    }
+}
+
+// A text under the name `shown`.
+fn read_as(shown: &[u8], text: &[u8]) {
+    write(shown);
+    write(b"\t");
+    let reading = read_model(text);
+    let outcome = reading.outcome;
+    write_outcome(outcome);
+}
+
+fn read(text: &[u8]) {
+    read_as(text, text);
+}
+
+// Document 01, "Rows to try": the rows without a star.
+fn rows_to_try() {
+    run(b"((a?&b[1..5]),(c|d[1..*]))", b"bbbbbb");
+    run(b"((a&b&c),d[0..*],(e|f|g))", b"bcad");
+    run(b"(a,b)", b"");
+    run(b"(a[2..3],b)", b"aab");
+    run(b"((a,b)&(c,d))", b"ca");
+    run(b"((a,b)&(c,d))", b"dc");
+    run(b"()", b"a");
+    run(b"(a|b)?", b"");
+    run(b"(a|b)?", b"ab");
+    run_longest(b"a[60000..60000]");
+}
+
+// Document 001, examples 2.2, 3.2 with 5.1, and 4.1.
+fn examples() {
+    run(b"((a,b)&(x,y))", b"abxy");
+    run(b"((a,b)&(x,y))", b"axby");
+    run(b"((a,b)&(x,y))", b"axyb");
+    run(b"((a,b)&(x,y))", b"xaby");
+    run(b"((a,b)&(x,y))", b"xayb");
+    run(b"((a,b)&(x,y))", b"xyab");
+    run(b"((a,b)&(x,y))", b"bxay");
+    run(b"((a?&b[1..5]),(c|d[1..*]))", b"bbac");
+    run(b"((a?&b[1..5]),(c|d[1..*]))", b"bbacb");
+    run(b"((a?&b[1..5]),(c|d[1..*]))", b"bbaca");
+    run(b"((a&b&c),d[0..*],(e|f|g))", b"bcadddg");
+    run(b"((a&b&c),d[0..*],(e|f|g))", b"bcadddgdga");
+}
+
+// Document 01, the paragraph under "Rows to try".
+fn limits() {
+    read(b"abcdefghabcdefghabcdefghabcdefgh");
+    read(b"abcdefghabcdefghabcdefghabcdefghi");
+    read(b"((((((((((((((((a))))))))))))))))");
+    read(b"(((((((((((((((((a)))))))))))))))))");
+    read(b"a[2..1");
+    read(b"a[2..1]");
+    read(b"(a,b|c)");
+    read(b"(a,a");
+}
+
+// Texts whose answer is easily got wrong: where a name ends, digits without end, what may follow what.
+fn names_and_counts() {
+    read(b"(a,a%");
+    read(b"(ab,a");
+    read(b"abcdefghabcdefghabcdefghabcdefghi%");
+    let long = [b'a'; 4097];
+    read_as(b"4096 of a", &long[0..4096]);
+    read_as(b"4097 of a", &long);
+    read_as(b"nothing", b"");
+    read(b"a[60000..60000]");
+    read(b"a[60001..*]");
+    read(b"a[99999999999999999999999999..1]");
+    read(b"a[0..0]");
+    read(b"a[0..*]");
+    read(b"a[60001..2%");
+    read(b"a[0..0");
+    read(b"a[01..2]");
+    read(b"a[1.2]");
+    read(b"a[1..]");
+    read(b"a[1]");
+    read(b"a[1..*5]");
+}
+
+fn marks_and_groups() {
+    read(b"((((((((((((((((a(");
+    read(b"a??");
+    read(b"a?[1..2]");
+    read(b"()?");
+    read(b"(a)?");
+    read(b"(a?)?");
+    read(b"a,b");
+    read(b"a)");
+    read(b"()a");
+    read(b"(a,)");
+    read(b"(,a)");
+    read(b"a-");
+}
+
+// Both sides of the limits on atoms and nodes, and which refusal comes first.
+fn atoms_and_nodes() {
+    read_as(
+        b"64 names",
+        b"(a,b,c,d,e,f,g,h,i,j,k,l,m,n,o,p,q,r,s,t,u,v,w,x,y,z,a0,b0,c0,d0,e0,f0,g0,h0,i0,j0,k0,l0,m0,n0,o0,p0,q0,r0,s0,t0,u0,v0,w0,x0,y0,z0,a-1,b-1,c-1,d-1,e-1,f-1,g-1,h-1,i-1,j-1,k-1,l-1)",
+    );
+    read_as(
+        b"65 names",
+        b"(a,b,c,d,e,f,g,h,i,j,k,l,m,n,o,p,q,r,s,t,u,v,w,x,y,z,a0,b0,c0,d0,e0,f0,g0,h0,i0,j0,k0,l0,m0,n0,o0,p0,q0,r0,s0,t0,u0,v0,w0,x0,y0,z0,a-1,b-1,c-1,d-1,e-1,f-1,g-1,h-1,i-1,j-1,k-1,l-1,m-1)",
+    );
+    read_as(
+        b"65 names, the last a repeat",
+        b"(a,b,c,d,e,f,g,h,i,j,k,l,m,n,o,p,q,r,s,t,u,v,w,x,y,z,a0,b0,c0,d0,e0,f0,g0,h0,i0,j0,k0,l0,m0,n0,o0,p0,q0,r0,s0,t0,u0,v0,w0,x0,y0,z0,a-1,b-1,c-1,d-1,e-1,f-1,g-1,h-1,i-1,j-1,k-1,l-1,a)",
+    );
+    read_as(
+        b"65 names, the last of 33 characters",
+        b"(a,b,c,d,e,f,g,h,i,j,k,l,m,n,o,p,q,r,s,t,u,v,w,x,y,z,a0,b0,c0,d0,e0,f0,g0,h0,i0,j0,k0,l0,m0,n0,o0,p0,q0,r0,s0,t0,u0,v0,w0,x0,y0,z0,a-1,b-1,c-1,d-1,e-1,f-1,g-1,h-1,i-1,j-1,k-1,l-1,aaaaaaaaaaaaaaaaaaaaaaaaaaaaaaaaa)",
+    );
+    read_as(
+        b"128 nodes",
+        b"((),(),(),(),(),(),(),(),(),(),(),(),(),(),(),(),(),(),(),(),(),(),(),(),(),(),(),(),(),(),(),(),(),(),(),(),(),(),(),(),(),(),(),(),(),(),(),(),(),(),(),(),(),(),(),(),(),(),(),(),(),(),(),(),(),(),(),(),(),(),(),(),(),(),(),(),(),(),(),(),(),(),(),(),(),(),(),(),(),(),(),(),(),(),(),(),(),(),(),(),(),(),(),(),(),(),(),(),(),(),(),(),(),(),(),(),(),(),(),(),(),(),(),(),(),(),())",
+    );
+    read_as(
+        b"129 nodes",
+        b"((),(),(),(),(),(),(),(),(),(),(),(),(),(),(),(),(),(),(),(),(),(),(),(),(),(),(),(),(),(),(),(),(),(),(),(),(),(),(),(),(),(),(),(),(),(),(),(),(),(),(),(),(),(),(),(),(),(),(),(),(),(),(),(),(),(),(),(),(),(),(),(),(),(),(),(),(),(),(),(),(),(),(),(),(),(),(),(),(),(),(),(),(),(),(),(),(),(),(),(),(),(),(),(),(),(),(),(),(),(),(),(),(),(),(),(),(),(),(),(),(),(),(),(),(),(),(),())",
+    );
+    read_as(
+        b"129 nodes, the last 17 deep",
+        b"((),(),(),(),(),(),(),(),(),(),(),(),(),(),(),(),(),(),(),(),(),(),(),(),(),(),(),(),(),(),(),(),(),(),(),(),(),(),(),(),(),(),(),(),(),(),(),(),(),(),(),(),(),(),(),(),(),(),(),(),(),(),(),(),(),(),(),(),(),(),(),(),(),(),(),(),(),(),(),(),(),(),(),(),(),(),(),(),(),(),(),(),(),(),(),(),(),(),(),(),(),(),(),(),(),(),(),(),(),(),(),(),((((((((((((((((",
+    );
 }
 
 fn main() {
-    let optional = atom(1, Upper::Number(1), Mark::Optional);
-    let several = atom(1, Upper::Number(5), Mark::Plain);
-    let many = atom(1, Upper::Unbounded, Mark::Plain);
-    let rule = with(nothing(), group(Sign::Sequence, 2, Mark::Plain));
-    let rule = pair(rule, Sign::Interleaving, optional, several);
-    let rule = pair(rule, Sign::Choice, once(), many);
-    run(b"((a?&b[1..5]),(c|d[1..*]))", rule, b"bbbbbb");
-
-    let any = atom(0, Upper::Unbounded, Mark::Plain);
-    let rule = with(nothing(), group(Sign::Sequence, 3, Mark::Plain));
-    let rule = with(three(rule, Sign::Interleaving), any);
-    let rule = three(rule, Sign::Choice);
-    run(b"((a&b&c),d[0..*],(e|f|g))", rule, b"bcad");
-
-    let rule = pair(nothing(), Sign::Sequence, once(), once());
-    run(b"(a,b)", rule, b"");
-
-    let few = atom(2, Upper::Number(3), Mark::Plain);
-    let rule = pair(nothing(), Sign::Sequence, few, once());
-    run(b"(a[2..3],b)", rule, b"aab");
-
-    let rule = with(nothing(), group(Sign::Interleaving, 2, Mark::Plain));
-    let rule = pair(rule, Sign::Sequence, once(), once());
-    let rule = pair(rule, Sign::Sequence, once(), once());
-    run(b"((a,b)&(c,d))", rule, b"ca");
-    run(b"((a,b)&(c,d))", rule, b"dc");
-
-    let rule = with(nothing(), group(Sign::None, 0, Mark::Plain));
-    run(b"()", rule, b"a");
-
-    let rule = with(nothing(), group(Sign::Choice, 2, Mark::Optional));
-    let rule = with(with(rule, once()), once());
-    run(b"(a|b)?", rule, b"");
-    run(b"(a|b)?", rule, b"ab");
-
-    let rule = with(nothing(), atom(60000, Upper::Number(60000), Mark::Plain));
-    let row = [1u16; 4096];
-    print(b"a[60000..60000]", b"4096 of a", judge_row(rule, &row));
+    rows_to_try();
+    examples();
+    limits();
+    names_and_counts();
+    marks_and_groups();
+    atoms_and_nodes();
 }

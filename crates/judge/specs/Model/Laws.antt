@@ -23,7 +23,7 @@ mutual
   pub length-encode : (t : Model) → length (encode t) ≡ nodes t
   length-encode (marked m n) = length-encodeNode n m
 
-  length-encodeAll : (ts : Members Counts) → length (encodeAll ts) ≡ membersWeight 1 1 ts
+  pub length-encodeAll : (ts : Members Counts) → length (encodeAll ts) ≡ membersWeight 1 1 ts
   length-encodeAll none = refl
   length-encodeAll (t ▹ ts) = rw (length-append, length-encode t, length-encodeAll ts)
 
@@ -105,9 +105,6 @@ mutual
   enough-encodeAll none rest h = h
   enough-encodeAll (t ▹ ts) rest h =
       rw append-assoc (enough-encode t (encodeAll ts ++ rest) (enough-encodeAll ts rest h))
-
-pub encoded : (t : Model) → Enough (encode t) × (count (encode t) ≡ 1)
-encoded t = (rw append-nil at (enough-encode t [] tt), rw append-nil at (count-encode t []))
 
 -- a model comes back from its nodes
 mutual

@@ -1,4 +1,4 @@
--- The row fills the first places of the numbers.
+-- The row's letters fill the first places of the numbers.
 use borrow.Author.Needs.{needs}
 use mathlib.Core.Path.{_≡_}
 use Prim.Native.Nat.{_-_, _≤_}
@@ -7,31 +7,37 @@ use Rattle.rows.proofs.run.Statement.{statement}
 use Rattle.rows.proofs.run.Tie as tie
 
 abbrev Inv-loop : tie.InvT-loop
-Inv-loop model rule row numbers₀ names len₀ numbers len = (len ≤ 8) × (length numbers ≡ 8)
+Inv-loop model row rule names numbers₀ len₀ numbers len = (len ≤ 12) × (length numbers ≡ 12)
 
 abbrev μ-loop : tie.MeasureT-loop
-μ-loop model rule row numbers₀ names len₀ numbers len = 8 - len
+μ-loop model row rule names numbers₀ len₀ numbers len = 12 - len
 
-names-requires : tie.Need-names-requires Inv-loop μ-loop
-names-requires c κs = search needs
+read-model-requires : tie.Need-read-model-requires Inv-loop μ-loop
+read-model-requires c κs = search needs
 
 loop-holds : tie.Need-loop-holds Inv-loop μ-loop
 loop-holds c = search needs
 
-shared-slice-read-number : tie.Need-shared-slice-read-number Inv-loop μ-loop
-shared-slice-read-number c = search needs
+add-end : tie.Need-add-end Inv-loop μ-loop
+add-end c = search needs
 
-number-requires : tie.Need-number-requires Inv-loop μ-loop
-number-requires c κs = search needs
+sub-number-of : tie.Need-sub-number-of Inv-loop μ-loop
+sub-number-of c = search needs
+
+part-number-of-start : tie.Need-part-number-of-start Inv-loop μ-loop
+part-number-of-start c = search needs
+
+part-number-of-end : tie.Need-part-number-of-end Inv-loop μ-loop
+part-number-of-end c = search needs
+
+number-of-requires : tie.Need-number-of-requires Inv-loop μ-loop
+number-of-requires c κs = search needs
 
 mul-numbers : tie.Need-mul-numbers Inv-loop μ-loop
 mul-numbers c = search needs
 
 array-write-numbers : tie.Need-array-write-numbers Inv-loop μ-loop
 array-write-numbers c = search needs
-
-add-len : tie.Need-add-len Inv-loop μ-loop
-add-len c = search needs
 
 loop-less : tie.Need-loop-less Inv-loop μ-loop
 loop-less c = search needs
@@ -51,8 +57,8 @@ part-judge-row-end c = search needs
 judge-row-requires : tie.Need-judge-row-requires Inv-loop μ-loop
 judge-row-requires c κs = search needs
 
-print-requires : tie.Need-print-requires Inv-loop μ-loop
-print-requires c κs = search needs
+write-row-requires : tie.Need-write-row-requires Inv-loop μ-loop
+write-row-requires c κs = search needs
 
 returns : tie.Need-returns Inv-loop μ-loop
 returns c = search needs
@@ -63,18 +69,20 @@ run-spec =
     (tie.spec
     Inv-loop
     μ-loop
-    names-requires
+    read-model-requires
     loop-holds
-    shared-slice-read-number
-    number-requires
+    add-end
+    sub-number-of
+    part-number-of-start
+    part-number-of-end
+    number-of-requires
     mul-numbers
     array-write-numbers
-    add-len
     loop-less
     loop-again
     sub-judge-row
     part-judge-row-start
     part-judge-row-end
     judge-row-requires
-    print-requires
+    write-row-requires
     returns)
