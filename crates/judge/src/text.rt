@@ -21,6 +21,7 @@ ghost use Rattle.judge.specs.Reading.Atom.{NameRead, AtomRead};
 ghost use Rattle.judge.specs.Reading.Lexeme.{numeralAt, countAt, onwardAt, betweenAt};
 use crate::fault::ModelFault;
 use crate::rule::Kind;
+use crate::rule::MAX_ATOMS;
 use crate::rule::MAX_NODES;
 use crate::rule::Mark;
 use crate::rule::NameNumber;
@@ -36,8 +37,6 @@ pub const MAX_NAME: usize = 32;
 pub const MAX_COUNT: u32 = 60000;
 
 pub const MAX_DEPTH: usize = 16;
-
-pub const MAX_ATOMS: usize = 64;
 
 // Where a name stands in the text.
 pub struct NamePlace {
