@@ -1,0 +1,5 @@
+-- Texts that hold several things: the lines of a file, the fields of a line, the children of a row.
+--   Split      lines and fields
+--   Children   names among them, and what is wrong with children
+pub mod Split
+pub mod Children
