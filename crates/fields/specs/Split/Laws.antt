@@ -11,7 +11,8 @@ use lib.ListN.{length, take, drop, getD, length-drop, length-take, drop-of-lengt
 use lib.Seq.{take-all, drop-drop, drop-cons, getD-drop}
 use borrow.Author.Tests.{eqb-true, eq-eqb, ne-eqb, ltb-true, ltb-false, lt-ltb, le-ltb}
 use Rattle.judge.specs.Tests.{by-test}
-use Rattle.judge.specs.Bytes.{Text, all, front}
+use Rattle.judge.specs.Stack.{drop-back}
+use Rattle.judge.specs.Bytes.{Text, all, front, sameText}
 use Rattle.fields.specs.Split.{lineFeed, onFirst, split, butLast, last, lines, behind, other, part, partEnd, more, times}
 
 -- the parts with the separator between them
@@ -159,7 +160,33 @@ module _ (x : Text) (i at : ℕ) (w : Stand x i at) where
           within = omega (arith, ltb-true e (length x) t);
           count = omega arith;
           ahead = rw (add-one, add-one) (sym (tail-eq-of-cons-eq g));
-          ended = rw add-one (sym b ∙ w .ended) } })
+          ended = rw add-one (sym b ∙ w .ended);
+        };
+      })
       (λ t. let q : split lineFeed (drop at x) ≡ part x at e ∷ [] = rw t at p in
       let b : part x at e ≡ [] = sym (ap last q) ∙ w .ended in
       absurd (omega (arith, ap length b, ltb-false e (length x) t, length-take (e - at) (drop at x), length-drop at x)))
+
+-- how often a byte stands in a text, from the end
+module _ (s : ℕ) (x : Text) where
+  pub times-here : (i : ℕ) → 0 < i → i ≤ length x → getD x (i - 1) 0 ≡ s → times s (drop (i - 1) x) ≡ times s (drop i x) + 1
+  times-here i p h e = rw (drop-back x i 0 p h, eq-eqb (getD x (i - 1) 0) s e, add-one)
+
+  pub times-not : (i : ℕ) → 0 < i → i ≤ length x → (getD x (i - 1) 0 ≡ s → ⊥) → times s (drop (i - 1) x) ≡ times s (drop i x)
+  times-not i p h n = rw (drop-back x i 0 p h, ne-eqb (getD x (i - 1) 0) s n)
+
+-- the last line has its line feed if that is the last byte
+last-whole : (b c : ℕ) (p q : Text) (ps : List Text) → sameText (last ((b ∷ p) ∷ ps)) [] ≡ sameText (last ((c ∷ q) ∷ ps)) []
+last-whole b c p q [] = refl
+last-whole b c p q (r ∷ ps) = refl
+
+pub ended-is : (b : ℕ) (x : Text) → sameText (behind (b ∷ x)) [] ≡ eqb (getD (b ∷ x) (length x) 0) lineFeed
+ended-is b [] = by-test (eqb b lineFeed) (λ e. rw e) (λ e. rw e)
+ended-is b (c ∷ y) =
+    let h = parted lineFeed y in
+    by-test (eqb b lineFeed)
+    (λ e. rw e (ap (λ l. sameText l []) (last-more lineFeed (c ∷ y) []) ∙ ended-is c y))
+    (λ e. by-test (eqb c lineFeed)
+    (λ f. let k = rw f at (ended-is c y) in
+    rw (e, f) (ap (λ l. sameText l []) (last-more lineFeed y (b ∷ [])) ∙ sym (ap (λ l. sameText l []) (last-more lineFeed y [])) ∙ k))
+    (λ f. rw (e, f, h .is) (last-whole b c (c ∷ h .first) (h .first) (h .rest) ∙ (rw (f, h .is) at (ended-is c y)))))
