@@ -1,4 +1,5 @@
 -- Children: the tests of document 01, refusals 35 and 36, and their row of name numbers.
+pub mod Laws
 use mathlib.Core.Bool.{Bool, true, cond, _&&_}
 use mathlib.Core.List.{List, [], _∷_, map}
 use Prim.Native.Nat.{ℕ}

@@ -111,6 +111,9 @@ module _ (x : Text) (s : ℕ) where
       front-within [] = omega arith
       front-within (b ∷ y) = by-test (eqb b s) (λ e. rw e (omega arith)) (λ e. rw e (omega (arith, front-within y)))
 
+  pub end-bounds : (i e : ℕ) → i ≤ length x → e ≡ partEnd x s i → (i ≤ e) × (e ≤ length x)
+  end-bounds i e h k = (omega (arith, k), rw k (end-within i h))
+
 -- the lines and what is behind them, one line more
 lines-more : (s : ℕ) (x u : Text) → butLast (u ∷ split s x) ≡ u ∷ butLast (split s x)
 lines-more s x u = rw (parted s x .is)
