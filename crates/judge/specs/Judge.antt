@@ -1,5 +1,8 @@
 -- What a judged row is answered: document 01, "Verdicts" and refusals 40, 41 and 43, tried in this order.
 pub mod Laws
+pub mod Tally
+pub mod Root
+pub mod Pass
 use mathlib.Core.Bool.{_&&_}
 use mathlib.Core.List.{List, [], _∷_}
 use Prim.Native.Nat.{ℕ, _≤_, _<_}

@@ -1,11 +1,13 @@
--- What the judge promises, from the top. A folder beside a file holds the laws of what the file defines.
+-- What the judge promises. Open Ends first: the theorems, each a citation. Then the definitions, from the top; a folder beside a file holds the laws
+-- of what the file defines.
 --   Word, Types, Verdict           the words of document 001, its types, and what a verdict says
 --   Bytes, Tree, Syntax, Limits    model text: bytes, trees, and which text spells which tree
---   Fault                          what is wrong with a text, and the answer to it
+--   Fault, Accept                  what is wrong with a text, the answer to it, and which trees are accepted
 --   Model, Rule                    models, the nodes of a rule, and the type that it means
 --   Judge                          what a row is answered
---   Starred                        the starred rows of document 01
+--   Starred, Examples              the starred rows of document 01, and texts at the limits
 -- Tests and Stack hold laws that belong to no definition: of tests, and of a stack that grows down in an array.
+pub mod Ends
 pub mod Word
 pub mod Types
 pub mod Verdict
@@ -19,5 +21,6 @@ pub mod Model
 pub mod Rule
 pub mod Judge
 pub mod Starred
+pub mod Examples
 pub mod Tests
 pub mod Stack

@@ -1,5 +1,40 @@
 // What two passes over a row compute: the first of each name, the second of each node.
 
+ghost use mathlib.Core.Path.{_≡_};
+ghost use mathlib.Core.Bool.{true, _&&_};
+ghost use lib.Dec.{eqb};
+ghost use mathlib.Core.List.{[]};
+ghost use Prim.Native.Nat.{_+_, _≤_, _<_, max, min};
+ghost use lib.ListN.{length, getD};
+ghost use Rattle.judge.specs.Limits.{maxAtoms, maxNodes, maxRow};
+ghost use Rattle.judge.specs.Types.Decide.{under, joined, begun};
+ghost use Rattle.judge.specs.Types.Attribute.{emptyAttribute, atomAttribute, pairAttribute, countedAttribute, markedAttribute};
+ghost use Rattle.judge.specs.Model.{operator};
+ghost use Rattle.judge.specs.Rule.{names};
+ghost use Rattle.judge.specs.Judge.Tally.{unseen, noting, Tallied};
+ghost use Rattle.judge.specs.Judge.Root.{partAttribute, grownAttribute, rootAttribute};
+ghost use Rattle.judge.specs.Verdict.Laws.{verdictOf, verdict};
+ghost use Rattle.judge.specs.Rule.Decide.{readable, ruleType};
+ghost use Rattle.judge.specs.Judge.Laws.{upto, judged};
+ghost use Rattle.judge.specs.Judge.Pass.{seenVerdict};
+use crate::check::atoms_of;
+use crate::check::members_of;
+use crate::check::name_count;
+use crate::check::smaller;
+use crate::check::well_formed;
+use crate::fault::JudgeFault;
+use crate::rule::Kind;
+use crate::rule::MAX_ATOMS;
+use crate::rule::MAX_NODES;
+use crate::rule::Mark;
+use crate::rule::Rule;
+use crate::rule::Sign;
+use crate::rule::Upper;
+use crate::verdict::Judged;
+use crate::verdict::Verdict;
+
+pub const MAX_ROW: usize = 4096;
+
 // How often a name stands in the row, its first place or the row's length, and one past its last place or 0.
 pub struct Seen {
     pub count: u16,
@@ -14,4 +49,278 @@ pub struct Attribute {
     pub behind: u16,
     pub done: bool,
     pub alive: bool,
+}
+
+// What is seen of each name by its number, and whether no number is above the names.
+pub struct Tally {
+    pub seen: [Seen; MAX_ATOMS + 1],
+    pub named: bool,
+}
+
+fn earlier(a: u16, b: u16) -> u16
+    ensures { λ r. ⌜ r ≡ min a b ⌝ }
+{
+    if a < b { a } else { b }
+}
+
+fn later(a: u16, b: u16) -> u16
+    ensures { λ r. ⌜ r ≡ max a b ⌝ }
+{
+    if a < b { b } else { a }
+}
+
+fn nothing_seen(length: u16) -> Seen
+    ensures { λ r. ⌜ r ≡ unseen length ⌝ }
+{
+    Seen {
+        count: 0,
+        first: length,
+        behind: 0,
+    }
+}
+
+// The name stands at place i too.
+fn noted(seen: Seen, i: u16) -> Seen
+    requires { ⌜ (seen .count < 65535) × (i < 65535) ⌝ }
+    ensures { λ r. ⌜ r ≡ noting seen i ⌝ }
+{
+    Seen {
+        count: seen.count + 1,
+        first: earlier(seen.first, i),
+        behind: i + 1,
+    }
+}
+
+fn tally_row(row: &[u16], names: usize) -> Tally
+    requires { ⌜ (length (now row) ≤ maxRow) × (names ≤ maxAtoms) ⌝ }
+    ensures { λ r. ⌜ Tallied names (now (row .entry)) r ⌝ }
+{
+    let none = nothing_seen(row.len() as u16);
+    let mut seen = [none; MAX_ATOMS + 1];
+    let mut named = true;
+    let mut i: usize = 0;
+    while i < row.len() {
+        let name = row[i] as usize;
+        if name <= names {
+            let before = seen[name];
+            seen[name] = noted(before, i as u16);
+        } else {
+            named = false;
+        }
+        i += 1;
+    }
+    Tally {
+        seen: seen,
+        named: named,
+    }
+}
+
+// What nothing has: its part of every row is empty.
+fn empty(length: u16) -> Attribute
+    ensures { λ r. ⌜ r ≡ emptyAttribute length ⌝ }
+{
+    Attribute {
+        first: length,
+        behind: 0,
+        done: true,
+        alive: true,
+    }
+}
+
+fn at_most(count: u16, max: Upper) -> bool
+    ensures { λ r. ⌜ r ≡ under count max ⌝ }
+{
+    match max {
+        Upper::Number(n) => count <= n,
+        Upper::Unbounded => true,
+    }
+}
+
+fn of_atom(min: u16, max: Upper, seen: Seen) -> Attribute
+    ensures { λ r. ⌜ r ≡ atomAttribute min max seen ⌝ }
+{
+    let few = at_most(seen.count, max);
+    Attribute {
+        first: seen.first,
+        behind: seen.behind,
+        done: (min <= seen.count) & few,
+        alive: few,
+    }
+}
+
+// Of a join of two members: whether no name of the first stands behind one of the second, whether the row has names of the first and of the second,
+// and what is said of each member's part.
+fn is_joined(sign: Sign, ordered: bool, first: bool, second: bool, x: bool, y: bool) -> bool
+    ensures { λ r. ⌜ r ≡ joined (operator sign) ordered first second x y ⌝ }
+{
+    match sign {
+        Sign::None => ordered & (x & y),
+        Sign::Sequence => ordered & (x & y),
+        Sign::Choice => (!second & x) | (!first & y),
+        Sign::Interleaving => x & y,
+    }
+}
+
+// The same of what can be made longer. A sequence may stop within its first member; to go on behind it, that has to be done.
+fn is_begun(
+    sign: Sign,
+    ordered: bool,
+    first: bool,
+    second: bool,
+    done: bool,
+    x: bool,
+    y: bool,
+) -> bool
+    ensures { λ r. ⌜ r ≡ begun (operator sign) ordered first second done x y ⌝ }
+{
+    match sign {
+        Sign::None => (!second & x) | (ordered & (done & y)),
+        Sign::Sequence => (!second & x) | (ordered & (done & y)),
+        Sign::Choice => (!second & x) | (!first & y),
+        Sign::Interleaving => x & y,
+    }
+}
+
+fn pair(sign: Sign, x: Attribute, y: Attribute) -> Attribute
+    ensures { λ r. ⌜ r ≡ pairAttribute (operator sign) x y ⌝ }
+{
+    let ordered = x.behind <= y.first;
+    let first = 0 < x.behind;
+    let second = 0 < y.behind;
+    Attribute {
+        first: earlier(x.first, y.first),
+        behind: later(x.behind, y.behind),
+        done: is_joined(sign, ordered, first, second, x.done, y.done),
+        alive: is_begun(sign, ordered, first, second, x.done, x.alive, y.alive),
+    }
+}
+
+fn counted(length: u16, min: u16, max: Upper, seen: Seen) -> Attribute
+    ensures { λ r. ⌜ r ≡ countedAttribute length min max seen ⌝ }
+{
+    if min == 0 {
+        pair(Sign::Choice, empty(length), of_atom(1, max, seen))
+    } else {
+        of_atom(min, max, seen)
+    }
+}
+
+fn marked(length: u16, mark: Mark, x: Attribute) -> Attribute
+    ensures { λ r. ⌜ r ≡ markedAttribute length mark x ⌝ }
+{
+    match mark {
+        Mark::Plain => x,
+        Mark::Optional => pair(Sign::Choice, empty(length), x),
+    }
+}
+
+// A node with none of its members yet.
+fn begin(length: u16, kind: Kind, seen: Seen) -> Attribute
+    ensures { λ r. ⌜ r ≡ partAttribute length kind seen [] ⌝ }
+{
+    match kind {
+        Kind::Atom { min, max } => counted(length, min, max, seen),
+        Kind::Group {
+            sign: _,
+            members: _,
+        } => empty(length),
+    }
+}
+
+// With a member more: the first is taken as it is, each other is joined.
+fn grown(kind: Kind, first: bool, x: Attribute, y: Attribute) -> Attribute
+    ensures { λ r. ⌜ r ≡ grownAttribute kind first x y ⌝ }
+{
+    match kind {
+        Kind::Atom { min: _, max: _ } => x,
+        Kind::Group { sign, members: _ } => if first { y } else { pair(sign, x, y) },
+    }
+}
+
+// The attribute of the first node, by what is seen of each name in a row of this length. Nodes from the last to the first: the attributes of the
+// trees that are read stand on a stack that grows down, and a group takes its members from it. Names are counted down with the atoms.
+fn root(rule: Rule, length: u16, seen: [Seen; MAX_ATOMS + 1]) -> Attribute
+    requires { ⌜ (rule .len ≤ maxNodes) × (names rule ≤ maxAtoms) ⌝ }
+    ensures { λ r. ⌜ r ≡ rootAttribute rule length (λ k. getD seen k (unseen 0)) ⌝ }
+{
+    let none = empty(length);
+    let mut stack = [none; MAX_NODES];
+    let mut top = MAX_NODES;
+    let mut name = name_count(rule);
+    let mut i = rule.len;
+    while 0 < i {
+        i -= 1;
+        let node = rule.nodes[i];
+        let kind = node.kind;
+        let mark = node.mark;
+        let end = smaller(members_of(kind), MAX_NODES - top) + top;
+        let here = seen[name];
+        let mut x = begin(length, kind, here);
+        let mut at = top;
+        while at < end {
+            let y = stack[at];
+            x = grown(kind, at == top, x, y);
+            at += 1;
+        }
+        name -= atoms_of(kind);
+        top = end - 1;
+        stack[top] = marked(length, mark, x);
+    }
+    if top < MAX_NODES { stack[top] } else { none }
+}
+
+// A row with a foreign name is dead.
+fn verdict_of(foreign: u16, root: Attribute) -> Verdict
+    ensures { λ r. ⌜ r ≡ verdictOf (eqb foreign 0 && root .done) (eqb foreign 0 && root .alive) ⌝ }
+{
+    let known = foreign == 0;
+    let held = known & root.done;
+    let extended = known & root.alive;
+    if held {
+        Verdict::Complete
+    } else {
+        if extended {
+            Verdict::Open
+        } else {
+            Verdict::Dead
+        }
+    }
+}
+
+// The verdict on a row of this length, by what is seen of each name.
+fn verdict_seen(rule: Rule, length: u16, seen: [Seen; MAX_ATOMS + 1]) -> Verdict
+    requires { ⌜ (rule .len ≤ maxNodes) × (names rule ≤ maxAtoms) ⌝ }
+    ensures { λ r. ⌜ r ≡ seenVerdict rule length (λ k. getD seen k (unseen 0)) ⌝ }
+{
+    let foreign = seen[0];
+    verdict_of(foreign.count, root(rule, length, seen))
+}
+
+// The verdict by a rule that some model text reads into, on a row that is not refused.
+pub(crate) fn verdict_by(rule: Rule, row: &[u16]) -> Verdict
+    requires { ⌜ (readable rule ≡ true) × (length (now row) ≤ maxRow) × (upto (names rule) (now row) ≡ true) ⌝ }
+    ensures { λ r. ⌜ r ≡ verdict (ruleType rule) (now (row .entry)) ⌝ }
+{
+    let tally = tally_row(row, name_count(rule));
+    let seen = tally.seen;
+    verdict_seen(rule, row.len() as u16, seen)
+}
+
+// Refused with 40, 41 or 43, tried in this order. Else the verdict.
+pub fn judge_row(rule: Rule, row: &[u16]) -> Judged
+    ensures { λ r. ⌜ r ≡ judged rule (now (row .entry)) ⌝ }
+{
+    let good = well_formed(rule);
+    if good {
+        if row.len() <= MAX_ROW {
+            let tally = tally_row(row, name_count(rule));
+            if tally.named {
+                let seen = tally.seen;
+                return Judged::Verdict(verdict_seen(rule, row.len() as u16, seen));
+            }
+            return Judged::Refused(JudgeFault::NoName);
+        }
+        return Judged::Refused(JudgeFault::LongRow);
+    }
+    Judged::Refused(JudgeFault::NoModel)
 }

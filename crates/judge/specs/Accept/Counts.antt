@@ -2,25 +2,28 @@
 use mathlib.Core.Path.{_≡_, refl, sym, ap, subst, _∙_}
 use mathlib.Core.Logic.{⊎-elim}
 use mathlib.Core.Bool.{Bool, true, false}
-use mathlib.Core.List.{List, [], _∷_, _++_, append-assoc, append-nil, List·Memᴰ, List·Memᴰ·not-nil, List·Memᴰ·eq-of-singleton, List·Memᴰ·append-cases}
+use mathlib.Core.List.{List, [], _∷_, _++_, append-assoc, append-nil}
+use mathlib.Core.List.{List·Memᴰ, List·Memᴰ·not-nil, List·Memᴰ·eq-of-singleton, List·Memᴰ·append-cases}
 use Prim.Native.Nat.{ℕ, zero, suc, _-_, _<_}
 use Prim.Native.Char.{code}
 use native.Mathlib.Omega.{arith}
 use lib.Dec.{T, eqb}
 use lib.ListN.{length, take, drop, getD, take-append-drop, length-append}
-use lib.Seq.{take-at, drop-at, getD-at}
+use lib.Seq.{take-at, drop-append-seam, getD-append-seam}
 use Rattle.judge.specs.declared.rule.Sign.{Sign}
 use Rattle.judge.specs.declared.rule.Mark.the-variants.{Plain}
 use Rattle.judge.specs.Bytes.{Text, bytes, isLetter, all, front}
 use Rattle.judge.specs.Bytes.Laws.{apart}
 use Rattle.judge.specs.Bytes.Runs.{front-stops}
-use Rattle.judge.specs.Tree.{Node, leaf, group, marked, Members, none, _▹_, nodeLeaves, leaves, membersLeaves, NodeFormed, Formed, MembersFormed}
+use Rattle.judge.specs.Tree.{Node, leaf, group, marked, Members, none, _▹_, nodeLeaves, leaves, membersLeaves}
+use Rattle.judge.specs.Tree.{NodeFormed, Formed, MembersFormed}
 use Rattle.judge.specs.Tree.Leaves.{formed-each, each-formed}
-use Rattle.judge.specs.Syntax.{Count, unwritten, between, onward, Spelling, Syntax, countText, signText, markText, nodeText, text, membersText, moreText, CountFormed, SpellingFormed, Spells, Begins}
+use Rattle.judge.specs.Syntax.{Count, unwritten, between, onward, Spelling, Syntax, CountFormed, SpellingFormed, Spells, Begins}
+use Rattle.judge.specs.Syntax.{countText, signText, markText, nodeText, text, membersText, moreText}
 use Rattle.judge.specs.Syntax.Complete.{spells-once}
-use Rattle.judge.specs.Fault.{tally, wrong, EndsWrong}
+use Rattle.judge.specs.Fault.{wrong, EndsWrong}
 use Rattle.judge.specs.Accept.Scan.{isCounting, inside, inside-counting, Reading, countOn, nodeOn, treeOn, membersOn, scan-text}
-use Rattle.judge.specs.Accept.Places.{at, listOn, listed, listed-at}
+use Rattle.judge.specs.Accept.Places.{listOn, listed, listed-at}
 use Rattle.judge.specs.Accept.Starts.{on-name}
 
 -- a count is written in one way
@@ -36,7 +39,7 @@ count-once c d h k e =
     let r : counted c ≡ counted d = cc in
     ap (λ a. a .count) r
 
--- the bytes between `[` and `]`
+-- the counts of a text, each by the bytes between `[` and `]`
 abbrev countTest : Bool → ℕ → Bool
 countTest e b = eqb b (code "[")
 
@@ -88,7 +91,8 @@ mutual
   right-tree : (t : Syntax) (r : List Text) → Formed RightSpelling t → Every Right r → Every Right (treeOn countReading t r)
   right-tree (marked m n) r h e = right-node n r h e
 
-  right-members : (ts : Members Spelling) (r : List Text) → MembersFormed RightSpelling ts → Every Right r → Every Right (membersOn countReading ts r)
+  right-members : (ts : Members Spelling) (r : List Text) → MembersFormed RightSpelling ts → Every Right r
+      → Every Right (membersOn countReading ts r)
   right-members none r h e = e
   right-members (t ▹ ts) r h e = right-tree t (membersOn countReading ts r) (h .0) (right-members ts r (h .1) e)
 
@@ -98,17 +102,15 @@ count-inside unwritten w h = absurd h
 count-inside (between m n) w h = simp append-assoc
 count-inside (onward m) w h = simp append-assoc
 
-right-at : (x u v w : Text) → x ≡ v ++ (code "[" ∷ (u ++ (code "]" ∷ w))) → T (all isCounting u) → Every Right (listed countTest insideFrom true x) → Right u
-right-at x u v w e h r = rw (front-stops isCounting u (code "]" ∷ w) h tt) at (rw (i .1 ∙ ap insideFrom d) at (every-at Right (listed countTest insideFrom true x) _ (i .0) r))
-  where
-    d : drop (length v) x ≡ code "[" ∷ (u ++ (code "]" ∷ w))
-    d = rw e (drop-at v _ (length v) refl)
+right-at : (u v w : Text) → T (all isCounting u) → Every Right (listed countTest insideFrom true (v ++ (code "[" ∷ (u ++ (code "]" ∷ w))))) → Right u
+right-at u v w h r =
+    let y = code "[" ∷ (u ++ (code "]" ∷ w)) in
+    let i = listed-at countTest insideFrom [] true (v ++ y) (length v) (rw length-append (omega arith)) (rw (getD-append-seam v (code "[")) tt) in
+    let e : insideFrom (drop (length v) (v ++ y)) ≡ u = rw (drop-append-seam v y) (front-stops isCounting u (code "]" ∷ w) h tt) in
+    rw (i .1 ∙ e) at (every-at Right (listed countTest insideFrom true (v ++ y)) _ (i .0) r)
 
-    i : (tally (at countTest insideFrom true x) (length v) < length (listed countTest insideFrom true x))
-        × (getD (listed countTest insideFrom true x) (tally (at countTest insideFrom true x) (length v)) [] ≡ insideFrom (drop (length v) x))
-    i = listed-at countTest insideFrom [] true x (length v) (rw (e, length-append) (omega arith)) (rw (e, getD-at v (code "[") (u ++ (code "]" ∷ w)) 0 (length v) refl) tt)
-
-pub no-wrong : (t : Syntax) → Formed SpellingFormed t → ((a : Spelling) → List·Memᴰ a (leaves t) → wrong (a .count) ≡ false) → (p : ℕ) → EndsWrong (text t) p → ⊥
+pub no-wrong : (t : Syntax) → Formed SpellingFormed t → ((a : Spelling) → List·Memᴰ a (leaves t) → wrong (a .count) ≡ false)
+    → (p : ℕ) → EndsWrong (text t) p → ⊥
 no-wrong t h r p w = subst T right (w .bad)
   where
     x : Text
@@ -118,13 +120,17 @@ no-wrong t h r p w = subst T right (w .bad)
     rest = drop (suc p) x
 
     parted : x ≡ w .before ++ (code "[" ∷ (inside (w .counted) ++ (code "]" ∷ rest)))
-    parted = sym (take-append-drop (suc p) x) ∙ ap (λ y. y ++ rest) (w .ends) ∙ append-assoc (w .before) (countText (w .counted)) rest ∙ ap (λ y. w .before ++ y) (count-inside (w .counted) rest (w .bad))
+    parted =
+        sym (take-append-drop (suc p) x) ∙ ap (λ y. y ++ rest) (w .ends)
+        ∙ append-assoc (w .before) (countText (w .counted)) rest ∙ ap (λ y. w .before ++ y) (count-inside (w .counted) rest (w .bad))
 
     each : Formed RightSpelling t
     each = formed-each RightSpelling SpellingFormed t h (λ a m. (each-formed SpellingFormed t h a m .1, r a m))
 
     right : wrong (w .counted) ≡ false
-    right = right-at x (inside (w .counted)) (w .before) rest parted (inside-counting (w .counted) (w .formed)) (rw (scan-text countReading t h) (right-tree t [] each tt))
+    right =
+        right-at (inside (w .counted)) (w .before) rest (inside-counting (w .counted) (w .formed))
+        (rw (← parted, scan-text countReading t h) (right-tree t [] each tt))
         (w .counted) (w .formed) (rw append-nil at (count-inside (w .counted) [] (w .bad)))
 
 -- an atom stands in the text of its tree
@@ -135,7 +141,7 @@ record Stands (a : Spelling) (x : Text) : Type 0 where
 
 module _ (a : Spelling) where
   further : (u x : Text) → Stands a x → Stands a (u ++ x)
-  further u x s = record { before = u ++ s .before; behind = s .behind; parts = rw append-assoc (ap (λ y. u ++ y) (s .parts)) }
+  further u x s = record { before = u ++ s .before; behind = s .behind; parts = ap (λ y. u ++ y) (s .parts) ∙ simp append-assoc }
 
   longer : (x w : Text) → Stands a x → Stands a (x ++ w)
   longer x w s = record { before = s .before; behind = s .behind ++ w; parts = ap (λ y. y ++ w) (s .parts) ∙ simp append-assoc }
@@ -143,7 +149,8 @@ module _ (a : Spelling) where
   mutual
     node-stands : (n : Node Spelling) → List·Memᴰ a (nodeLeaves n) → Stands a (nodeText n)
     node-stands (leaf b) m = record { before = []; behind = []; parts = rw (List·Memᴰ·eq-of-singleton m, append-nil) }
-    node-stands (group g ts) m = further (bytes "(") (membersText ts g ++ bytes ")") (longer (membersText ts g) (bytes ")") (members-stand ts g m))
+    node-stands (group g ts) m =
+        further (bytes "(") (membersText ts g ++ bytes ")") (longer (membersText ts g) (bytes ")") (members-stand ts g m))
 
     tree-stands : (t : Syntax) → List·Memᴰ a (leaves t) → Stands a (text t)
     tree-stands (marked m n) i = longer (nodeText n) (markText m) (node-stands n i)
@@ -151,19 +158,29 @@ module _ (a : Spelling) where
     members-stand : (ts : Members Spelling) (g : Sign) → List·Memᴰ a (membersLeaves ts) → Stands a (membersText ts g)
     members-stand none g m = absurd (List·Memᴰ·not-nil m)
     members-stand (t ▹ ts) g m =
-        ⊎-elim (λ i. longer (text t) (moreText ts g) (tree-stands t i)) (λ i. further (text t) (moreText ts g) (more-stand ts g i)) (List·Memᴰ·append-cases (leaves t) m)
+        ⊎-elim
+        (λ i. longer (text t) (moreText ts g) (tree-stands t i))
+        (λ i. further (text t) (moreText ts g) (more-stand ts g i))
+        (List·Memᴰ·append-cases (leaves t) m)
 
     more-stand : (ts : Members Spelling) (g : Sign) → List·Memᴰ a (membersLeaves ts) → Stands a (moreText ts g)
     more-stand none g m = absurd (List·Memᴰ·not-nil m)
     more-stand (t ▹ ts) g m =
         further (signText g) (text t ++ moreText ts g)
-        (⊎-elim (λ i. longer (text t) (moreText ts g) (tree-stands t i)) (λ i. further (text t) (moreText ts g) (more-stand ts g i)) (List·Memᴰ·append-cases (leaves t) m))
+        (⊎-elim
+        (λ i. longer (text t) (moreText ts g) (tree-stands t i))
+        (λ i. further (text t) (moreText ts g) (more-stand ts g i))
+        (List·Memᴰ·append-cases (leaves t) m))
 
 -- what a model text begins with
 pub begun : (t : Syntax) → Formed SpellingFormed t → (n : ℕ) → Begins (take n (text t))
-begun t h n = record { more = drop n (text t); whole = record { tree = t; spells = record { formed = h; spelt = sym (take-append-drop n (text t)) } } }
+begun t h n = record {
+  more = drop n (text t);
+  whole = record { tree = t; spells = record { formed = h; spelt = sym (take-append-drop n (text t)) } };
+}
 
-pub wrong-at : (t : Syntax) → Formed SpellingFormed t → (a : Spelling) → List·Memᴰ a (leaves t) → T (wrong (a .count)) → (p : ℕ) × EndsWrong (text t) p
+pub wrong-at : (t : Syntax) → Formed SpellingFormed t → (a : Spelling) → List·Memᴰ a (leaves t) → T (wrong (a .count))
+    → (p : ℕ) × EndsWrong (text t) p
 wrong-at t h a m w = (
   p,
   record {

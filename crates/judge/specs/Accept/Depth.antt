@@ -74,7 +74,8 @@ rise-now : (o c : Bool) (n : ℕ) → T o → 0 < 0 + rise o c n
 rise-now true c n h = omega arith
 rise-now false c n h = absurd h
 
-rise-same : (o c : Bool) (a k n : ℕ) → (T o → T c → ⊥) → n ≢ 0 → k + n ≡ suc a → cond c (suc k) k + rise o c n ≡ suc (cond o (suc a) a)
+rise-same : (o c : Bool) (a k n : ℕ) → (T o → T c → ⊥) → n ≢ 0 → k + n ≡ suc a
+    → cond c (suc k) k + rise o c n ≡ suc (cond o (suc a) a)
 rise-same true true a k n d z h = absurd (d tt tt)
 rise-same true false a k n d z h = omega arith
 rise-same false true a k n d z h = omega arith
@@ -85,13 +86,16 @@ rise-first true c h = (tt, refl)
 rise-first false true h = absurd (h refl)
 rise-first false false h = absurd (h refl)
 
-rises-at : (e : Bool) (x : Text) (p : ℕ) → p < length x → T (is x (code "(") p) → tally (is x (code "(")) p < tally (is x (code ")")) p + highest e x
+-- at a bracket
+rises-at : (e : Bool) (x : Text) (p : ℕ) → p < length x → T (is x (code "(") p)
+    → tally (is x (code "(")) p < tally (is x (code ")")) p + highest e x
 rises-at e [] p h t = absurd (omega arith)
 rises-at e (b ∷ y) zero h t = rise-now (eqb b (code "(")) (eqb b (code ")")) (highest (isOpener b) y) t
 rises-at e (b ∷ y) (suc p) h t =
     rw (tally-first (is (b ∷ y) (code "(")) p, tally-first (is (b ∷ y) (code ")")) p)
     (rise-less (eqb b (code "(")) (eqb b (code ")")) _ _ (highest (isOpener b) y) (rises-at (isOpener b) y p (omega arith) t))
 
+-- a bracket at which as many are open as ever
 record Top (e : Bool) (x : Text) : Type 0 where
   pub place : ℕ
   pub opens : T (is x (code "(") place)
@@ -102,22 +106,26 @@ later e b y n i = record {
   place = suc (i .place);
   opens = i .opens;
   height = rw (tally-first (is (b ∷ y) (code "(")) (i .place), tally-first (is (b ∷ y) (code ")")) (i .place))
-      (rise-same (eqb b (code "(")) (eqb b (code ")")) _ _ (highest (isOpener b) y) (λ o c. omega (arith, eqb→eq b (code "(") o, eqb→eq b (code ")") c)) n (i .height));
+      (rise-same (eqb b (code "(")) (eqb b (code ")")) _ _ (highest (isOpener b) y)
+      (λ o c. omega (arith, eqb→eq b (code "(") o, eqb→eq b (code ")") c)) n (i .height));
 }
 
 top : (e : Bool) (x : Text) → highest e x ≢ 0 → Top e x
 top e [] n = absurd (n refl)
 top e (b ∷ y) n =
     by-cases (ℕ-discrete (highest (isOpener b) y) 0)
-    (λ z. let r = rise-first (eqb b (code "(")) (eqb b (code ")")) (rw z at n) in record { place = 0; opens = r .0; height = rw z (omega arith) })
+    (λ z.
+    let r = rise-first (eqb b (code "(")) (eqb b (code ")")) (rw z at n) in
+    record { place = 0; opens = r .0; height = rw z (omega arith) })
     (λ m. later e b y m (top (isOpener b) y m))
 
 module _ (t : Syntax) (formed : Formed SpellingFormed t) where
   text-rise : highest true (text t) ≡ depth t
   text-rise = scan-text riseReading t formed ∙ tree-rise t 0 ∙ omega arith
 
-  -- the brackets open before a bracket
-  pub bracket-at : (p : ℕ) → T (is (text t) (code "(") p) → tally (is (text t) (code "(")) p < tally (is (text t) (code ")")) p + depth t
+  -- a bracket stands in fewer than the depth
+  pub bracket-at : (p : ℕ) → T (is (text t) (code "(") p)
+      → tally (is (text t) (code "(")) p < tally (is (text t) (code ")")) p + depth t
   bracket-at p h = rw text-rise at (rises-at true (text t) p (byte-inside (λ b. eqb b (code "(")) (text t) p tt h) h)
 
   pub bracket-place : depth t ≢ 0

@@ -30,7 +30,10 @@ fits-is (between m n) =
           let z = eqb-false (value n) 0 (k .0) in
           (ltb-false (value n) (value m) (k .1), omega arith, ltb-false maxCount (value n) (i .1)),
       λ h. neither (a || b || c) d .1 (
-        neither (a || b) c .1 (neither a b .1 (ne-eqb (value n) 0 (omega arith), le-ltb (value n) (value m) (h .0)), le-ltb maxCount (value m) (omega arith)),
+        neither (a || b) c .1 (
+          neither a b .1 (ne-eqb (value n) 0 (omega arith), le-ltb (value n) (value m) (h .0)),
+          le-ltb maxCount (value m) (omega arith),
+        ),
         le-ltb maxCount (value n) (h .2),
       ),
     )

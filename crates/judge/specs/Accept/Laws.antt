@@ -9,7 +9,8 @@ use native.Mathlib.Omega.{arith}
 use lib.Dec.{T}
 use lib.ListN.{length, getD, length-map}
 use Rattle.judge.specs.declared.fault.ModelFault.{ModelFault}
-use Rattle.judge.specs.declared.fault.ModelFault.the-variants.{Size, Spelling as Misspelling, LongName, WrongCount, TooDeep, ManyAtoms, ManyNodes, Repeated}
+use Rattle.judge.specs.declared.fault.ModelFault.the-variants.{Size, Spelling as Misspelling, LongName, WrongCount}
+use Rattle.judge.specs.declared.fault.ModelFault.the-variants.{TooDeep, ManyAtoms, ManyNodes, Repeated}
 use Rattle.judge.specs.Tests.{by-test}
 use Rattle.judge.specs.Bytes.{Text}
 use Rattle.judge.specs.Tree.{leaves, atoms, nodes, depth, Formed}
@@ -58,7 +59,8 @@ module _ (t : Syntax) (formed : Formed SpellingFormed t) where
     no-twice p r =
         let i = name-at t formed p (r .here) in
         let j = name-at t formed (r .first) (r .there) in
-        w .apart (tally (nameAt (text t)) (r .first)) (tally (nameAt (text t)) p) (tally-passes (nameAt (text t)) (r .first) p (r .there) (r .earlier)) (i .0) (j .1 ∙ r .same ∙ sym (i .1))
+        let l = tally-passes (nameAt (text t)) (r .first) p (r .there) (r .earlier) in
+        w .apart (tally (nameAt (text t)) (r .first)) (tally (nameAt (text t)) p) l (i .0) (j .1 ∙ r .same ∙ sym (i .1))
 
     no-fault : (g : ModelFault) (p : ℕ) → Fault g (text t) p → ⊥
     no-fault Size p f = ⊎-elim (λ e. omega (arith, text-some t formed)) (λ e. omega (arith, text-fits t formed w)) (f .1)
@@ -75,30 +77,50 @@ module _ (t : Syntax) (formed : Formed SpellingFormed t) where
     all-short a m =
         let k = member-place [] (Memᴰ·map (λ a. a .name) m) in
         let i = name-place t formed (k .0) (k .1) in
-        by-cases (decLe (length (a .name)) maxName) (λ l. l) (λ l. absurd (clear LongName (i .place) (i .begins, rw (← i .named, k .2) (omega arith))))
+        by-cases (decLe (length (a .name)) maxName)
+        (λ l. l) (λ l. absurd (clear LongName (i .place) (i .begins, rw (← i .named, k .2) (omega arith))))
 
     all-right : (a : Spelling) → List·Memᴰ a (leaves t) → wrong (a .count) ≡ false
-    all-right a m = by-test (wrong (a .count)) (λ e. let i = wrong-at t formed a m (rw e tt) in absurd (clear WrongCount (i .0) (i .1))) (λ e. e)
+    all-right a m =
+        by-test (wrong (a .count))
+        (λ e. let i = wrong-at t formed a m (rw e tt) in absurd (clear WrongCount (i .0) (i .1))) (λ e. e)
 
     all-shallow : depth t ≤ maxDepth
-    all-shallow = by-cases (decLe (depth t) maxDepth) (λ l. l) (λ l. let i = bracket-place t formed (omega arith) in absurd (clear TooDeep (i .0) (i .1, omega arith)))
+    all-shallow =
+        by-cases (decLe (depth t) maxDepth) (λ l. l)
+        (λ l. let i = bracket-place t formed (omega arith) in absurd (clear TooDeep (i .0) (i .1, omega arith)))
 
     all-atoms : atoms t ≤ maxAtoms
-    all-atoms = by-cases (decLe (atoms t) maxAtoms) (λ l. l) (λ l. let i = name-place t formed maxAtoms (omega (arith, names-atoms)) in absurd (clear ManyAtoms (i .place) (i .begins, omega arith)))
+    all-atoms =
+        by-cases (decLe (atoms t) maxAtoms) (λ l. l)
+        (λ l.
+        let i = name-place t formed maxAtoms (omega (arith, names-atoms)) in
+        absurd (clear ManyAtoms (i .place) (i .begins, omega arith)))
 
     all-nodes : nodes t ≤ maxNodes
-    all-nodes = by-cases (decLe (nodes t) maxNodes) (λ l. l) (λ l. let i = node-place t formed maxNodes (omega arith) in absurd (clear ManyNodes (i .0) (i .1, omega arith)))
+    all-nodes =
+        by-cases (decLe (nodes t) maxNodes) (λ l. l)
+        (λ l. let i = node-place t formed maxNodes (omega arith) in absurd (clear ManyNodes (i .0) (i .1, omega arith)))
 
     all-apart : (i j : ℕ) → i < j → j < length (names t) → getD (names t) i [] ≡ getD (names t) j [] → ⊥
     all-apart i j l h e =
         let p = name-place t formed i (omega arith) in
         let q = name-place t formed j h in
         by-cases (decLt (p .place) (q .place))
-        (λ s. clear Repeated (q .place) (record { here = q .begins; first = p .place; earlier = s; there = p .begins; same = sym (p .named) ∙ e ∙ q .named }))
+        (λ s.
+        let e : nameFrom (text t) (p .place) ≡ nameFrom (text t) (q .place) = sym (p .named) ∙ e ∙ q .named in
+        clear Repeated (q .place) (record { here = q .begins; first = p .place; earlier = s; there = p .begins; same = e }))
         (λ s. omega (arith, tally-grows (nameAt (text t)) (q .place) (p .place) (omega arith)))
 
     clear-within : Within t
-    clear-within = record { short = all-short; right = all-right; shallow = all-shallow; few-atoms = all-atoms; few-nodes = all-nodes; apart = all-apart }
+    clear-within = record {
+      short = all-short;
+      right = all-right;
+      shallow = all-shallow;
+      few-atoms = all-atoms;
+      few-nodes = all-nodes;
+      apart = all-apart;
+    }
 
 pub within-accepted : (t : Syntax) → Formed SpellingFormed t → Within t → Answers (text t) (accepted t)
 within-accepted t h w = (no-fault t h w, record { formed = h; spelt = refl })
@@ -111,5 +133,6 @@ accepted-is t h = (within-accepted t h, accepted-within (text t) t)
 
 pub accepted-counts : (x : Text) (t : Syntax) → Answers x (accepted t) → Formed CountsFit (modelOf t)
 accepted-counts x t a =
+    let w = accepted-within x t a in
     formed-map (λ s. countsOf (s .count)) CountsFit t .1
-    (formed-each (λ s. CountsFit (countsOf (s .count))) SpellingFormed t (a .1 .formed) (λ s m. fits-is (s .count) .0 (accepted-within x t a .right s m)))
+    (formed-each (λ s. CountsFit (countsOf (s .count))) SpellingFormed t (a .1 .formed) (λ s m. fits-is (s .count) .0 (w .right s m)))

@@ -1,7 +1,7 @@
 -- A tree within the limits has a text of at most 44 · 64 + 4 · 128 bytes: 4,096 never tells.
 use mathlib.Core.Path.{_≡_}
 use mathlib.Core.Bool.{false, not, _&&_}
-use mathlib.Core.List.{[], _∷_, _++_}
+use mathlib.Core.List.{[], _∷_, _++_, List·Memᴰ}
 use Prim.Native.Nat.{ℕ, _+_, _*_, _-_, _≤_, _<_}
 use Prim.Native.Char.{code}
 use native.Mathlib.Omega.{arith}
@@ -13,10 +13,11 @@ use Rattle.judge.specs.declared.rule.Sign.the-variants.{None, Sequence, 
 use Rattle.judge.specs.declared.rule.Mark.{Mark}
 use Rattle.judge.specs.declared.rule.Mark.the-variants.{Plain, Optional}
 use Rattle.judge.specs.Bytes.{Text, isDigit, all, isName, isNumeral, valueFrom, value}
-use Rattle.judge.specs.Tree.{Node, leaf, group, marked, Members, none, _▹_, atoms, nodes, nodeWeight, membersWeight, NodeFormed, Formed, MembersFormed}
+use Rattle.judge.specs.Tree.{Node, leaf, group, marked, Members, none, _▹_, leaves, atoms, nodes, nodeWeight, membersWeight}
+use Rattle.judge.specs.Tree.{NodeFormed, Formed, MembersFormed}
 use Rattle.judge.specs.Tree.Leaves.{formed-each, each-formed}
-use Rattle.judge.specs.Syntax.{Count, unwritten, between, onward, Spelling, Syntax, countText, signText, markText, nodeText, text, membersText, moreText}
-use Rattle.judge.specs.Syntax.{CountFormed, SpellingFormed}
+use Rattle.judge.specs.Syntax.{Count, unwritten, between, onward, Spelling, Syntax, CountFormed, SpellingFormed}
+use Rattle.judge.specs.Syntax.{countText, signText, markText, nodeText, text, membersText, moreText}
 use Rattle.judge.specs.Limits.{maxText, maxCount}
 use Rattle.judge.specs.Fault.{wrong}
 use Rattle.judge.specs.Accept.Fit.{fits-is}
@@ -71,21 +72,23 @@ mutual
   text-length : (t : Syntax) → Formed Short t → length (text t) + 1 ≤ 44 * atoms t + 4 * nodes t
   text-length (marked m n) h = simp length-append (omega (arith, node-length n h, mark-short m))
 
-  members-length : (ts : Members Spelling) (g : Sign) → MembersFormed Short ts → length (membersText ts g) ≤ 44 * membersWeight 1 0 ts + 4 * membersWeight 1 1 ts
+  members-length : (ts : Members Spelling) (g : Sign) → MembersFormed Short ts
+      → length (membersText ts g) ≤ 44 * membersWeight 1 0 ts + 4 * membersWeight 1 1 ts
   members-length none g h = omega arith
   members-length (t ▹ ts) g h = simp length-append (omega (arith, text-length t (h .0), more-length ts g (h .1)))
 
-  more-length : (ts : Members Spelling) (g : Sign) → MembersFormed Short ts → length (moreText ts g) ≤ 44 * membersWeight 1 0 ts + 4 * membersWeight 1 1 ts
+  more-length : (ts : Members Spelling) (g : Sign) → MembersFormed Short ts
+      → length (moreText ts g) ≤ 44 * membersWeight 1 0 ts + 4 * membersWeight 1 1 ts
   more-length none g h = omega arith
   more-length (t ▹ ts) g h = simp length-append (omega (arith, sign-short g, text-length t (h .0), more-length ts g (h .1)))
 
 -- 10
 pub text-fits : (t : Syntax) → Formed SpellingFormed t → Within t → length (text t) ≤ maxText
 text-fits t h w =
-    let s : Formed Short t = formed-each Short SpellingFormed t h (λ a m.
-    let f = each-formed SpellingFormed t h a m in
-    rw length-append (omega (arith, w .short a m, count-short (a .count) (f .1) (w .right a m)))) in
-    omega (arith, text-length t s, w .few-atoms, w .few-nodes)
+    let e = each-formed SpellingFormed t h in
+    let s : (a : Spelling) → List·Memᴰ a (leaves t) → Short a = λ a m.
+    rw length-append (omega (arith, w .short a m, count-short (a .count) (e a m .1) (w .right a m))) in
+    omega (arith, text-length t (formed-each Short SpellingFormed t h s), w .few-atoms, w .few-nodes)
 
 name-some : (n : Text) → T (isName n) → 0 < length n
 name-some [] h = absurd h

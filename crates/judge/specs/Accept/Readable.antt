@@ -12,8 +12,8 @@ use Rattle.judge.specs.declared.rule.Upper.the-variants.{Number, Unbound
 use Rattle.judge.specs.Bytes.{Text, isDigit, isInner, isName, value}
 use Rattle.judge.specs.Bytes.Runs.{digit-inner, all-map}
 use Rattle.judge.specs.Bytes.Numeral.{digits, value-digits, all-digits, digits-length, digits-numeral}
-use Rattle.judge.specs.Tree.{Node, leaf, group, Tree, marked, Members, none, _▹_, size, nodeLeaves, membersLeaves, nodeWeight, weight, membersWeight, depth, atoms, nodes}
-use Rattle.judge.specs.Tree.{NodeFormed, Formed, MembersFormed, mapNode, mapMembers}
+use Rattle.judge.specs.Tree.{Node, leaf, group, Tree, marked, Members, none, _▹_, size, nodeLeaves, membersLeaves, mapNode, mapMembers}
+use Rattle.judge.specs.Tree.{nodeWeight, weight, membersWeight, depth, atoms, nodes, NodeFormed, Formed, MembersFormed}
 use Rattle.judge.specs.Tree.Leaves.{formed-each, each-formed}
 use Rattle.judge.specs.Tree.Map.{weight-map, depth-map, formed-map}
 use Rattle.judge.specs.Syntax.{Count, between, onward, Spelling, Syntax, names, text, CountFormed, SpellingFormed}
@@ -124,7 +124,8 @@ length-numbered k (suc n) = ap suc (length-numbered (suc k) n)
 made-once : (i j : ℕ) → i < 100000 → j < 100000 → made i ≡ made j → i ≡ j
 made-once i j h k e = sym (value-digits i h) ∙ ap value (tail-eq-of-cons-eq e) ∙ value-digits j k
 
-module _ (m : Model) (right : Formed CountsFit m) (shallow : depth m ≤ maxDepth) (few-atoms : atoms m ≤ maxAtoms) (few-nodes : nodes m ≤ maxNodes) where
+module _ (m : Model) (right : Formed CountsFit m)
+    (shallow : depth m ≤ maxDepth) (few-atoms : atoms m ≤ maxAtoms) (few-nodes : nodes m ≤ maxNodes) where
   spelled : Syntax
   spelled = spell m 0
 
@@ -146,13 +147,15 @@ module _ (m : Model) (right : Formed CountsFit m) (shallow : depth m ≤ maxDept
   within : Within spelled
   within = record {
     short = λ a i. each-formed Neat spelled neat a i .1;
-    right = λ a i. fits-is (a .count) .1 (each-formed (λ a. CountsFit (counts a)) spelled (formed-map counts CountsFit spelled .0 (rw back right)) a i);
+    right = λ a i.
+        fits-is (a .count) .1 (each-formed (λ a. CountsFit (counts a)) spelled (formed-map counts CountsFit spelled .0 (rw back right)) a i);
     shallow = omega (arith, sym (depth-map counts spelled) ∙ ap depth back);
     few-atoms = omega (arith, sym (weight-map counts 1 0 spelled) ∙ ap atoms back);
     few-nodes = omega (arith, sym (weight-map counts 1 1 spelled) ∙ ap nodes back);
     apart = λ i j h l e.
         let l : j < atoms m = rw (named, length-numbered 0 (atoms m)) at l in
-        let f : made (0 + i) ≡ made (0 + j) = sym (numbered-at 0 (atoms m) i (omega arith)) ∙ (rw named at e) ∙ numbered-at 0 (atoms m) j l in
+        let f : made (0 + i) ≡ made (0 + j)
+        = sym (numbered-at 0 (atoms m) i (omega arith)) ∙ (rw named at e) ∙ numbered-at 0 (atoms m) j l in
         omega (arith, made-once (0 + i) (0 + j) (omega arith) (omega arith) f);
   }
 

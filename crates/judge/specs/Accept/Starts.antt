@@ -11,8 +11,7 @@ use mir.Facts.{and-yes}
 use Rattle.judge.specs.Bytes.{Text, isLetter, isInner, all, isName, front}
 use Rattle.judge.specs.Bytes.Laws.{T-true, letter-inner}
 use Rattle.judge.specs.Bytes.Runs.{stops, front-stops}
-use Rattle.judge.specs.Tree.{Node, leaf, group, marked, Members, none, _▹_, nodeLeaves, membersLeaves, nodes, nodeWeight, membersWeight}
-use Rattle.judge.specs.Tree.{Formed}
+use Rattle.judge.specs.Tree.{Node, leaf, group, marked, Members, none, _▹_, nodeLeaves, membersLeaves, nodes, nodeWeight, membersWeight, Formed}
 use Rattle.judge.specs.Syntax.{Spelling, Syntax, names, text, SpellingFormed}
 use Rattle.judge.specs.Fault.{fresh, nameAt, nodeAt, nameFrom, tally}
 use Rattle.judge.specs.Fault.Answered.{byte-inside, name-inside}
@@ -93,11 +92,11 @@ mutual
   members-nodes none r = omega arith
   members-nodes (t ▹ ts) r = omega (arith, tree-nodes t (membersOn nodeReading ts r), members-nodes ts r)
 
-name-same : (x : Text) (p : ℕ) → nameAt x p ≡ at nameTest (front isInner) true x p
+name-same : (x : Text) (p : ℕ) → nameAt x p ≡ at nameTest true x p
 name-same x zero = refl
 name-same x (suc p) = refl
 
-node-same : (x : Text) (p : ℕ) → nodeAt x p ≡ at nodeTest (λ x. tt {0}) true x p
+node-same : (x : Text) (p : ℕ) → nodeAt x p ≡ at nodeTest true x p
 node-same x zero = refl
 node-same x (suc p) = refl
 
@@ -111,7 +110,8 @@ module _ (t : Syntax) (formed : Formed SpellingFormed t) where
   -- the name that begins at p is the one before which as many stand as before p
   pub name-at : (p : ℕ) → T (nameAt (text t) p)
       → (tally (nameAt (text t)) p < length (names t)) × (getD (names t) (tally (nameAt (text t)) p) [] ≡ nameFrom (text t) p)
-  name-at p h = rw names-listed at (start-at nameTest (front isInner) (text t) (nameAt (text t)) (name-same (text t)) [] p (name-inside (text t) p h) h)
+  name-at p h =
+      rw names-listed at (start-at nameTest (front isInner) (text t) (nameAt (text t)) (name-same (text t)) [] p (name-inside (text t) p h) h)
 
   -- where the k-th name begins
   pub record NamePlace (k : ℕ) : Type 0 where
@@ -129,7 +129,8 @@ module _ (t : Syntax) (formed : Formed SpellingFormed t) where
   nodes-listed = ap length (scan-text nodeReading t formed) ∙ tree-nodes t [] ∙ omega arith
 
   pub node-at : (p : ℕ) → T (nodeAt (text t) p) → tally (nodeAt (text t)) p < nodes t
-  node-at p h = rw nodes-listed at (start-at nodeTest (λ x. tt {0}) (text t) (nodeAt (text t)) (node-same (text t)) tt p (node-inside (text t) p h) h .0)
+  node-at p h =
+      rw nodes-listed at (start-at nodeTest (λ x. tt {0}) (text t) (nodeAt (text t)) (node-same (text t)) tt p (node-inside (text t) p h) h .0)
 
   pub node-place : (k : ℕ) → k < nodes t → (p : ℕ) × T (nodeAt (text t) p) × (tally (nodeAt (text t)) p ≡ k)
   node-place k h = start-place nodeTest (λ x. tt {0}) (text t) (nodeAt (text t)) (node-same (text t)) k (rw nodes-listed h)

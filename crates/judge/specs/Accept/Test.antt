@@ -1,21 +1,25 @@
--- A test of a tree's limits.
+-- A test of a tree's limits, and with it a test of texts.
 use mathlib.Core.Path.{_≡_, refl, sym, ap, _∙_, subst}
-use mathlib.Core.Bool.{Bool, true, false, not, _&&_, true≢false, false≢true, and-eq-true-iff}
+use mathlib.Core.Bool.{Bool, true, false, cond, not, _&&_, true≢false, and-eq-true-iff}
 use mathlib.Core.List.{List, [], _∷_, List·Memᴰ, List·Memᴰ·cases-cons, List·Memᴰ·not-nil}
 use mathlib.Core.Logic.{⊎-elim}
+use mathlib.Core.Option.{Option, none as nothing, some, Option·none-ne-some, Option·some-injective}
 use Prim.Native.Nat.{ℕ, zero, suc, _≤_, _<_}
 use native.Mathlib.Omega.{arith}
 use lib.Dec.{leb}
 use lib.ListN.{length, getD}
 use borrow.Author.Tests.{leb-true}
-use Rattle.judge.specs.Tests.{tells-not}
+use Rattle.judge.specs.Tests.{by-test, tells-not}
 use Rattle.judge.specs.Bytes.{Text, sameText}
 use Rattle.judge.specs.Bytes.Laws.{same-text}
 use Rattle.judge.specs.Tree.{leaves, depth, atoms, nodes}
 use Rattle.judge.specs.Syntax.{Spelling, Syntax, names}
-use Rattle.judge.specs.Fault.{wrong}
+use Rattle.judge.specs.Syntax.Machine.{run, start, result}
+use Rattle.judge.specs.Syntax.Sound.{sound}
+use Rattle.judge.specs.Fault.{wrong, accepted, Answers}
 use Rattle.judge.specs.Limits.{maxName, maxDepth, maxAtoms, maxNodes}
 use Rattle.judge.specs.Accept.{Within}
+use Rattle.judge.specs.Accept.Laws.{within-accepted}
 
 module _ {A : Type 0} (f : A → Bool) where
   abbrev pub every : List A → Bool
@@ -72,3 +76,23 @@ within-right t e =
       few-nodes = leb-true _ _ (d .0);
       apart = distinct-apart (names t) (d .1);
     }
+
+abbrev checked : Option Syntax → Option Syntax
+checked nothing = nothing
+checked (some t) = cond (within t) (some t) nothing
+
+-- the tree of an accepted text, computed
+abbrev pub treeOf : Text → Option Syntax
+treeOf x = checked (result (run start x))
+
+pub tree-accepted : (x : Text) (t : Syntax) → treeOf x ≡ some t → Answers x (accepted t)
+tree-accepted x t e = go (result (run start x)) refl e
+  where
+    go : (o : Option Syntax) → result (run start x) ≡ o → checked o ≡ some t → Answers x (accepted t)
+    go nothing r h = absurd (Option·none-ne-some t h)
+    go (some u) r h =
+        by-test (within u)
+        (λ w. let s = sound x u r in
+        let a : Answers x (accepted u) = rw (s .spelt) at (within-accepted u (s .formed) (within-right u w)) in
+        subst (λ v. Answers x (accepted v)) (Option·some-injective u t (rw w at h)) a)
+        (λ w. absurd (Option·none-ne-some t (rw w at h)))

@@ -29,7 +29,9 @@ decimal-value (suc r) n h =
     (λ e. rw e (value-snoc (decimal r (n / 10)) (code "0" + n % 10) ∙ omega (arith, decimal-value r (n / 10) (omega arith))))
 
 digit : (n : ℕ) → n < 10 → T (isDigit (code "0" + n))
-digit n h = yes-and (leb (code "0") (code "0" + n)) (leb (code "0" + n) (code "9")) (le→leb (code "0") (code "0" + n) (omega arith)) (le→leb (code "0" + n) (code "9") (omega arith))
+digit n h =
+    let d = code "0" + n in
+    yes-and (leb (code "0") d) (leb d (code "9")) (le→leb (code "0") d (omega arith)) (le→leb d (code "9") (omega arith))
 
 decimal-digits : (r n : ℕ) → T (all isDigit (decimal r n))
 decimal-digits zero n = tt
@@ -53,12 +55,20 @@ leading-snoc (e ∷ ds) d h k =
     let i = and-yes (isDigit e && not (eqb e (code "0"))) (all isDigit ds) k in
     yes-and (isDigit e && not (eqb e (code "0"))) (all isDigit (ds ++ (d ∷ []))) (i .0) (all-snoc isDigit ds d h (i .1))
 
+leading-one : (n : ℕ) → 1 ≤ n → n < 10 → T (leading ((code "0" + n) ∷ []))
+leading-one n p h =
+    let d = code "0" + n in
+    let z = yes-and (isDigit d) (not (eqb d (code "0"))) (digit n h) (no-eqb {a = d} {b = code "0"} (omega arith)) in
+    yes-and (isDigit d && not (eqb d (code "0"))) true z tt
+
 decimal-leading : (r n : ℕ) → 1 ≤ n → n < 10 ^ r → T (leading (decimal r n))
 decimal-leading zero n p h = absurd (omega arith)
 decimal-leading (suc r) n p h =
     by-test (ltb n 10)
-    (λ e. rw e (yes-and (isDigit (code "0" + n) && not (eqb (code "0" + n) (code "0"))) true (yes-and (isDigit (code "0" + n)) (not (eqb (code "0" + n) (code "0"))) (digit n (ltb-true n 10 e)) (no-eqb {a = code "0" + n} {b = code "0"} (omega arith))) tt))
-    (λ e. let q = ltb-false n 10 e in rw e (leading-snoc (decimal r (n / 10)) (code "0" + n % 10) (digit (n % 10) (omega arith)) (decimal-leading r (n / 10) (omega arith) (omega arith))))
+    (λ e. rw e (leading-one n p (ltb-true n 10 e)))
+    (λ e.
+    let q = ltb-false n 10 e in
+    rw e (leading-snoc (decimal r (n / 10)) _ (digit (n % 10) (omega arith)) (decimal-leading r (n / 10) (omega arith) (omega arith))))
 
 leading-numeral : (ds : Text) → T (leading ds) → T (isNumeral ds)
 leading-numeral [] h = absurd h

@@ -121,7 +121,7 @@ after-range : (κ : Kind) (k : ℕ) → (k ≤ after κ k) × (after κ k ≤ k 
 after-range (Atom lo hi) k = (omega arith, omega arith)
 after-range (Group s n) k = (omega arith, omega arith)
 
-after-from : (κ : Kind) (k : ℕ) → after κ k ≡ after κ 0 + k
+pub after-from : (κ : Kind) (k : ℕ) → after κ k ≡ after κ 0 + k
 after-from (Atom lo hi) k = omega arith
 after-from (Group s n) k = rw zero-add
 

@@ -62,7 +62,7 @@ readable-is r = (
 unfoldable pub ruleType : Rule → Ty
 ruleType r = getD (eval typeBy (used r) 1) 0 ε
 
-rule-type : (t : Model) → ruleType (ruleOf t) ≡ typeOf t
+pub rule-type : (t : Model) → ruleType (ruleOf t) ≡ typeOf t
 unfolding ruleType
 rule-type t = rw (used-is t, eval-tree typeBy t 1)
 

@@ -11,11 +11,8 @@ use Rattle.judge.specs.Word.Order.{touched, ordered}
 use Rattle.judge.specs.Types.Decide.{over?, done, alive, holds?, extends?}
 use Rattle.judge.specs.Bytes.{bytes}
 use Rattle.judge.specs.Syntax.{Syntax}
-use Rattle.judge.specs.Syntax.Machine.{run, start, result}
-use Rattle.judge.specs.Syntax.Sound.{sound}
-use Rattle.judge.specs.Fault.{Answers, accepted}
-use Rattle.judge.specs.Accept.Laws.{within-accepted, accepted-counts}
-use Rattle.judge.specs.Accept.Test.{within, within-right}
+use Rattle.judge.specs.Accept.Laws.{accepted-counts}
+use Rattle.judge.specs.Accept.Test.{treeOf, tree-accepted}
 use Rattle.judge.specs.Model.{modelOf, typeOf}
 use Rattle.judge.specs.Model.Types.{type-conflict-free}
 use Rattle.judge.specs.Verdict.{Says}
@@ -46,27 +43,24 @@ same-verdict Dead Dead e = refl
 
 abbrev judgedRight : Line → Option Syntax → Bool
 judgedRight l nothing = false
-judgedRight l (some t) = within t && sameVerdict (verdict (typeOf (modelOf t)) (numbered t (bytes (l .row)))) (l .says)
+judgedRight l (some t) = sameVerdict (verdict (typeOf (modelOf t)) (numbered t (bytes (l .row)))) (l .says)
 
 abbrev isRight : Line → Bool
-isRight l = judgedRight l (result (run start (bytes (l .model))))
+isRight l = judgedRight l (treeOf (bytes (l .model)))
 
--- what the automaton takes for a model text is one, a tree within the limits is accepted, and its verdict is the meaning's
 is-right : (l : Line) → isRight l ≡ true → Right l
-is-right l e = go (result (run start (bytes (l .model)))) refl e
+is-right l e = go (treeOf (bytes (l .model))) refl e
   where
-    go : (o : Option Syntax) → result (run start (bytes (l .model))) ≡ o → judgedRight l o ≡ true → Right l
+    go : (o : Option Syntax) → treeOf (bytes (l .model)) ≡ o → judgedRight l o ≡ true → Right l
     go nothing r h = absurd (false≢true h)
     go (some t) r h =
         let A = typeOf (modelOf t) in
         let w = numbered t (bytes (l .row)) in
-        let s = sound (bytes (l .model)) t r in
-        let k = (and-eq-true-iff (within t) (sameVerdict (verdict A w) (l .says))) .0 h in
-        let a : Answers (bytes (l .model)) (accepted t) = rw (s .spelt) at (within-accepted t (s .formed) (within-right t (k .0))) in
+        let a = tree-accepted (bytes (l .model)) t r in
         record {
           tree = t;
           read = a;
-          right = subst (Says A w) (same-verdict (verdict A w) (l .says) (k .1))
+          right = subst (Says A w) (same-verdict (verdict A w) (l .says) h)
               (verdict-says A (type-conflict-free (modelOf t) (accepted-counts (bytes (l .model)) t a)) w);
         }
 

@@ -1,11 +1,12 @@
 -- The atoms of a tree: how many there are, and what holds of each.
 use mathlib.Core.Path.{_≡_, refl}
 use mathlib.Core.Logic.{⊎-elim}
-use mathlib.Core.List.{List·Memᴰ, List·Memᴰ·head, List·Memᴰ·eq-of-singleton, List·Memᴰ·append-cases, List·Memᴰ·not-nil, Memᴰ·append-left, Memᴰ·append-right}
+use mathlib.Core.List.{List·Memᴰ, List·Memᴰ·head, List·Memᴰ·eq-of-singleton, List·Memᴰ·not-nil}
+use mathlib.Core.List.{List·Memᴰ·append-cases, Memᴰ·append-left, Memᴰ·append-right}
 use native.Mathlib.Omega.{arith}
 use lib.ListN.{length, length-append}
-use Rattle.judge.specs.Tree.{Node, leaf, group, Tree, marked, Members, none, _▹_, nodeLeaves, leaves, membersLeaves, nodeWeight, atoms, membersWeight}
-use Rattle.judge.specs.Tree.{NodeFormed, Formed, MembersFormed}
+use Rattle.judge.specs.Tree.{Node, leaf, group, Tree, marked, Members, none, _▹_, nodeLeaves, leaves, membersLeaves}
+use Rattle.judge.specs.Tree.{nodeWeight, atoms, membersWeight, NodeFormed, Formed, MembersFormed}
 
 module _ {A : Type 0} where
   mutual
@@ -32,8 +33,10 @@ module _ {A : Type 0} where
 
       each-members : (ts : Members A) → MembersFormed Q ts → ((a : A) → List·Memᴰ a (membersLeaves ts) → P a) → MembersFormed P ts
       each-members none h e = tt
-      each-members (t ▹ ts) h e =
-          (formed-each t (h .0) (λ a m. e a (Memᴰ·append-left (membersLeaves ts) m)), each-members ts (h .1) (λ a m. e a (Memᴰ·append-right (leaves t) m)))
+      each-members (t ▹ ts) h e = (
+        formed-each t (h .0) (λ a m. e a (Memᴰ·append-left (membersLeaves ts) m)),
+        each-members ts (h .1) (λ a m. e a (Memᴰ·append-right (leaves t) m)),
+      )
 
   module _ (P : A → Type 0) where
     mutual

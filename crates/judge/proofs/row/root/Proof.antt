@@ -1,0 +1,199 @@
+use borrow.Author.Needs.{needs}
+use native.Mathlib.Omega.{arith}
+use mathlib.Core.Path.{_≡_, refl, _∙_}
+use Prim.Native.Nat.{_-_, _≤_, _+_}
+use lib.ListN.{length, take, drop, getD}
+use Rattle.judge.specs.Stack.{unmapped}
+use Rattle.judge.specs.Judge.Tally.{unseen}
+use Rattle.judge.specs.Judge.Root.{partAttribute, part-none, part-turn, name-turn, Passed, pass-none, pass-turn, pass-top, pass-empty}
+use Rattle.judge.proofs.row.root.Statement.{statement}
+use Rattle.judge.proofs.row.root.Tie as tie
+
+abbrev Inv-loop2 : tie.InvT-loop2
+Inv-loop2 long rule seen none stack top name i kind mark end x₀ at₀ x at =
+    (top ≤ at) × (at ≤ end) × (x ≡ partAttribute long kind (getD seen name (unseen 0)) (take (at - top) (drop top stack)))
+
+abbrev μ-loop2 : tie.MeasureT-loop2
+μ-loop2 long rule seen none stack top name i kind mark end x₀ at₀ x at = end - at
+
+abbrev Inv-loop : tie.InvT-loop
+Inv-loop long rule seen none stack₀ top₀ name₀ i₀ stack top name i =
+    (i ≤ rule .len) × (i ≤ top) × (top ≤ 128) × (name ≤ 64) × Passed long (λ k. getD seen k (unseen 0)) (rule .nodes) (rule .len) i stack top name
+
+abbrev μ-loop : tie.MeasureT-loop
+μ-loop long rule seen none stack₀ top₀ name₀ i₀ stack top name i = i
+
+empty-requires : tie.Need-empty-requires Inv-loop2 μ-loop2 Inv-loop μ-loop
+empty-requires c κs = search needs
+
+name-count-requires : tie.Need-name-count-requires Inv-loop2 μ-loop2 Inv-loop μ-loop
+name-count-requires c κs = search needs
+
+loop-holds : tie.Need-loop-holds Inv-loop2 μ-loop2 Inv-loop μ-loop
+loop-holds c =
+    let a = c .before .before .args in (
+      search needs,
+      search needs,
+      search needs,
+      search needs,
+      pass-none (a .length) (λ k. getD (a .t3) k (unseen 0)) (a .t1 .nodes) (a .t1 .len) _ _ refl (c .name-count .ensures),
+    )
+
+sub-i : tie.Need-sub-i Inv-loop2 μ-loop2 Inv-loop μ-loop
+sub-i c = search needs
+
+mul-node : tie.Need-mul-node Inv-loop2 μ-loop2 Inv-loop μ-loop
+mul-node c = search needs
+
+element-copy-out-node : tie.Need-element-copy-out-node Inv-loop2 μ-loop2 Inv-loop μ-loop
+element-copy-out-node c = search needs
+
+members-of-requires : tie.Need-members-of-requires Inv-loop2 μ-loop2 Inv-loop μ-loop
+members-of-requires c κs = search needs
+
+sub-smaller : tie.Need-sub-smaller Inv-loop2 μ-loop2 Inv-loop μ-loop
+sub-smaller c = search needs
+
+smaller-requires : tie.Need-smaller-requires Inv-loop2 μ-loop2 Inv-loop μ-loop
+smaller-requires c κs = search needs
+
+add-end : tie.Need-add-end Inv-loop2 μ-loop2 Inv-loop μ-loop
+add-end c = search needs
+
+mul-here : tie.Need-mul-here Inv-loop2 μ-loop2 Inv-loop μ-loop
+mul-here c = search needs
+
+array-copy-out-here : tie.Need-array-copy-out-here Inv-loop2 μ-loop2 Inv-loop μ-loop
+array-copy-out-here c = search needs
+
+begin-requires : tie.Need-begin-requires Inv-loop2 μ-loop2 Inv-loop μ-loop
+begin-requires c κs = search needs
+
+loop2-holds : tie.Need-loop2-holds Inv-loop2 μ-loop2 Inv-loop μ-loop
+loop2-holds c =
+    let v = c .before .before .before .before .before .before .loop in
+    (search needs, omega arith, part-none _ _ _ (v .stack) (v .top) _ (c .begin .ensures))
+
+mul-y : tie.Need-mul-y Inv-loop2 μ-loop2 Inv-loop μ-loop
+mul-y c = search needs
+
+array-copy-out-y : tie.Need-array-copy-out-y Inv-loop2 μ-loop2 Inv-loop μ-loop
+array-copy-out-y c = search needs
+
+grown-requires : tie.Need-grown-requires Inv-loop2 μ-loop2 Inv-loop μ-loop
+grown-requires c κs = search needs
+
+add-at : tie.Need-add-at Inv-loop2 μ-loop2 Inv-loop μ-loop
+add-at c = search needs
+
+loop2-less : tie.Need-loop2-less Inv-loop2 μ-loop2 Inv-loop μ-loop
+loop2-less c = search needs
+
+loop2-again : tie.Need-loop2-again Inv-loop2 μ-loop2 Inv-loop μ-loop
+loop2-again c =
+    let u = c .before .before .before .loop2 in
+    let v = c .before .before .before .before .before .before .before .before .before .before .loop in
+    let l = v .inv .4 .long in
+    (omega arith, omega arith, part-turn _ _ _ (v .stack) (v .top) (u .at) _ (u .x) _ (u .inv .0) (omega arith) (c .grown .ensures) (u .inv .2))
+
+atoms-of-requires : tie.Need-atoms-of-requires Inv-loop2 μ-loop2 Inv-loop μ-loop
+atoms-of-requires c κs = search needs
+
+sub-name : tie.Need-sub-name Inv-loop2 μ-loop2 Inv-loop μ-loop
+sub-name c =
+    let v = c .before .before .before .before .before .before .before .before .before .loop in
+    let r = c .before .before .before .before .before .before .before .before .before .before .before .before .args .t1 in
+    let l : length (r .nodes) ≡ 128 = search (needs, unmapped) in
+    omega (arith, name-turn (r .nodes) (r .len) (v .i) _ (v .name) _ (omega arith) (omega arith) (omega arith) (v .inv .4 .name-is) (c .atoms-of .ensures .0))
+
+sub-top : tie.Need-sub-top Inv-loop2 μ-loop2 Inv-loop μ-loop
+sub-top c = search needs
+
+marked-requires : tie.Need-marked-requires Inv-loop2 μ-loop2 Inv-loop μ-loop
+marked-requires c κs = search needs
+
+mul-stack : tie.Need-mul-stack Inv-loop2 μ-loop2 Inv-loop μ-loop
+mul-stack c = search needs
+
+array-set-from-stack : tie.Need-array-set-from-stack Inv-loop2 μ-loop2 Inv-loop μ-loop
+array-set-from-stack c = search needs
+
+loop-less : tie.Need-loop-less Inv-loop2 μ-loop2 Inv-loop μ-loop
+loop-less c = search needs
+
+loop-again : tie.Need-loop-again Inv-loop2 μ-loop2 Inv-loop μ-loop
+loop-again c =
+    let u = c .before .before .before .loop2 in
+    let v = c .before .before .before .before .before .before .before .before .before .before .loop in
+    let a = c .before .before .before .before .before .before .before .before .before .before .before .before .before .args in
+    let r = a .t1 in
+    let l : length (r .nodes) ≡ 128 = search (needs, unmapped) in
+    let z : u .at ≡ c .before .before .before .before .before .before .smaller .result + v .top = omega arith in (
+      search needs,
+      omega arith,
+      omega arith,
+      omega arith,
+      pass-turn (a .length) (λ k. getD (a .t3) k (unseen 0)) (r .nodes) (r .len) (v .i) _ (v .stack) (v .top) (v .name) _ _ _ (u .x) _
+          (omega arith) (omega arith) (omega arith) (omega arith) (omega arith) (c .before .before .before .before .before .before .before .members-of .ensures) (c .before .before .before .before .before .before .smaller .ensures) (c .before .atoms-of .ensures .0)
+          (rw z at (u .inv .2)) (c .marked .ensures) (v .inv .4),
+    )
+
+mul-result : tie.Need-mul-result Inv-loop2 μ-loop2 Inv-loop μ-loop
+mul-result c = search needs
+
+array-copy-out-result : tie.Need-array-copy-out-result Inv-loop2 μ-loop2 Inv-loop μ-loop
+array-copy-out-result c = search needs
+
+returns : tie.Need-returns Inv-loop2 μ-loop2 Inv-loop μ-loop
+returns c =
+    let v = c .before .before .before .loop in
+    let a = c .before .before .before .before .before .before .args in
+    pass-top (a .length) (λ k. getD (a .t3) k (unseen 0)) (a .t1) (v .i) (v .stack) (v .top) (v .name) (omega arith) (v .inv .4) _ (omega arith)
+
+returns-2 : tie.Need-returns-2 Inv-loop2 μ-loop2 Inv-loop μ-loop
+returns-2 c =
+    let v = c .before .before .loop in
+    let a = c .before .before .before .before .before .args in
+    c .before .before .before .before .empty .ensures
+    ∙ pass-empty (a .length) (λ k. getD (a .t3) k (unseen 0)) (a .t1) (v .i) (v .stack) (v .top) (v .name) (omega arith) (v .inv .4) (omega arith)
+
+pub root-spec : {M : Type 1} → statement M
+root-spec =
+    tie.close
+    (tie.spec
+    Inv-loop2
+    μ-loop2
+    Inv-loop
+    μ-loop
+    empty-requires
+    name-count-requires
+    loop-holds
+    sub-i
+    mul-node
+    element-copy-out-node
+    members-of-requires
+    sub-smaller
+    smaller-requires
+    add-end
+    mul-here
+    array-copy-out-here
+    begin-requires
+    loop2-holds
+    mul-y
+    array-copy-out-y
+    grown-requires
+    add-at
+    loop2-less
+    loop2-again
+    atoms-of-requires
+    sub-name
+    sub-top
+    marked-requires
+    mul-stack
+    array-set-from-stack
+    loop-less
+    loop-again
+    mul-result
+    array-copy-out-result
+    returns
+    returns-2)

@@ -1,0 +1,39 @@
+use borrow.Author.Needs.{needs}
+use native.Mathlib.Omega.{arith}
+use mathlib.Core.Path.{_∙_}
+use Rattle.judge.specs.Judge.Pass.{verdict-tallied, readable-within}
+use Rattle.judge.proofs.row.verdict_by.Statement.{statement}
+use Rattle.judge.proofs.row.verdict_by.Tie as tie
+
+name-count-requires : tie.Need-name-count-requires
+name-count-requires c κs = search needs
+
+tally-row-requires : tie.Need-tally-row-requires
+tally-row-requires c κs =
+    let a = c .before .before in
+    let w = readable-within (a .args .rule) (a .pre .0) in
+    (a .pre .1, omega arith)
+
+cast-verdict-seen : tie.Need-cast-verdict-seen
+cast-verdict-seen c = search needs
+
+verdict-seen-requires : tie.Need-verdict-seen-requires
+verdict-seen-requires c κs =
+    let a = c .before .before .before .before in
+    readable-within (a .args .rule) (a .pre .0)
+
+returns : tie.Need-returns
+returns c =
+    let a = c .before .before .before .before .before in
+    c .verdict-seen .ensures
+    ∙ verdict-tallied (a .args .rule) (a .pre .0) (a .args .row .now) (a .pre .2) (c .before .before .before .name-count .result) (c .before .before .before .name-count .ensures) (c .before .before .tally-row .result) (c .before .before .tally-row .ensures)
+
+pub verdict-by-spec : {M : Type 1} → statement M
+verdict-by-spec =
+    tie.close
+    (tie.spec
+    name-count-requires
+    tally-row-requires
+    cast-verdict-seen
+    verdict-seen-requires
+    returns)

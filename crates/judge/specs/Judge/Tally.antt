@@ -1,0 +1,128 @@
+-- What the first pass over a row knows of each name: of the whole row at its end, of the children passed at each turn.
+use mathlib.Core.Path.{_≡_, refl, sym, ap, _∙_}
+use mathlib.Core.Bool.{Bool, true, false, cond, _&&_, and-true, and-false, true≢false, false≢true}
+use mathlib.Core.List.{List, [], _∷_, _++_}
+use Prim.Native.Nat.{ℕ, _+_, _≤_, _<_, min}
+use native.Mathlib.Numerals.{add-one}
+use native.Mathlib.Nat.{min-eq-left, min-eq-right}
+use native.Mathlib.Omega.{arith}
+use lib.Dec.{leb}
+use lib.ListN.{length, take, getD, set, replicate, getD-replicate, length-replicate, length-set, length-take}
+use lib.Seq.{take-suc, getD-set-same, getD-set-other, length-take-le}
+use borrow.Author.Tests.{le-leb, lt-leb}
+use Rattle.judge.specs.declared.row.Seen.{Seen}
+use Rattle.judge.specs.declared.row.Tally.{Tally}
+use Rattle.judge.specs.Tests.{by-test}
+use Rattle.judge.specs.Word.{Word, Names, only}
+use Rattle.judge.specs.Word.Laws.{only-is, only-self}
+use Rattle.judge.specs.Word.Projection.{count, keep}
+use Rattle.judge.specs.Word.Order.{touched}
+use Rattle.judge.specs.Word.Span.{first, behind, first-untouched, touched-more, count-more, first-more, behind-more}
+use Rattle.judge.specs.Types.Attribute.{seen}
+use Rattle.judge.specs.Judge.Laws.{upto}
+
+-- of a row of n children, none of which is the name
+abbrev pub unseen : ℕ → Seen
+unseen n = record { count = 0; first = n; behind = 0 }
+
+-- the name stands at place i too, behind all its places so far
+abbrev pub noting : Seen → ℕ → Seen
+noting s i = record { count = s .count + 1; first = min (s .first) i; behind = i + 1 }
+
+-- of the first children w of a row of n
+unfoldable pub seenIn : ℕ → Word → ℕ → Seen
+seenIn n w a = record { count = count a w; first = cond (touched (only a) w) (first (only a) w) n; behind = behind (only a) w }
+
+seen-none : (n a : ℕ) → seenIn n [] a ≡ unseen n
+unfolding seenIn keep touched behind
+seen-none n a = refl
+
+seen-whole : (w : Word) (a : ℕ) → seenIn (length w) w a ≡ seen w a
+unfolding seenIn seen
+seen-whole w a = by-test (touched (only a) w) (λ e. rw e) (λ e. rw (e, first-untouched (only a) w e))
+
+first-inside : (p : Names) (w : Word) → touched p w ≡ true → first p w < length w
+unfolding touched first
+first-inside p [] e = absurd (false≢true e)
+first-inside p (x ∷ w) e = by-test (p x) (λ f. rw f (omega arith)) (λ f. rw f (omega (arith, first-inside p w (rw f at e))))
+
+seen-more : (n : ℕ) (w : Word) (x a : ℕ) → length w < n
+    → seenIn n (w ++ (x ∷ [])) a ≡ cond (only a x) (noting (seenIn n w a) (length w)) (seenIn n w a)
+unfolding seenIn
+seen-more n w x a h =
+    rw (count-more a w x, touched-more (only a) w x, first-more (only a) w x, behind-more (only a) w x)
+    (by-test (touched (only a) w)
+    (λ t. let i = first-inside (only a) w t in
+    let j : first (only a) w ≤ length w = omega arith in
+    by-test (only a x) (λ e. rw (t, e, min-eq-left j) (simp add-one)) (λ e. rw (t, e)))
+    (λ t. let j : length w ≤ n = omega arith in
+    by-test (only a x) (λ e. rw (t, e, min-eq-right j) (simp add-one)) (λ e. rw (t, e))))
+
+upto-more : (m : ℕ) (w : Word) (x : ℕ) → upto m (w ++ (x ∷ [])) ≡ (upto m w && leb x m)
+upto-more m [] x = and-true (leb x m)
+upto-more m (y ∷ w) x = by-test (leb y m) (λ e. rw e (upto-more m w x)) (λ e. rw e)
+
+-- what is known of the first children w of a row of n: of each name up to m what is seen, and whether no number is above m
+pub record Seeing (m n : ℕ) (w : Word) (s : List Seen) (named : Bool) : Type 0 where
+  pub room : m < length s
+  pub seen-is : (k : ℕ) → k ≤ m → getD s k (unseen 0) ≡ seenIn n w k
+  pub named-is : named ≡ upto m w
+
+-- t tells it of the row w
+pub record Tallied (m : ℕ) (w : Word) (t : Tally) : Type 0 where
+  pub seen-is : (k : ℕ) → k ≤ m → getD (t .seen) k (unseen 0) ≡ seen w k
+  pub named-is : t .named ≡ upto m w
+
+pub seeing-none : (m n size : ℕ) → m < size → Seeing m n [] (replicate size (unseen n)) true
+seeing-none m n size g =
+    record { room = rw length-replicate g; seen-is = λ k h. getD-replicate size k (unseen n) (unseen 0) (omega arith) ∙ sym (seen-none n k); named-is = refl }
+
+keep-bound : (p : Names) (w : Word) → length (keep p w) ≤ length w
+unfolding keep
+keep-bound p [] = omega arith
+keep-bound p (x ∷ w) =
+    let h = keep-bound p w in
+    by-test (p x) (λ e. rw e (omega arith)) (λ e. rw e (omega arith))
+
+pub seeing-bound : (m : ℕ) (row : Word) (i : ℕ) (s : List Seen) (b : Bool) → Seeing m (length row) (take i row) s b
+    → (k : ℕ) → k ≤ m → getD s k (unseen 0) .count ≤ length row
+unfolding seenIn
+seeing-bound m row i s b t k h =
+    rw (t .seen-is k h) (omega (arith, keep-bound (only k) (take i row), length-take i row))
+
+-- a child more, at place i
+module _ (m : ℕ) (row : Word) (i : ℕ) (s : List Seen) (b : Bool) (h : i < length row) (t : Seeing m (length row) (take i row) s b) where
+  one-more : take (i + 1) row ≡ take i row ++ (getD row i 0 ∷ [])
+  one-more = rw (add-one, take-suc row i 0 h)
+
+  passed : length (take i row) ≡ i
+  passed = length-take-le i row (omega arith)
+
+  seen-next : (k : ℕ)
+      → seenIn (length row) (take (i + 1) row) k ≡ cond (only k (getD row i 0)) (noting (seenIn (length row) (take i row) k) i) (seenIn (length row) (take i row) k)
+  seen-next k = rw (one-more, seen-more (length row) (take i row) (getD row i 0) k (omega (arith, passed)), passed)
+
+  pub seeing-more : getD row i 0 ≤ m
+      → Seeing m (length row) (take (i + 1) row) (set s (getD row i 0) (noting (getD s (getD row i 0) (unseen 0)) i)) b
+  seeing-more g =
+      let x = getD row i 0 in
+      let y = noting (getD s x (unseen 0)) i in
+      let r : x < length s = omega arith in
+      record {
+        room = rw length-set (t .room);
+        seen-is = λ k l. rw (seen-next k)
+            (by-test (only k x)
+            (λ f. rw (f, ← only-is k x f, getD-set-same s x y (unseen 0) r) (ap (λ z. noting z i) (t .seen-is x g)))
+            (λ f. rw (f, getD-set-other s x k y (unseen 0) (λ q. true≢false (sym (only-self x) ∙ (rw q at f)))) (t .seen-is k l)));
+        named-is = rw (one-more, upto-more, le-leb x m g, and-true) (t .named-is);
+      }
+
+  pub seeing-less : m < getD row i 0 → Seeing m (length row) (take (i + 1) row) s false
+  seeing-less g = record {
+    room = t .room;
+    seen-is = λ k l. rw (seen-next k) (by-test (only k (getD row i 0)) (λ f. absurd (omega (arith, only-is k (getD row i 0) f))) (λ f. rw f (t .seen-is k l)));
+    named-is = rw (one-more, upto-more, lt-leb (getD row i 0) m g, and-false);
+  }
+
+pub tallied : (m : ℕ) (w : Word) (s : List Seen) (b : Bool) → Seeing m (length w) w s b → Tallied m w (record { seen = s; named = b })
+tallied m w s b t = record { seen-is = λ k h. t .seen-is k h ∙ seen-whole w k; named-is = t .named-is }
