@@ -2,4 +2,6 @@
 --   Cues       a cue list's lines, and what is wrong with one
 --   Listing    the lines of a listing
 pub mod Cues
+pub mod Number
+pub mod Put
 pub mod Listing
