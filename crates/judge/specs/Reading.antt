@@ -10,10 +10,9 @@ pub mod Walk
 pub mod Atom
 pub mod Group
 pub mod Whole
-use mathlib.Core.Bool.{Bool, true, false, cond, _&&_}
-use mathlib.Core.List.{List, [], _∷_, _++_, map}
-use Prim.Native.Nat.{ℕ, suc, _-_}
-use lib.Dec.{eqb}
+pub mod Laws
+use mathlib.Core.List.{List, [], _++_, map}
+use Prim.Native.Nat.{ℕ, _-_}
 use lib.ListN.{length, replicate, take, drop}
 use Rattle.judge.specs.declared.fault.ModelFault.{ModelFault}
 use Rattle.judge.specs.declared.rule.Sign.the-variants.{None}
@@ -22,7 +21,6 @@ use Rattle.judge.specs.declared.rule.Node.{Node as RuleNode}
 use Rattle.judge.specs.declared.rule.Rule.{Rule}
 use Rattle.judge.specs.declared.text.NamePlace.{NamePlace}
 use Rattle.judge.specs.declared.text.Names.{Names}
-use Rattle.judge.specs.declared.text.Outcome.{Outcome}
 use Rattle.judge.specs.declared.text.Outcome.the-variants.{Read, Refused}
 use Rattle.judge.specs.declared.text.Reading.{Reading}
 use Rattle.judge.specs.Bytes.{Text}
@@ -62,21 +60,6 @@ readingBy x (accepted t) = record { outcome = Read; rule = ruleOf (modelOf t); n
 
 abbrev pub reading : Text → Reading
 reading x = readingBy x (answer x)
-
--- the same bytes
-abbrev pub sameText : Text → Text → Bool
-sameText [] [] = true
-sameText [] (c ∷ y) = false
-sameText (b ∷ x) [] = false
-sameText (b ∷ x) (c ∷ y) = eqb b c && sameText x y
-
--- the number of the first of these texts that is t, where the first has number k; 0 where none is
-abbrev pub numberFrom : ℕ → List Text → Text → ℕ
-numberFrom k [] t = 0
-numberFrom k (u ∷ l) t = cond (sameText u t) k (numberFrom (suc k) l t)
-
-abbrev pub numberIn : List Text → Text → ℕ
-numberIn l t = numberFrom 1 l t
 
 abbrev pub partAt : Text → NamePlace → Text
 partAt x p = take (p .len) (drop (p .start) x)

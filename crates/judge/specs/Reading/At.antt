@@ -1,6 +1,6 @@
 -- The reader at a place: the automaton's state there, with no fault before it, and the places of the names that began.
-use mathlib.Core.Path.{_≡_, refl, sym, ap, subst, _∙_}
-use mathlib.Core.Bool.{Bool, true, false, cond, not, _&&_}
+use mathlib.Core.Path.{_≡_, sym, ap, subst, _∙_}
+use mathlib.Core.Bool.{Bool, true, false}
 use mathlib.Core.List.{List, [], _∷_, _++_, append-assoc, append-nil, cons≢nil, head-eq-of-cons-eq, tail-eq-of-cons-eq}
 use mathlib.Core.Option.{none as nothing}
 use Prim.Native.Nat.{ℕ, zero, suc, _+_, _≤_, _<_}
@@ -12,8 +12,7 @@ use lib.Dec.{T}
 use lib.ListN.{length, take, drop, getD}
 use lib.Seq.{take-length, getD-drop}
 use Rattle.judge.specs.declared.fault.ModelFault.the-variants.{Spelling}
-use Rattle.judge.specs.Bytes.{Text, isLetter, front}
-use Rattle.judge.specs.Bytes.Laws.{cond-cases, T-true}
+use Rattle.judge.specs.Bytes.{Text, front}
 use Rattle.judge.specs.Tests.{by-test}
 use Rattle.judge.specs.Syntax.Machine.{State, dead, Alive, step, run, start, here, result}
 use Rattle.judge.specs.Syntax.Counters.{isExpect, run-take, Even, even}

@@ -1,33 +1,30 @@
 -- Reading an atom: its name and the faults that can stand at the first letter, its count, its mark.
-use mathlib.Core.Path.{_≡_, refl, sym, ap, subst, _∙_}
+use mathlib.Core.Path.{_≡_, refl, sym, ap, _∙_}
 use mathlib.Core.Logic.{_↔_}
-use mathlib.Core.Bool.{Bool, true, false, cond, not, _&&_, _||_}
-use mathlib.Core.List.{List, [], _∷_, _++_, append-assoc, append-nil, map, map-append}
+use mathlib.Core.Bool.{true, false}
+use mathlib.Core.List.{List, [], _∷_, _++_, map, map-append}
 use Prim.Native.Nat.{ℕ, suc, _+_, _-_, _*_, _/_, _%_, _≤_, _<_}
 use Prim.Native.Char.{code}
 use native.Mathlib.Omega.{arith}
 use native.Mathlib.Numerals.{add-one}
-use lib.Dec.{T, eqb}
-use lib.ListN.{length, take, drop, set, getD, length-append}
-use borrow.Author.Tests.{eqb-true, ne-eqb}
+use lib.ListN.{length, drop, set, getD, length-append, length-map}
 use Rattle.judge.specs.declared.fault.ModelFault.{ModelFault}
 use Rattle.judge.specs.declared.fault.ModelFault.the-variants.{Size, Spelling as Misspelling, LongName, WrongCount, TooDeep, ManyAtoms, ManyNodes, Repeated}
 use Rattle.judge.specs.declared.rule.Upper.{Upper}
 use Rattle.judge.specs.declared.rule.Upper.the-variants.{Number}
-use Rattle.judge.specs.declared.rule.Mark.the-variants.{Plain, Optional}
-use Rattle.judge.specs.declared.rule.Kind.the-variants.{Atom, Group}
+use Rattle.judge.specs.declared.rule.Mark.the-variants.{Plain}
+use Rattle.judge.specs.declared.rule.Kind.the-variants.{Atom}
 use Rattle.judge.specs.declared.text.Cursor.{Cursor}
 use Rattle.judge.specs.declared.text.Counted.{Counted}
 use Rattle.judge.specs.declared.text.Counted.the-variants.{Counts, Bad, Wrong}
-use Rattle.judge.specs.declared.text.NamePlace.{NamePlace}
 use Rattle.judge.specs.declared.text.Got.{Got}
 use Rattle.judge.specs.declared.text.Got.the-variants.{Past, Fault as Faulty}
 use Rattle.judge.specs.Bytes.{Text, isLetter, isInner}
 use Rattle.judge.specs.Bytes.Laws.{cond-true, T-true, letter-inner}
-use Rattle.judge.specs.Tree.{leaf, marked, weight, membersWeight}
+use Rattle.judge.specs.Tree.{marked}
 use Rattle.judge.specs.Tree.Map.{weight-map, membersWeight-map}
-use Rattle.judge.specs.Syntax.{Count, unwritten, Spelling, Syntax}
-use Rattle.judge.specs.Syntax.Machine.{atom, Frame, opened, signed, expect, naming, after, State, at, stepAfter, step, here}
+use Rattle.judge.specs.Syntax.{Count, unwritten}
+use Rattle.judge.specs.Syntax.Machine.{atom, Frame, opened, signed, naming, at, stepAfter, step, here}
 use Rattle.judge.specs.Syntax.Complete.{node-step, behindAtom}
 use Rattle.judge.specs.Syntax.Counters.{stackWeight, frameWeight, Even, even}
 use Rattle.judge.specs.Model.{countsOf}
@@ -42,11 +39,10 @@ use Rattle.judge.specs.Reading.Lexeme.{countAt}
 use Rattle.judge.specs.Reading.Lexeme.Laws.{front-step}
 use Rattle.judge.specs.Reading.Packed.{nodeOf, placeOf, plain}
 use Rattle.judge.specs.Reading.Search.{Comparable, among, twice-found, twice-missed}
-use Rattle.judge.specs.Reading.Filled.{map-length}
-use Rattle.judge.specs.Reading.Buffer.{Holds, holds-count, holds-more}
+use Rattle.judge.specs.Reading.Buffer.{holds-count, holds-more}
 use Rattle.judge.specs.Reading.At.{At, run-front, front-over}
 use Rattle.judge.specs.Reading.Count.{CountRead, CountDone, count-read}
-use Rattle.judge.specs.Reading.Walk.{Marking, treeNodes, frameNodes, stackNodes, stackOf, NodesHeld, NamesHeld, Read, Behind, Member, Expecting, mark-read, mark-names}
+use Rattle.judge.specs.Reading.Walk.{Marking, treeNodes, frameNodes, stackNodes, stackOf, NodesHeld, Read, Member, Expecting, mark-read, mark-names}
 
 -- the name was read up to `end`
 pub record NameRead (x : Text) (work : List ℕ) (c : Cursor) (end : ℕ) (k : List Frame) : Type 0 where
@@ -141,7 +137,7 @@ module _ (x : Text) (work names : List ℕ) (c : Cursor) (k : List Frame) (r : E
 
   pub names-many : tally (nameAt x) (c .at) ≡ c .names
   names-many =
-      sym (places-tally x (c .at)) ∙ ap length (r .at-is .names) ∙ sym (map-length (namePlace x) (namePlace x 0) [] (r .spots)) ∙ holds-count placeOf 64 names (c .names) (map (namePlace x) (r .spots)) (r .named)
+      sym (places-tally x (c .at)) ∙ ap length (r .at-is .names) ∙ sym (length-map (r .spots) (namePlace x)) ∙ holds-count placeOf 64 names (c .names) (map (namePlace x) (r .spots)) (r .named)
 
   pub nodes-many : tally (nodeAt x) (c .at) ≡ c .nodes
   unfolding level

@@ -1,7 +1,7 @@
 -- Members and groups: what each byte that the two readers look at does to the automaton's state and to what the arrays hold.
-use mathlib.Core.Path.{_≡_, refl, sym, ap, subst, _∙_}
+use mathlib.Core.Path.{_≡_, refl, sym, ap, _∙_}
 use mathlib.Core.Logic.{_↔_, ⊎-elim}
-use mathlib.Core.Bool.{Bool, true, false, cond, not, _&&_, _||_, and-false, true≢false}
+use mathlib.Core.Bool.{Bool, true, false, not, _&&_, _||_, and-false, true≢false}
 use mathlib.Core.List.{List, [], _∷_, _++_, append-assoc, append-nil, tail}
 use mathlib.Core.Option.{none as nothing}
 use Prim.Native.Nat.{ℕ, suc, _+_, _-_, _≤_, _<_}
@@ -25,19 +25,19 @@ use Rattle.judge.specs.Types.{Operator, sequence, choice, interleaving}
 use Rattle.judge.specs.Bytes.{Text, isLetter}
 use Rattle.judge.specs.Bytes.Laws.{T-true}
 use Rattle.judge.specs.Tests.{by-test}
-use Rattle.judge.specs.Tree.{leaf, group, marked, Members, none, _▹_, size, mapMembers}
+use Rattle.judge.specs.Tree.{leaf, group, marked, Members, none, _▹_, size}
 use Rattle.judge.specs.Tree.Map.{size-map}
 use Rattle.judge.specs.Syntax.{Spelling, Syntax}
-use Rattle.judge.specs.Syntax.Machine.{snoc, signOf, byteOf, Frame, opened, signed, expect, after, State, dead, at, Alive, bySign, close, shut, step, here, result}
+use Rattle.judge.specs.Syntax.Machine.{snoc, signOf, byteOf, Frame, opened, signed, expect, after, State, dead, at, close, shut, step, here, result}
 use Rattle.judge.specs.Syntax.Complete.{behind}
 use Rattle.judge.specs.Model.{countsOf}
-use Rattle.judge.specs.Limits.{maxDepth, maxNodes}
+use Rattle.judge.specs.Limits.{maxNodes}
 use Rattle.judge.specs.Fault.{is, Fault, modelNumber, refused, Answers}
 use Rattle.judge.specs.Fault.Places.{BracketFault, bracket-faults, bracket-next, bracket-faultless, found-by, clean-more, end-faultless}
 use Rattle.judge.specs.Rule.{unused}
 use Rattle.judge.specs.Reading.Lexeme.Laws.{stands-inside}
 use Rattle.judge.specs.Reading.Packed.{nodeOf, plain, signBy, isSign}
-use Rattle.judge.specs.Reading.Buffer.{Holds, holds-count, holds-more, holds-set}
+use Rattle.judge.specs.Reading.Buffer.{holds-count, holds-more, holds-set}
 use Rattle.judge.specs.Reading.At.{At, next, step-on, bad}
 use Rattle.judge.specs.Reading.Atom.{nodes-many}
 use Rattle.judge.specs.Reading.Walk.{joins, Marking, treeNodes, membersNodes, frameNodes, stackNodes, stackOf, NodesHeld, Read, Behind, Member, Expecting, Ready, Closed, GroupRead, frameSign, frameSize, Inside, mark-read, mark-names, not-expecting}

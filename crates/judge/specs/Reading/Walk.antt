@@ -1,17 +1,14 @@
 -- What the member reader and the group reader say of the places that they come to: the automaton's state there, and what the two lent arrays hold.
-use mathlib.Core.Path.{_≡_, refl, sym, ap, subst, _∙_}
-use mathlib.Core.Bool.{Bool, true, false, cond, not, _&&_, _||_}
-use mathlib.Core.List.{List, [], _∷_, _++_, append-assoc, append-nil, map, map-append, tail}
-use mathlib.Core.Option.{none as nothing, some}
-use Prim.Native.Nat.{ℕ, zero, suc, _+_, _-_, _*_, _≤_, _<_}
+use mathlib.Core.Path.{_≡_, refl, ap, _∙_}
+use mathlib.Core.Bool.{Bool, true, false, cond, _||_}
+use mathlib.Core.List.{List, [], _∷_, _++_, map}
+use Prim.Native.Nat.{ℕ, suc, _+_, _<_}
 use Prim.Native.Char.{code}
 use native.Mathlib.Omega.{arith}
-use native.Mathlib.Numerals.{add-one}
-use lib.Dec.{T, eqb}
-use lib.ListN.{length, take, drop, set, getD, length-append}
-use borrow.Author.Tests.{eqb-true, ne-eqb}
+use lib.Dec.{eqb}
+use lib.ListN.{length, set, getD}
+use borrow.Author.Tests.{eqb-true}
 use Rattle.judge.specs.declared.fault.ModelFault.{ModelFault}
-use Rattle.judge.specs.declared.fault.ModelFault.the-variants.{Spelling as Misspelling, LongName, TooDeep, ManyAtoms, ManyNodes, Repeated}
 use Rattle.judge.specs.declared.rule.Sign.{Sign}
 use Rattle.judge.specs.declared.rule.Mark.{Mark}
 use Rattle.judge.specs.declared.rule.Mark.the-variants.{Plain, Optional}
@@ -21,20 +18,20 @@ use Rattle.judge.specs.declared.rule.Node.{Node as RuleNode}
 use Rattle.judge.specs.declared.text.Cursor.{Cursor}
 use Rattle.judge.specs.declared.text.Got.{Got}
 use Rattle.judge.specs.declared.text.Got.the-variants.{Past, Fault as Faulty}
-use Rattle.judge.specs.Bytes.{Text, isLetter, isInner}
-use Rattle.judge.specs.Tree.{Node, leaf, group, marked, Members, none, _▹_, size, mapMembers}
+use Rattle.judge.specs.Bytes.{Text}
+use Rattle.judge.specs.Tree.{Node, leaf, group, marked, Members, size, mapMembers}
 use Rattle.judge.specs.Syntax.{Count, unwritten, between, onward, Spelling, Syntax}
-use Rattle.judge.specs.Syntax.Machine.{snoc, byteOf, signOf, markOf, atom, bare, Frame, opened, signed, expect, naming, after, State, dead, at, close, shut, stepAfter, step, here}
-use Rattle.judge.specs.Syntax.Complete.{behindAtom, behindNode, behind, node-step, after-parts}
+use Rattle.judge.specs.Syntax.Machine.{byteOf, Frame, opened, signed, expect, after, State, dead, at, close, shut, stepAfter, step}
+use Rattle.judge.specs.Syntax.Complete.{behindAtom, behindNode, behind, after-parts}
 use Rattle.judge.specs.Syntax.Counters.{isExpect}
 use Rattle.judge.specs.Model.{countsOf, modelOf, encode, encodeAll}
 use Rattle.judge.specs.Rule.{unused}
 use Rattle.judge.specs.Fault.{is, refused, Answers}
 use Rattle.judge.specs.Reading.{namePlace}
-use Rattle.judge.specs.Reading.Packed.{nodeOf, placeOf, plain, optional, signBy}
+use Rattle.judge.specs.Reading.Packed.{nodeOf, placeOf, plain, optional}
 use Rattle.judge.specs.Reading.Lexeme.Laws.{stands-inside}
 use Rattle.judge.specs.Reading.Buffer.{Holds, holds-set, holds-get}
-use Rattle.judge.specs.Reading.At.{At, step-on, bad}
+use Rattle.judge.specs.Reading.At.{At, step-on}
 
 -- may b part two members, where the byte that parted members so far is `sign` (0: none yet)
 abbrev pub joins : ℕ → ℕ → Bool

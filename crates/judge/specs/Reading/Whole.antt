@@ -1,10 +1,10 @@
 -- The whole text: where the reader starts, and what its answer says.
 use mathlib.Core.Path.{_≡_, refl, sym, ap, _∙_}
 use mathlib.Core.Logic.{⊎-elim, inl, inr}
-use mathlib.Core.Bool.{Bool, true, false, not, _||_}
+use mathlib.Core.Bool.{true, false, not, _||_}
 use mathlib.Core.List.{List, [], map}
 use mathlib.Core.Option.{some}
-use Prim.Native.Nat.{ℕ, zero, _≤_, _<_}
+use Prim.Native.Nat.{ℕ, _≤_, _<_}
 use native.Mathlib.Omega.{arith}
 use lib.Dec.{T, ltb, eqb, eqb→eq, ltb→lt, nltb→le}
 use lib.ListN.{length, take, replicate}
@@ -23,7 +23,7 @@ use Rattle.judge.specs.declared.text.Got.the-variants.{Past, Fault as Fa
 use Rattle.judge.specs.Bytes.{Text}
 use Rattle.judge.specs.Tree.{leaf, group, marked}
 use Rattle.judge.specs.Syntax.{Count, unwritten, between, onward, Syntax}
-use Rattle.judge.specs.Syntax.Machine.{atom, State, at, run, start, here, whole, result}
+use Rattle.judge.specs.Syntax.Machine.{atom, at, run, start, whole, result}
 use Rattle.judge.specs.Syntax.Complete.{behindAtom, behind}
 use Rattle.judge.specs.Model.{modelOf}
 use Rattle.judge.specs.Rule.{ruleOf}
@@ -31,11 +31,11 @@ use Rattle.judge.specs.Limits.{maxText}
 use Rattle.judge.specs.Fault.{refused, accepted, Answers}
 use Rattle.judge.specs.Fault.Answered.{answer-is}
 use Rattle.judge.specs.Fault.Ties.{places}
-use Rattle.judge.specs.Fault.Places.{Sized, size-answers, dead-answers, accepted-answers}
+use Rattle.judge.specs.Fault.Places.{size-answers, dead-answers, accepted-answers}
 use Rattle.judge.specs.Reading.{namePlace, ruleWith, namesWith, namesOf, refusal, readingBy, reading}
 use Rattle.judge.specs.Reading.Packed.{nodeOf, placeOf}
 use Rattle.judge.specs.Reading.At.{next}
-use Rattle.judge.specs.Reading.Walk.{stackOf, Behind, Member, member-fault, Ready}
+use Rattle.judge.specs.Reading.Walk.{Behind, Member, member-fault, Ready}
 
 pub refused-is : (x : Text) (f : ModelFault) (p : ℕ) → Answers x (refused f p) → refusal f p ≡ reading x
 refused-is x f p a = ap (readingBy x) (answer-is x (refused f p) a)

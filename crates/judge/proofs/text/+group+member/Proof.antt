@@ -1,14 +1,14 @@
-use mathlib.Core.Path.{_≡_, sym, ap, subst, _∙_}
+-- The text left falls with each call. Each return is one case of `Reading.Group`.
+use mathlib.Core.Path.{sym, ap, _∙_}
 use mathlib.Core.List.{tail}
 use native.Mathlib.Omega.{arith}
 use borrow.Author.Needs.{needs}
 use Rattle.judge.specs.Syntax.Machine.{here}
 use Rattle.judge.specs.Reading.Walk.{stackOf, member-fault, group-fault}
-use Rattle.judge.specs.Reading.Lexeme.Laws.{stands-inside}
 use Rattle.judge.specs.Reading.Group.{member-stops, member-bad, too-deep, many-groups, goes-in, closed-fits, group-member, sign-known, members-fit, node-fits, empty-inside, group-empty, group-ready, member-fits, group-stops, past-inside, group-ends, group-bad, group-joins, group-on}
 use mathlib.Core.Bool.{_&&_}
 use lib.Dec.{eqb}
-use Prim.Native.Nat.{_+_, _-_, _*_, _≤_}
+use Prim.Native.Nat.{_+_, _-_, _*_}
 use lib.ListN.{length}
 use Prim.Native.Nat.{ℕ, _<_}
 use borrow.Fn.Kinds.{In}

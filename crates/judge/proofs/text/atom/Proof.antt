@@ -1,19 +1,13 @@
-use mathlib.Core.Path.{_≡_, sym, subst, _∙_}
-use Prim.Native.Nat.{_<_, _≤_}
+-- At the first letter the faults are tried in the order of their numbers (`Reading.Atom`).
+use mathlib.Core.Path.{sym, subst, _∙_}
+use Prim.Native.Nat.{_<_}
 use native.Mathlib.Omega.{arith}
-use lib.ListN.{length}
 use mathlib.Core.List.{List}
 use Rattle.judge.specs.Syntax.Machine.{here, Frame}
 use Rattle.judge.specs.Reading.Walk.{stackOf}
 use Rattle.judge.specs.Reading.Atom.{NameRead, letter-inside, long-name, many-atoms, many-nodes, comparable, repeated-name, name-read, name-stack, atom-member}
-use borrow.Author.Needs.{needs}
 use Rattle.judge.proofs.text.atom.Statement.{statement}
 use Rattle.judge.proofs.text.atom.Tie as tie
-use Rattle.judge.proofs.text.atom.Reads as reads
-use Rattle.judge.proofs.text.atom.Lts as lts
-use Rattle.judge.proofs.text.atom_rest.Reads as atom-rest-reads
-use Rattle.judge.proofs.text.name_end.Reads as name-end-reads
-use Rattle.judge.proofs.text.repeated.Reads as repeated-reads
 
 add-name-end : tie.Need-add-name-end
 add-name-end c = omega (arith, letter-inside (c .before .args .text .now) (c .before .args .work .now) (c .before .args .names .now) (c .before .args .c) (stackOf (here (c .before .args .text .now) (c .before .args .c .at))) (c .before .pre .0) (c .before .pre .1))

@@ -1,3 +1,4 @@
+-- Each return is one case of what the count at the place says (`Reading.Atom`).
 use mathlib.Core.Path.{sym, _∙_}
 use native.Mathlib.Omega.{arith}
 use Rattle.judge.specs.Syntax.Machine.{here}
@@ -7,12 +8,6 @@ use Rattle.judge.specs.Reading.Atom.{atom-bare, atom-counted, atom-missp
 use borrow.Author.Needs.{needs}
 use Rattle.judge.proofs.text.atom_rest.Statement.{statement}
 use Rattle.judge.proofs.text.atom_rest.Tie as tie
-use Rattle.judge.proofs.text.atom_rest.Reads as reads
-use Rattle.judge.proofs.text.atom_rest.Lts as lts
-use Rattle.judge.proofs.text.count.Reads as count-reads
-use Rattle.judge.proofs.text.mark.Reads as mark-reads
-use Rattle.judge.proofs.text.packed_atom.Reads as packed-atom-reads
-use Rattle.judge.proofs.text.stands.Reads as stands-reads
 
 add-names : tie.Need-add-names
 add-names c = search needs

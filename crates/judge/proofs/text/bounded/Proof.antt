@@ -1,15 +1,11 @@
-use mathlib.Core.Path.{_≡_, sym, _∙_}
+-- Each return is one case of `betweenAt`.
+use mathlib.Core.Path.{sym, _∙_}
 use native.Mathlib.Omega.{arith}
-use lib.ListN.{length}
-use Rattle.judge.specs.Reading.Lexeme.{numeralAt, betweenAt}
+use Rattle.judge.specs.Reading.Lexeme.{betweenAt}
 use Rattle.judge.specs.Reading.Lexeme.Laws.{stands-inside, above-of}
 use borrow.Author.Needs.{needs}
 use Rattle.judge.proofs.text.bounded.Statement.{statement}
 use Rattle.judge.proofs.text.bounded.Tie as tie
-use Rattle.judge.proofs.text.bounded.Reads as reads
-use Rattle.judge.proofs.text.bounded.Lts as lts
-use Rattle.judge.proofs.text.read_numeral.Reads as read-numeral-reads
-use Rattle.judge.proofs.text.stands.Reads as stands-reads
 
 read-numeral-requires : tie.Need-read-numeral-requires
 read-numeral-requires c κs = search needs

@@ -1,18 +1,12 @@
+-- Each return is one case of `boundedAt`.
 use Prim.Native.Nat.{_+_}
-use mathlib.Core.Path.{_≡_, sym, _∙_}
+use mathlib.Core.Path.{sym, _∙_}
 use native.Mathlib.Omega.{arith}
-use lib.ListN.{length}
 use Rattle.judge.specs.Reading.Lexeme.{countAt, boundedAt}
 use Rattle.judge.specs.Reading.Lexeme.Laws.{stands-inside}
 use borrow.Author.Needs.{needs}
 use Rattle.judge.proofs.text.count.Statement.{statement}
 use Rattle.judge.proofs.text.count.Tie as tie
-use Rattle.judge.proofs.text.count.Reads as reads
-use Rattle.judge.proofs.text.count.Lts as lts
-use Rattle.judge.proofs.text.bounded.Reads as bounded-reads
-use Rattle.judge.proofs.text.read_numeral.Reads as read-numeral-reads
-use Rattle.judge.proofs.text.stands.Reads as stands-reads
-use Rattle.judge.proofs.text.unbounded.Reads as unbounded-reads
 
 add-read-numeral : tie.Need-add-read-numeral
 add-read-numeral c = search needs

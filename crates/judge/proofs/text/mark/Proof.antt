@@ -1,12 +1,9 @@
+-- The two cases of `Marking`.
 use mathlib.Core.Path.{refl, sym, _∙_}
 use Rattle.judge.specs.Reading.Walk.{with-mark, without}
 use borrow.Author.Needs.{needs}
 use Rattle.judge.proofs.text.mark.Statement.{statement}
 use Rattle.judge.proofs.text.mark.Tie as tie
-use Rattle.judge.proofs.text.mark.Reads as reads
-use Rattle.judge.proofs.text.mark.Lts as lts
-use Rattle.judge.proofs.text.packed_optional.Reads as packed-optional-reads
-use Rattle.judge.proofs.text.stands.Reads as stands-reads
 
 stands-requires : tie.Need-stands-requires
 stands-requires c κs = search needs

@@ -1,6 +1,7 @@
+-- The loop fills the names from the front.
 use Prim.Native.Nat.{_≤_, _-_}
-use mathlib.Core.Path.{_≡_, refl, _∙_}
-use lib.ListN.{length, take}
+use mathlib.Core.Path.{_≡_}
+use lib.ListN.{take}
 use native.Mathlib.Omega.{arith}
 use Rattle.judge.specs.Reading.{noPlace}
 use Rattle.judge.specs.Reading.Packed.{placeOf}
@@ -8,9 +9,6 @@ use Rattle.judge.specs.Reading.Filled.{filled, fill-turn, fill-length, n
 use mathlib.Core.List.{map}
 use Rattle.judge.proofs.text.names_of.Statement.{statement}
 use Rattle.judge.proofs.text.names_of.Tie as tie
-use Rattle.judge.proofs.text.names_of.Reads as reads
-use Rattle.judge.proofs.text.names_of.Lts as lts
-use Rattle.judge.proofs.text.no_names.Reads as no-names-reads
 
 abbrev Inv-loop : tie.InvT-loop
 Inv-loop words len names₀ i₀ names i = (i ≤ len) × (names .places ≡ filled placeOf noPlace words 64 i)

@@ -1,19 +1,15 @@
+-- The number among the places left, counted on, is the number among all.
 use Rattle.judge.specs.Stack.{unmapped}
 use Prim.Native.Nat.{_+_, _≤_, _-_, min}
-use mathlib.Core.Path.{_≡_, refl, sym, ap, _∙_}
-use mathlib.Core.List.{List, map}
+use mathlib.Core.Path.{_≡_, refl, sym, _∙_}
 use native.Mathlib.Omega.{arith}
 use borrow.Author.Needs.{needs}
-use lib.ListN.{length, take, drop, getD}
-use Rattle.judge.specs.declared.text.NamePlace.{NamePlace}
-use Rattle.judge.specs.Reading.{numberFrom, numberIn, partsOf, sameText}
+use lib.ListN.{length, drop}
+use Rattle.judge.specs.Syntax.{numberFrom, numberIn}
+use Rattle.judge.specs.Reading.{partsOf}
 use Rattle.judge.specs.Reading.Search.{number-found, number-next, number-none}
 use Rattle.judge.proofs.text.number_of.Statement.{statement}
 use Rattle.judge.proofs.text.number_of.Tie as tie
-use Rattle.judge.proofs.text.number_of.Reads as reads
-use Rattle.judge.proofs.text.number_of.Lts as lts
-use Rattle.judge.proofs.text.lesser.Reads as lesser-reads
-use Rattle.judge.proofs.text.same_bytes.Reads as same-bytes-reads
 
 abbrev Inv-loop : tie.InvT-loop
 Inv-loop text name names n i₀ i = (length (names .places) ≡ 64) × ((n ≡ min (names .len) 64) × ((i ≤ n) × (numberFrom (i + 1) (drop i (partsOf text names)) name ≡ numberIn (partsOf text names) name)))

@@ -1,12 +1,9 @@
-use mathlib.Core.Path.{_∙_}
+-- What was packed is unpacked again.
 use native.Mathlib.Omega.{arith}
 use Rattle.judge.specs.Reading.Packed.{unpack}
 use borrow.Author.Needs.{needs}
 use Rattle.judge.proofs.text.packed_atom.Statement.{statement}
 use Rattle.judge.proofs.text.packed_atom.Tie as tie
-use Rattle.judge.proofs.text.packed_atom.Reads as reads
-use Rattle.judge.proofs.text.packed_atom.Lts as lts
-use Rattle.judge.proofs.text.packed.Reads as packed-reads
 
 enum-known-max : tie.Need-enum-known-max
 enum-known-max c = search needs

@@ -1,14 +1,9 @@
-use mathlib.Core.Path.{_≡_, sym, _∙_}
+-- Each answer of the member reader says what the whole text's answer is (`Reading.Whole`).
+use mathlib.Core.Path.{_∙_}
 use Rattle.judge.specs.Reading.Whole.{size-refused, start-ready, fault-read, more-read, buffers-fit, whole-read}
 use borrow.Author.Needs.{needs}
 use Rattle.judge.proofs.text.read_model.Statement.{statement}
 use Rattle.judge.proofs.text.read_model.Tie as tie
-use Rattle.judge.proofs.text.read_model.Reads as reads
-use Rattle.judge.proofs.text.read_model.Lts as lts
-use Rattle.judge.proofs.text.member.Reads as member-reads
-use Rattle.judge.proofs.text.names_of.Reads as names-of-reads
-use Rattle.judge.proofs.text.refused.Reads as refused-reads
-use Rattle.judge.proofs.text.rule_of.Reads as rule-of-reads
 
 refused-requires : tie.Need-refused-requires
 refused-requires c κs = search needs

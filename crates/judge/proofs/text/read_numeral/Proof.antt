@@ -1,3 +1,4 @@
+-- The loop keeps `Rest`: the digits from i on say what number comes behind the value so far.
 use Prim.Native.Nat.{_<_, _-_}
 use mathlib.Core.Path.{_≡_, sym, _∙_}
 use mathlib.Core.Bool.{true}
@@ -8,10 +9,6 @@ use Rattle.judge.specs.Bytes.{isDigit}
 use Rattle.judge.specs.Reading.Lexeme.Laws.{Rest, digit-low, no-numeral, no-numeral-out, zero-alone, rest-first, rest-more, rest-stop, rest-out}
 use Rattle.judge.proofs.text.read_numeral.Statement.{statement}
 use Rattle.judge.proofs.text.read_numeral.Tie as tie
-use Rattle.judge.proofs.text.read_numeral.Reads as reads
-use Rattle.judge.proofs.text.read_numeral.Lts as lts
-use Rattle.judge.proofs.text.is_digit.Reads as is-digit-reads
-use Rattle.judge.proofs.text.with_digit.Reads as with-digit-reads
 
 abbrev Inv-loop : tie.InvT-loop
 Inv-loop text at b value₀ i₀ value i = (at < length text) × ((isDigit (getD text at 0) ≡ true) × Rest text at value i)

@@ -1,18 +1,13 @@
-use Prim.Native.Nat.{_+_, _/_, _%_, _≤_, _-_}
-use mathlib.Core.Path.{_≡_, refl, sym, ap, _∙_}
+-- The name is among the places left just if it is among all.
+use Prim.Native.Nat.{_≤_, _-_}
+use mathlib.Core.Path.{_≡_, refl, sym, _∙_}
 use native.Mathlib.Omega.{arith}
-use borrow.Author.Needs.{needs}
-use lib.ListN.{length, take, drop, getD}
-use Rattle.judge.specs.Bytes.{Text}
+use lib.ListN.{drop}
 use Rattle.judge.specs.Fault.{nameFrom}
 use Rattle.judge.specs.Fault.Ties.{places}
-use Rattle.judge.specs.Reading.{sameText}
-use Rattle.judge.specs.Reading.Search.{Comparable, among, name-fits, name-part, earlier-fits, search-found, search-next, search-end}
+use Rattle.judge.specs.Reading.Search.{among, name-fits, name-part, earlier-fits, search-found, search-next, search-end}
 use Rattle.judge.proofs.text.repeated.Statement.{statement}
 use Rattle.judge.proofs.text.repeated.Tie as tie
-use Rattle.judge.proofs.text.repeated.Reads as reads
-use Rattle.judge.proofs.text.repeated.Lts as lts
-use Rattle.judge.proofs.text.same_bytes.Reads as same-bytes-reads
 
 abbrev Inv-loop : tie.InvT-loop
 Inv-loop text names n start end name i₀ i = (i ≤ n) × ((name ≡ nameFrom text start) × (among text (drop i (places text start)) start ≡ among text (places text start) start))

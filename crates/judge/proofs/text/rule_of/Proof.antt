@@ -1,20 +1,14 @@
-use borrow.Author.Needs.{needs}
-use mathlib.Core.Path.{ap}
-use Rattle.judge.specs.declared.rule.Rule.{Rule}
+-- The loop fills the rule from the front.
 use mathlib.Core.List.{map}
 use Prim.Native.Nat.{_≤_, _-_}
-use mathlib.Core.Path.{_≡_, refl, _∙_}
-use lib.ListN.{length, take}
+use mathlib.Core.Path.{_≡_}
+use lib.ListN.{take}
 use native.Mathlib.Omega.{arith}
 use Rattle.judge.specs.Rule.{unused}
 use Rattle.judge.specs.Reading.Packed.{nodeOf}
 use Rattle.judge.specs.Reading.Filled.{filled, fill-turn, fill-length, rule-filled}
 use Rattle.judge.proofs.text.rule_of.Statement.{statement}
 use Rattle.judge.proofs.text.rule_of.Tie as tie
-use Rattle.judge.proofs.text.rule_of.Reads as reads
-use Rattle.judge.proofs.text.rule_of.Lts as lts
-use Rattle.judge.proofs.text.no_rule.Reads as no-rule-reads
-use Rattle.judge.proofs.text.unpacked.Reads as unpacked-reads
 
 abbrev Inv-loop : tie.InvT-loop
 Inv-loop work len rule₀ i₀ rule i = (i ≤ len) × (rule .nodes ≡ filled nodeOf unused work 128 i)

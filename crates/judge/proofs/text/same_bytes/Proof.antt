@@ -1,13 +1,12 @@
+-- What is left of both texts is the same just if the whole texts are.
 use Prim.Native.Nat.{_≤_, _-_}
 use mathlib.Core.Path.{_≡_, refl, _∙_}
 use lib.ListN.{length, drop}
 use native.Mathlib.Omega.{arith}
-use Rattle.judge.specs.Reading.{sameText}
+use Rattle.judge.specs.Bytes.{sameText}
 use Rattle.judge.specs.Reading.Search.{same-lengths, same-step, same-differ, same-end}
 use Rattle.judge.proofs.text.same_bytes.Statement.{statement}
 use Rattle.judge.proofs.text.same_bytes.Tie as tie
-use Rattle.judge.proofs.text.same_bytes.Reads as reads
-use Rattle.judge.proofs.text.same_bytes.Lts as lts
 
 abbrev Inv-loop : tie.InvT-loop
 Inv-loop a b i₀ i = (length a ≡ length b) × ((i ≤ length a) × (sameText (drop i a) (drop i b) ≡ sameText a b))
