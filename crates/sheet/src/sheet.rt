@@ -86,7 +86,7 @@ fn no_place() -> NamePlace
 fn no_kinds() -> Names
     ensures { λ r. ⌜ r ≡ namesWith [] ⌝ }
 {
-    let none = no_place();
+    let none = NamePlace { start: 0, len: 0 };
     Names {
         places: [none; MAX_RULES],
         len: 0,
@@ -97,10 +97,12 @@ fn no_entry() -> Entry
     ensures { λ r. ⌜ r ≡ noEntry ⌝ }
 {
     let none = read_model(b"");
+    let rule = none.rule;
+    let names = none.names;
     Entry {
         model: no_place(),
-        rule: none.rule,
-        names: none.names,
+        rule: rule,
+        names: names,
     }
 }
 
@@ -185,6 +187,8 @@ fn read_line(text: &[u8], kinds: Names, at: usize, end: usize) -> LineRead
             return bad_line(SheetFault::Model(f));
         }
     }
+    let rule = model.rule;
+    let names = model.names;
     LineRead {
         checked: Checked::Good,
         kind: NamePlace {
@@ -196,8 +200,8 @@ fn read_line(text: &[u8], kinds: Names, at: usize, end: usize) -> LineRead
                 start: (at + second + 1) as u16,
                 len: (third - second - 1) as u16,
             },
-            rule: model.rule,
-            names: model.names,
+            rule: rule,
+            names: names,
         },
     }
 }
@@ -225,8 +229,10 @@ fn read_lines(text: &[u8]) -> SheetRead
                 return refused(f, n + 1);
             }
         }
-        kinds.places[n] = line.kind;
-        entries[n] = line.entry;
+        let kind = line.kind;
+        let entry = line.entry;
+        kinds.places[n] = kind;
+        entries[n] = entry;
         n += 1;
         kinds.len = n;
         at = end + 1;
