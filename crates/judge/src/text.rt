@@ -87,19 +87,19 @@ enum Counted {
     Wrong(usize),
 }
 
-fn is_letter(b: u8) -> bool
+pub fn is_letter(b: u8) -> bool
     ensures { λ r. ⌜ r ≡ isLetter b ⌝ }
 {
     (b'a' <= b) & (b <= b'z')
 }
 
-fn is_digit(b: u8) -> bool
+pub fn is_digit(b: u8) -> bool
     ensures { λ r. ⌜ r ≡ isDigit b ⌝ }
 {
     (b'0' <= b) & (b <= b'9')
 }
 
-fn is_inner(b: u8) -> bool
+pub fn is_inner(b: u8) -> bool
     ensures { λ r. ⌜ r ≡ isInner b ⌝ }
 {
     is_letter(b) | is_digit(b) | (b == b'-')
@@ -321,7 +321,7 @@ fn unpacked(word: u64) -> Node
     }
 }
 
-fn same_bytes(a: &[u8], b: &[u8]) -> bool
+pub fn same_bytes(a: &[u8], b: &[u8]) -> bool
     ensures { λ r. ⌜ r ≡ sameText (now (a .entry)) (now (b .entry)) ⌝ }
 {
     if a.len() != b.len() {

@@ -1,0 +1,6 @@
+// Sheet, cue list and listing, above the judge.
+
+pub mod cues;
+pub mod line;
+pub mod listing;
+pub mod sheet;
