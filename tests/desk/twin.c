@@ -75,7 +75,7 @@ static inline struct name scan_name(const uint8_t *text, size_t len, size_t at)
     uint32_t hash = 0;
     size_t end = at;
     for (; end < len && NAME_BYTE[text[end]]; end++)
-        hash = hash * 31 + text[end];
+        hash = (hash << 5 | hash >> 27) ^ text[end];
     return (struct name){text + at, (uint32_t)(end - at), hash};
 }
 
