@@ -13,7 +13,7 @@
 #include <string.h>
 #include <time.h>
 
-enum { ROUNDS = 15, SAMPLES = 61, SAMPLE_NS = 60000, MANY = 4096, WORDS = 64, ROOM = 70000 };
+enum { ROUNDS = 11, SAMPLES = 41, SAMPLE_NS = 300000, MANY = 4096, WORDS = 64, ROOM = 70000 };
 
 static const char *const WORD[WORDS] = {
     "axis", "target", "crawl", "gather", "hold", "fade", "dim", "colour", "gobo", "iris", "zoom",
@@ -196,8 +196,11 @@ static void measure_round(const struct row *row, long calls, double *desk, doubl
 {
     double a[SAMPLES], b[SAMPLES];
     for (int i = 0; i < SAMPLES; i++) {
-        a[i] = sample(desk_judge, row, calls);
+        if (i % 2 == 0)
+            a[i] = sample(desk_judge, row, calls);
         b[i] = sample(twin_judge, row, calls);
+        if (i % 2 != 0)
+            a[i] = sample(desk_judge, row, calls);
     }
     *desk = median(a, SAMPLES);
     *twin = median(b, SAMPLES);

@@ -1,11 +1,11 @@
 /* A slow oracle for the desk.
 
-   Spelling: an Earley recogniser over the grammar of document 01 says how far some model text begins
-   as the given one does, and where names and nodes begin. The other refusals are tested place by
+   Spelling: an Earley recogniser over the grammar of document 01 says how many bytes of a text
+   begin some model text, and where names and nodes begin. The other refusals are tested place by
    place, in the words of the table.
 
-   Verdict: the model as a type of document 001, derived (Brzozowski) by each child in turn. On small
-   inputs two further ways must agree: membership by definition 2.1 read word for word, and a search
+   Verdict: the model as a type of document 001, derived (Brzozowski) by each child in turn. Two
+   further ways must agree on small inputs: membership by definition 2.1 word for word, and a search
    through derived types for a longer row. */
 #include "brute.h"
 
@@ -23,7 +23,7 @@ static void *grown(void *block, size_t bytes)
 
 /* ---- the grammar ---- */
 
-/* Upper case letters are nonterminals; @ is a letter, # a digit, ! a digit but 0; M is the model. */
+/* Upper case letters are nonterminals, M the model; @ is a letter, # a digit, ! a digit but 0. */
 static const struct production {
     char left;
     const char *right;
@@ -128,13 +128,23 @@ static bool advance(struct chart *chart, size_t set, uint8_t byte)
     return true;
 }
 
-/* In this set, is there an item of `left` with this dot and origin? With dot 0: one that is whole. */
-static bool has_item(const struct chart *chart, size_t set, char left, size_t dot, size_t origin)
+/* Has byte p begun a part of this kind? */
+static bool begins(const struct chart *chart, char left, size_t p)
 {
-    for (size_t i = chart->begin[set]; i < chart->begin[set + 1]; i++) {
+    for (size_t i = chart->begin[p + 1]; i < chart->begin[p + 2]; i++) {
         const struct item *item = &chart->items[i];
-        if (item->production->left == left && item->origin == origin
-            && (dot == 0 ? next_symbol(item) == '\0' : item->dot == dot))
+        if (item->production->left == left && item->dot == 1 && item->origin == p)
+            return true;
+    }
+    return false;
+}
+
+/* Are the first n bytes a model? */
+static bool is_model(const struct chart *chart, size_t n)
+{
+    for (size_t i = chart->begin[n]; i < chart->begin[n + 1]; i++) {
+        const struct item *item = &chart->items[i];
+        if (item->production->left == 'M' && item->origin == 0 && next_symbol(item) == '\0')
             return true;
     }
     return false;
@@ -157,10 +167,10 @@ static struct spelling spell(const uint8_t *text, size_t len)
     close_set(&chart, 0);
     while (s.good < len && advance(&chart, s.good, text[s.good])) {
         size_t p = s.good++;
-        s.name_at[p] = has_item(&chart, p + 1, 'N', 1, p);
-        s.node_at[p] = s.name_at[p] || has_item(&chart, p + 1, 'G', 1, p);
+        s.name_at[p] = begins(&chart, 'N', p);
+        s.node_at[p] = s.name_at[p] || begins(&chart, 'G', p);
     }
-    s.whole = s.good == len && has_item(&chart, len, 'M', 0, 0);
+    s.whole = s.good == len && is_model(&chart, len);
     free(chart.items);
     free(chart.begin);
     return s;

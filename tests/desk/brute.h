@@ -1,4 +1,4 @@
-/* A slow oracle for small inputs, written from the definitions and sharing no code with the twin. */
+/* A slow oracle, written from the definitions; it shares no code with the twin. */
 #ifndef BRUTE_H
 #define BRUTE_H
 

@@ -1,5 +1,5 @@
-/* Compares desk_judge with the twin. Each text ends where readable memory ends, so that reading past
-   it stops the test; a text that a call has changed counts as a difference. */
+/* Compares desk_judge with the twin. Each text ends where readable memory ends, so that reading
+   past it stops the test; a text that a call has changed counts as a difference. */
 #define _DEFAULT_SOURCE
 #include "cases.h"
 #include "desk.h"

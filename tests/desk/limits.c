@@ -47,8 +47,9 @@ static void try_sizes(try_texts *f, struct report *to)
     static const struct {
         const char *front, *filling, *end;
     } FORMS[] = {
-        {"", "a", ""},  {"", "%", ""},      {"a", "?", ""},    {"", "(", ""},      {"(a", ",", ""},
-        {"a[1..", "1", "]"}, {"a[1..", "1", ""}, {"a[", "1", "..*]"}, {"a[", "9", "..2%"}, {"(", "()", ""},
+        {"", "a", ""},       {"", "%", ""},      {"a", "?", ""},       {"", "(", ""},
+        {"a[1..", "1", "]"}, {"a[1..", "1", ""}, {"a[", "1", "..*]"},  {"a[", "9", "..2%"},
+        {"(a", ",", ""},     {"(", "()", ""},
     };
     static const size_t SIZES[] = {1, 2, 3, 7, 4094, 4095, 4096, 4097, 4098, 65536};
     f(to, NULL, 0, NULL, 0);
@@ -192,8 +193,8 @@ void try_model_limits(try_texts *f, struct report *to)
 /* ---- children ---- */
 
 static const char *const MODELS[] = {
-    "a[0..*]", "a[4096..4096]", "a[4097..*]", "a[60000..60000]", "a[0..4095]", "(a[1..4095],b)", "b",
-    "a[2..1]", "()", "(a[0..*]&xxxxxxxxxxxxxxxxxxxxxxxxxxxxxxx[0..*])",
+    "a[0..*]", "a[4096..4096]", "a[4097..*]", "a[60000..60000]", "a[0..4095]", "(a[1..4095],b)",
+    "b", "a[2..1]", "()", "(a[0..*]&xxxxxxxxxxxxxxxxxxxxxxxxxxxxxxx[0..*])",
 };
 
 /* One children text with every model. */
@@ -237,9 +238,9 @@ static void try_long_children(try_texts *f, struct report *to)
 static void try_odd_children(try_texts *f, struct report *to)
 {
     static const char *const ODD[] = {
-        "a", "\t", "a\t", "\ta", "a\t\ta", "a\ta", "a a", "a\r", "a\n", "A", "aA", "1", "-", "a1", "a-",
-        "1a", "-a", "a\x80", "\xff", "\xe1", "a.", "a?", "(a)", "a[1..1]", "`", "{", "a/", "a:",
-        "a\t%\tb", "q\tq", "a\tq", "aa",
+        "a", "\t", "a\t", "\ta", "a\t\ta", "a\ta", "a a", "a\r", "a\n", "A", "aA", "1", "-", "a1",
+        "a-", "1a", "-a", "a\x80", "\xff", "\xe1", "a.", "a?", "(a)", "a[1..1]", "`", "{", "a/",
+        "a:", "a\t%\tb", "q\tq", "a\tq", "aa",
     };
     static struct text children;
     for (size_t i = 0; i < sizeof ODD / sizeof ODD[0]; i++) {
