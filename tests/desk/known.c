@@ -108,8 +108,20 @@ static const struct {
     {"(", 11, 1},
 };
 
+/* 01, the last of the rows to try: 4,096 of a in a[60000..60000] are open. */
+static void check_long_row(judge_texts *judge, struct report *report)
+{
+    static const char model[] = "a[60000..60000]";
+    uint8_t children[2 * 4096 - 1];
+    for (size_t i = 0; i < sizeof children; i++)
+        children[i] = i % 2 == 0 ? 'a' : '\t';
+    report_answer(report, (const uint8_t *)model, strlen(model), children, sizeof children,
+                  judge((const uint8_t *)model, strlen(model), children, sizeof children), 1);
+}
+
 void check_known_rows(judge_texts *judge, struct report *report)
 {
+    check_long_row(judge, report);
     for (size_t i = 0; i < sizeof ROWS / sizeof ROWS[0]; i++) {
         const uint8_t *model = (const uint8_t *)ROWS[i].model;
         size_t model_len = strlen(ROWS[i].model), len = strlen(ROWS[i].children);
