@@ -4,4 +4,5 @@
 --   Children   names among them, and what is wrong with children
 pub mod Split
 pub mod Heads
+pub mod Same
 pub mod Children

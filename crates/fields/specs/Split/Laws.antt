@@ -114,6 +114,9 @@ module _ (x : Text) (s : ℕ) where
   pub end-bounds : (i e : ℕ) → i ≤ length x → e ≡ partEnd x s i → (i ≤ e) × (e ≤ length x)
   end-bounds i e h k = (omega (arith, k), rw k (end-within i h))
 
+pub part-rest : (x : Text) (at : ℕ) → part x at (length x) ≡ drop at x
+part-rest x at = take-all (length x - at) (drop at x) (simp length-drop (omega arith))
+
 -- the lines and what is behind them, one line more
 lines-more : (s : ℕ) (x u : Text) → butLast (u ∷ split s x) ≡ u ∷ butLast (split s x)
 lines-more s x u = rw (parted s x .is)

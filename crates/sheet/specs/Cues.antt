@@ -1,0 +1,56 @@
+-- A cue list: document 01, "Files" and refusals 30 to 36. Size and last line come first, then the lines in order, in each the rest by number.
+pub mod Laws
+use mathlib.Core.Bool.{Bool, cond, not, _&&_, _||_}
+use mathlib.Core.List.{List, [], _∷_}
+use Prim.Native.Nat.{ℕ, suc}
+use Prim.Native.Char.{code}
+use lib.Dec.{leb, ltb, eqb}
+use lib.ListN.{length, drop, getD}
+use Rattle.judge.specs.Bytes.{Text, bytes, isDigit, all, value, sameText}
+use Rattle.judge.specs.Limits.{maxRow}
+use Rattle.fields.specs.declared.fault.CueFault.{CueFault}
+use Rattle.fields.specs.declared.fault.CueFault.the-variants.{LongFile, Unended, BadFields, BadNumber, NotAbove, NoName, ManyChildren}
+use Rattle.fields.specs.Split.{lines, behind, fields, field}
+use Rattle.fields.specs.Children.{allNames}
+use Rattle.sheet.specs.declared.cues.CueLine.{CueLine}
+use Rattle.sheet.specs.declared.cues.CueLine.the-variants.{Number, Bad}
+use Rattle.sheet.specs.declared.cues.CuesRead.{CuesRead}
+use Rattle.sheet.specs.declared.cues.CuesRead.the-variants.{Count, Refused}
+
+-- a sheet or a cue list has at most so many bytes
+abbrev pub maxFile : ℕ
+maxFile = 65535
+
+-- 1 to 5 digits, the first not 0
+abbrev pub isCueNumber : Text → Bool
+isCueNumber x = leb 1 (length x) && (leb (length x) 5 && (not (eqb (getD x 0 0) (code "0")) && all isDigit x))
+
+-- the children of a cue line
+abbrev pub children : Text → List Text
+children l = drop 3 (fields l)
+
+-- a line behind one with the number p: its own number, or what is wrong with it
+abbrev pub cueLine : ℕ → Text → CueLine
+cueLine p l =
+    cond (ltb (length (fields l)) 3 || not (sameText (field 0 l) (bytes "cue"))) (Bad BadFields)
+    (cond (not (isCueNumber (field 1 l))) (Bad BadNumber)
+    (cond (leb (value (field 1 l)) p) (Bad NotAbove)
+    (cond (not (allNames (field 2 l ∷ children l))) (Bad NoName)
+    (cond (ltb maxRow (length (children l))) (Bad ManyChildren)
+    (Number (value (field 1 l)))))))
+
+abbrev pub byLine : CueLine → (ℕ → CuesRead) → (CueFault → CuesRead) → CuesRead
+byLine (Number n) good bad = good n
+byLine (Bad f) good bad = bad f
+
+-- lines behind n lines, the last of which has the number p: how many lines there are, or the first fault and its line
+abbrev pub cueLines : ℕ → ℕ → List Text → CuesRead
+cueLines n p [] = Count n
+cueLines n p (l ∷ ls) = byLine (cueLine p l) (λ q. cueLines (suc n) q ls) (λ f. Refused f (suc n))
+
+-- how many cues the text has, or what is wrong with it
+abbrev pub cuesRead : Text → CuesRead
+cuesRead x =
+    cond (ltb maxFile (length x)) (Refused LongFile 0)
+    (cond (sameText (behind x) []) (cueLines 0 0 (lines x))
+    (Refused Unended 0))

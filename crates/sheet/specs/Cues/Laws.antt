@@ -1,0 +1,134 @@
+-- How the numbers and the lines of a cue list are read.
+use mathlib.Core.Path.{_≡_, refl, ap, sym, _∙_}
+use mathlib.Core.Bool.{Bool, true, false, cond, not, _&&_, _||_, and-true, and-false, true≢false, false≢true}
+use mathlib.Core.List.{List, [], _∷_}
+use Prim.Native.Nat.{ℕ, zero, suc, _+_, _*_, _-_, _≤_, _<_}
+use native.Mathlib.Omega.{arith}
+use native.Mathlib.Numerals.{add-one}
+use lib.Dec.{leb, ltb, eqb}
+use lib.ListN.{length, take, drop, getD}
+use lib.Seq.{take-suc, drop-cons, drop-length}
+use borrow.Author.Tests.{eqb-true, eqb-false, eq-eqb, ne-eqb, ltb-true, ltb-false, lt-ltb, le-ltb, le-leb, lt-leb, leb-true}
+use Rattle.judge.specs.Tests.{by-test}
+use Rattle.judge.specs.Stack.{drop-back}
+use Rattle.judge.specs.Bytes.{Text, bytes, isDigit, all, value, sameText}
+use Rattle.judge.specs.Bytes.Laws.{value-snoc}
+use Rattle.judge.specs.Limits.{maxRow}
+use Rattle.fields.specs.declared.fault.CueFault.{CueFault}
+use Rattle.fields.specs.declared.fault.CueFault.the-variants.{LongFile, Unended, BadFields, BadNumber, NotAbove, NoName, ManyChildren}
+use Rattle.fields.specs.declared.split.Heads.{Heads}
+use Rattle.fields.specs.Split.{tab, split, lines, behind, fields, field, part, times}
+use Rattle.fields.specs.Split.Laws.{split-count, part-rest}
+use Rattle.fields.specs.Heads.{Three}
+use Rattle.fields.specs.Children.{allNames}
+use Rattle.sheet.specs.declared.cues.CueLine.the-variants.{Number, Bad}
+use Rattle.sheet.specs.declared.cues.CuesRead.the-variants.{Count, Refused}
+use Rattle.sheet.specs.Cues.{maxFile, isCueNumber, children, cueLine, cueLines, cuesRead}
+
+module _ (x : Text) where
+  pub number-refused : eqb (length x) 0 || ltb 5 (length x) ≡ true → isCueNumber x ≡ false
+  number-refused t =
+      by-test (eqb (length x) 0) (λ e. rw (lt-leb 1 (length x) (omega (arith, eqb-true (length x) 0 e))))
+      (λ e. rw (lt-leb (length x) 5 (ltb-true 5 (length x) (rw e at t))) (and-false (leb 1 (length x))))
+
+  pub number-sized : eqb (length x) 0 || ltb 5 (length x) ≡ false → (1 ≤ length x) × (length x ≤ 5)
+  number-sized t =
+      by-test (eqb (length x) 0) (λ e. absurd (true≢false (rw e at t)))
+      (λ e. (omega (arith, eqb-false (length x) 0 e), ltb-false 5 (length x) (rw e at t)))
+
+  pub number-zero : getD x 0 0 ≡ 48 → isCueNumber x ≡ false
+  number-zero e = rw (eq-eqb (getD x 0 0) 48 e, and-false, and-false)
+
+  pub number-is : 1 ≤ length x → length x ≤ 5 → (getD x 0 0 ≡ 48 → ⊥) → isCueNumber x ≡ all isDigit x
+  number-is h k n = rw (le-leb 1 (length x) h, le-leb (length x) 5 k, ne-eqb (getD x 0 0) 48 n)
+
+  pub number-short : isCueNumber x ≡ true → length x ≤ 5
+  number-short e = by-test (leb (length x) 5) (λ t. leb-true (length x) 5 t) (λ t.
+      let z : isCueNumber x ≡ false = rw t (and-false (leb 1 (length x))) in
+      absurd (false≢true (sym z ∙ e)))
+
+  pub digits-back : (i : ℕ) → 0 < i → i ≤ length x → all isDigit (drop (i - 1) x) ≡ isDigit (getD x (i - 1) 0) && all isDigit (drop i x)
+  digits-back i p h = rw (drop-back x i 0 p h)
+
+  pub value-more : (i : ℕ) → i < length x → value (take (i + 1) x) ≡ 10 * value (take i x) + (getD x i 0 - 48)
+  value-more i h = rw (add-one, take-suc x i 0 h) (value-snoc (take i x) (getD x i 0))
+
+-- what i bytes can come to
+abbrev pub limit : ℕ → ℕ
+limit zero = 0
+limit (suc i) = 10 * limit i + 207
+
+pub limit-small : (i : ℕ) → i ≤ 5 → limit i ≤ 2299977
+limit-small zero h = omega arith
+limit-small (suc zero) h = omega arith
+limit-small (suc (suc zero)) h = omega arith
+limit-small (suc (suc (suc zero))) h = omega arith
+limit-small (suc (suc (suc (suc zero)))) h = omega arith
+limit-small (suc (suc (suc (suc (suc zero))))) h = omega arith
+limit-small (suc (suc (suc (suc (suc (suc i)))))) h = absurd (omega arith)
+
+-- what is said of a line, test by test
+pub line-few : (p : ℕ) (l : Text) → ltb (length (fields l)) 3 ≡ true → Bad BadFields ≡ cueLine p l
+line-few p l t = rw t
+
+module _ (p : ℕ) (l : Text) (h : Heads) (t : Three l h) where
+  abbrev numberPart : Text
+  numberPart = part l (h .first + 1) (h .second)
+
+  -- kind and children
+  abbrev namesPart : Text
+  namesPart = part l (h .second + 1) (length l)
+
+  rest-named : field 2 l ∷ children l ≡ split tab namesPart
+  rest-named = t .rest-is ∙ ap (split tab) (sym (part-rest l (h .second + 1)))
+
+  names-are : allNames (field 2 l ∷ children l) ≡ allNames (split tab namesPart)
+  names-are = ap allNames rest-named
+
+  children-count : length (children l) ≡ times tab namesPart
+  children-count = omega (arith, ap length rest-named, split-count tab namesPart)
+
+  pub line-word : sameText (part l 0 (h .first)) (bytes "cue") ≡ false → Bad BadFields ≡ cueLine p l
+  line-word w = rw (t .enough, t .first-is, w)
+
+  module _ (w : sameText (part l 0 (h .first)) (bytes "cue") ≡ true) where
+    pub line-number : isCueNumber numberPart ≡ false → Bad BadNumber ≡ cueLine p l
+    line-number n = rw (t .enough, t .first-is, w, t .second-is, n)
+
+    module _ (n : isCueNumber numberPart ≡ true) (v : ℕ) (e : v ≡ value numberPart) where
+      pub line-above : v ≤ p → Bad NotAbove ≡ cueLine p l
+      line-above a = rw (t .enough, t .first-is, w, t .second-is, n, ← e, le-leb v p a)
+
+      module _ (a : p < v) where
+        pub line-names : allNames (split tab namesPart) ≡ false → Bad NoName ≡ cueLine p l
+        line-names s = rw (t .enough, t .first-is, w, t .second-is, n, ← e, lt-leb v p a, names-are, s)
+
+        module _ (s : allNames (split tab namesPart) ≡ true) (k : ℕ) (c : k ≡ times tab namesPart) where
+          pub line-many : maxRow < k → Bad ManyChildren ≡ cueLine p l
+          line-many m = rw (t .enough, t .first-is, w, t .second-is, n, ← e, lt-leb v p a, names-are, s, children-count, ← c, lt-ltb maxRow k m)
+
+          pub line-good : k ≤ maxRow → Number v ≡ cueLine p l
+          line-good m = rw (t .enough, t .first-is, w, t .second-is, n, ← e, lt-leb v p a, names-are, s, children-count, ← c, le-ltb maxRow k m)
+
+-- what is said of a text, line by line
+module _ (ls : List Text) (n p : ℕ) where
+  pub cues-next : (l : Text) (q : ℕ) → n < length ls → getD ls n [] ≡ l → cueLine p l ≡ Number q
+      → cueLines n p (drop n ls) ≡ cueLines (n + 1) q (drop (n + 1) ls)
+  cues-next l q h e g = rw (drop-cons ls n [] h, e, g, add-one)
+
+  pub cues-bad : (l : Text) (f : CueFault) → n < length ls → getD ls n [] ≡ l → cueLine p l ≡ Bad f
+      → cueLines n p (drop n ls) ≡ Refused f (n + 1)
+  cues-bad l f h e g = rw (drop-cons ls n [] h, e, g, add-one)
+
+  pub cues-end : n ≡ length ls → cueLines n p (drop n ls) ≡ Count n
+  cues-end e = rw (e, drop-length ls)
+
+module _ (x : Text) where
+  pub cues-long : maxFile < length x → Refused LongFile 0 ≡ cuesRead x
+  cues-long h = rw (lt-ltb maxFile (length x) h)
+
+  pub cues-unended : length x ≤ maxFile → sameText (behind x) [] ≡ false → Refused Unended 0 ≡ cuesRead x
+  cues-unended h e = rw (le-ltb maxFile (length x) h, e)
+
+  pub cues-begin : length x ≤ maxFile → sameText (behind x) [] ≡ true → cuesRead x ≡ cueLines 0 0 (lines x)
+  cues-begin h e = rw (le-ltb maxFile (length x) h, e)

@@ -1,0 +1,4 @@
+// Sheet, cue list and listing, above the judge.
+
+pub mod cues;
+pub mod line;
