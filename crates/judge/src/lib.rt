@@ -4,4 +4,5 @@ mod check;
 pub mod fault;
 pub mod row;
 pub mod rule;
+pub mod text;
 pub mod verdict;

@@ -23,7 +23,7 @@ mutual
   pub length-encode : (t : Model) → length (encode t) ≡ nodes t
   length-encode (marked m n) = length-encodeNode n m
 
-  length-encodeAll : (ts : Members Counts) → length (encodeAll ts) ≡ membersWeight 1 1 ts
+  pub length-encodeAll : (ts : Members Counts) → length (encodeAll ts) ≡ membersWeight 1 1 ts
   length-encodeAll none = refl
   length-encodeAll (t ▹ ts) = rw (length-append, length-encode t, length-encodeAll ts)
 

@@ -91,7 +91,7 @@ atom-run : (k : List Frame) (n : Text) (c : Count) → T (isName n) → CountFor
 atom-run k n c p q = rw (run-append (at k expect) n (countText c), whole-name k n p) (count-run k n c q)
 
 -- a byte that goes on with no name and is no `[`
-node-step : (k : List Frame) (n : Node Spelling) (b : ℕ) → isInner b ≡ false → eqb b (code "[") ≡ false → step (at k (behindNode n)) b ≡ stepAfter k (marked Plain n) b
+pub node-step : (k : List Frame) (n : Node Spelling) (b : ℕ) → isInner b ≡ false → eqb b (code "[") ≡ false → step (at k (behindNode n)) b ≡ stepAfter k (marked Plain n) b
 node-step k (leaf a) b e₁ e₂ = go (a .name) (a .count)
   where
     go : (n : Text) (c : Count) → step (at k (behindAtom n c)) b ≡ stepAfter k (marked Plain (atom n c)) b

@@ -19,7 +19,7 @@ module _ {A B : Type 0} (f : A → B) where
       pub weight-map : (t : Tree A) → weight α γ (mapTree f t) ≡ weight α γ t
       weight-map (marked m n) = nodeWeight-map n
 
-      membersWeight-map : (ts : Members A) → membersWeight α γ (mapMembers f ts) ≡ membersWeight α γ ts
+      pub membersWeight-map : (ts : Members A) → membersWeight α γ (mapMembers f ts) ≡ membersWeight α γ ts
       membersWeight-map none = refl
       membersWeight-map (t ▹ ts) = ap₂ (λ v w. v + w) (weight-map t) (membersWeight-map ts)
 

@@ -1,0 +1,86 @@
+-- What a model text reads into: the answer, the rule, and the names beside it as places in the text.
+pub mod Lexeme
+pub mod Packed
+pub mod Search
+pub mod Filled
+pub mod Buffer
+pub mod At
+pub mod Count
+pub mod Walk
+pub mod Atom
+pub mod Group
+pub mod Whole
+use mathlib.Core.Bool.{Bool, true, false, cond, _&&_}
+use mathlib.Core.List.{List, [], _∷_, _++_, map}
+use Prim.Native.Nat.{ℕ, suc, _-_}
+use lib.Dec.{eqb}
+use lib.ListN.{length, replicate, take, drop}
+use Rattle.judge.specs.declared.fault.ModelFault.{ModelFault}
+use Rattle.judge.specs.declared.rule.Sign.the-variants.{None}
+use Rattle.judge.specs.declared.rule.Mark.the-variants.{Plain}
+use Rattle.judge.specs.declared.rule.Node.{Node as RuleNode}
+use Rattle.judge.specs.declared.rule.Rule.{Rule}
+use Rattle.judge.specs.declared.text.NamePlace.{NamePlace}
+use Rattle.judge.specs.declared.text.Names.{Names}
+use Rattle.judge.specs.declared.text.Outcome.{Outcome}
+use Rattle.judge.specs.declared.text.Outcome.the-variants.{Read, Refused}
+use Rattle.judge.specs.declared.text.Reading.{Reading}
+use Rattle.judge.specs.Bytes.{Text}
+use Rattle.judge.specs.Tree.{group, marked, none}
+use Rattle.judge.specs.Fault.{nameFrom, Answer, refused, accepted}
+use Rattle.judge.specs.Fault.Answered.{answer}
+use Rattle.judge.specs.Fault.Ties.{places}
+use Rattle.judge.specs.Model.{modelOf}
+use Rattle.judge.specs.Rule.{unused, ruleOf}
+use Rattle.judge.specs.Limits.{maxAtoms, maxNodes}
+
+abbrev pub namePlace : Text → ℕ → NamePlace
+namePlace x p = record { start = p; len = length (nameFrom x p) }
+
+-- a rule of just these nodes (`ruleOf t` is the rule of `encode t`), and names at just these places
+abbrev pub ruleWith : List RuleNode → Rule
+ruleWith l = record { nodes = l ++ replicate (maxNodes - length l) unused; len = length l }
+
+abbrev pub noPlace : NamePlace
+noPlace = record { start = 0; len = 0 }
+
+abbrev pub namesWith : List NamePlace → Names
+namesWith l = record { places = l ++ replicate (maxAtoms - length l) noPlace; len = length l }
+
+-- the names of a text
+abbrev pub namesOf : Text → Names
+namesOf x = namesWith (map (namePlace x) (places x (length x)))
+
+-- a refused reading has the rule of `()` and no names
+abbrev pub refusal : ModelFault → ℕ → Reading
+refusal f p = record { outcome = Refused f p; rule = ruleOf (marked Plain (group None none)); names = namesWith [] }
+
+-- what an answer to the text x gives, and what the text itself does: its answer is `Fault.Answered.answer`, the only one that it has
+abbrev pub readingBy : Text → Answer → Reading
+readingBy x (refused f p) = refusal f p
+readingBy x (accepted t) = record { outcome = Read; rule = ruleOf (modelOf t); names = namesOf x }
+
+abbrev pub reading : Text → Reading
+reading x = readingBy x (answer x)
+
+-- the same bytes
+abbrev pub sameText : Text → Text → Bool
+sameText [] [] = true
+sameText [] (c ∷ y) = false
+sameText (b ∷ x) [] = false
+sameText (b ∷ x) (c ∷ y) = eqb b c && sameText x y
+
+-- the number of the first of these texts that is t, where the first has number k; 0 where none is
+abbrev pub numberFrom : ℕ → List Text → Text → ℕ
+numberFrom k [] t = 0
+numberFrom k (u ∷ l) t = cond (sameText u t) k (numberFrom (suc k) l t)
+
+abbrev pub numberIn : List Text → Text → ℕ
+numberIn l t = numberFrom 1 l t
+
+abbrev pub partAt : Text → NamePlace → Text
+partAt x p = take (p .len) (drop (p .start) x)
+
+-- the parts of a text where names stand
+abbrev pub partsOf : Text → Names → List Text
+partsOf x n = map (partAt x) (take (n .len) (n .places))

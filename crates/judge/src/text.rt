@@ -1,0 +1,656 @@
+// Reads a model text: the group reader and the member reader call each other, and what they read goes into two lent arrays of numbers.
+
+ghost use mathlib.Core.Path.{_≡_};
+ghost use mathlib.Core.Bool.{true};
+ghost use mathlib.Core.List.{[], _∷_, map, tail};
+ghost use Prim.Native.Nat.{_+_, _*_, _-_, _≤_, _<_, min};
+ghost use lib.Dec.{T};
+ghost use lib.ListN.{length, take, getD};
+ghost use Rattle.judge.specs.Bytes.{isLetter, isDigit, isInner};
+ghost use Rattle.judge.specs.Fault.{is, nameFrom};
+ghost use Rattle.judge.specs.Fault.Ties.{capped, places};
+ghost use Rattle.judge.specs.declared.rule.Kind.the-variants.{Atom, Group};
+ghost use Rattle.judge.specs.Reading.{ruleWith, namesWith, refusal, reading, sameText, partsOf, numberIn};
+ghost use Rattle.judge.specs.Reading.Packed.{word, nodeOf, plain, optional, isSign, signBy, kindBy, markBy, placeOf};
+ghost use Rattle.judge.specs.Reading.Search.{among, Comparable};
+ghost use Rattle.judge.specs.Rule.{unused};
+ghost use Rattle.judge.specs.Syntax.Machine.{here};
+ghost use Rattle.judge.specs.Reading.Walk.{Marking, joins, stackOf, Expecting, Ready, Inside, Member, GroupRead};
+ghost use Rattle.judge.specs.Reading.Atom.{NameRead, AtomRead};
+ghost use Rattle.judge.specs.Reading.Lexeme.{numeralAt, countAt, onwardAt, betweenAt};
+use crate::fault::ModelFault;
+use crate::rule::Kind;
+use crate::rule::MAX_NODES;
+use crate::rule::Mark;
+use crate::rule::NameNumber;
+use crate::rule::Node;
+use crate::rule::Rule;
+use crate::rule::Sign;
+use crate::rule::Upper;
+
+pub const MAX_TEXT: usize = 4096;
+
+pub const MAX_NAME: usize = 32;
+
+pub const MAX_COUNT: u32 = 60000;
+
+pub const MAX_DEPTH: usize = 16;
+
+pub const MAX_ATOMS: usize = 64;
+
+// Where a name stands in the text.
+pub struct NamePlace {
+    pub start: u16,
+    pub len: u16,
+}
+
+// The names of a model, in the order written. Places from len on hold zeros.
+pub struct Names {
+    pub places: [NamePlace; MAX_ATOMS],
+    pub len: usize,
+}
+
+pub enum Outcome {
+    Read,
+    Refused(ModelFault, usize),
+}
+
+// A refused reading has the rule of `()` and no names.
+pub struct Reading {
+    pub outcome: Outcome,
+    pub rule: Rule,
+    pub names: Names,
+}
+
+// Where the reader stands, and how many nodes and names it has begun.
+struct Cursor {
+    at: usize,
+    nodes: usize,
+    names: usize,
+}
+
+enum Got {
+    Past(Cursor),
+    Fault(ModelFault, usize),
+}
+
+// A number, at most one above the largest count, and where its digits end.
+enum Numeral {
+    Value(u32, usize),
+    Bad(usize),
+}
+
+// A count and where it ends; Wrong has the place of its `]`.
+enum Counted {
+    Counts(u16, Upper, usize),
+    Bad(usize),
+    Wrong(usize),
+}
+
+fn is_letter(b: u8) -> bool
+    ensures { λ r. ⌜ r ≡ isLetter b ⌝ }
+{
+    (b'a' <= b) & (b <= b'z')
+}
+
+fn is_digit(b: u8) -> bool
+    ensures { λ r. ⌜ r ≡ isDigit b ⌝ }
+{
+    (b'0' <= b) & (b <= b'9')
+}
+
+fn is_inner(b: u8) -> bool
+    ensures { λ r. ⌜ r ≡ isInner b ⌝ }
+{
+    is_letter(b) | is_digit(b) | (b == b'-')
+}
+
+// Is the byte at `at` there, and is it b?
+fn stands(text: &[u8], at: usize, b: u8) -> bool
+    requires { ⌜ 0 < b ⌝ }
+    ensures { λ r. ⌜ r ≡ is (now (text .entry)) b at ⌝ }
+{
+    if at < text.len() {
+        text[at] == b
+    } else {
+        false
+    }
+}
+
+// Where the letters, digits and hyphens from `at` on end.
+fn name_end(text: &[u8], at: usize) -> usize
+    requires { ⌜ at ≤ length (now text) ⌝ }
+    ensures { λ r. ⌜ (r ≡ at + length (nameFrom (now (text .entry)) at)) × (r ≤ length (now (text .entry))) ⌝ }
+{
+    let mut i = at;
+    while i < text.len() {
+        if is_inner(text[i]) {
+            i += 1;
+        } else {
+            return i;
+        }
+    }
+    i
+}
+
+// The value with one digit more, at most one above the largest count.
+fn with_digit(value: u32, digit: u8) -> u32
+    requires { ⌜ (value ≤ 60001) × (48 ≤ digit) ⌝ }
+    ensures { λ r. ⌜ r ≡ capped (10 * value + (digit - 48)) ⌝ }
+{
+    let next = 10 * value + ((digit - b'0') as u32);
+    if MAX_COUNT < next {
+        MAX_COUNT + 1
+    } else {
+        next
+    }
+}
+
+// Reads a numeral: digits, the first of several not 0.
+fn read_numeral(text: &[u8], at: usize) -> Numeral
+    ensures { λ r. ⌜ r ≡ numeralAt (now (text .entry)) at ⌝ }
+{
+    if at < text.len() {} else {
+        return Numeral::Bad(at);
+    }
+    let b = text[at];
+    if is_digit(b) {} else {
+        return Numeral::Bad(at);
+    }
+    if b == b'0' {
+        return Numeral::Value(0, at + 1);
+    }
+    let mut value = with_digit(0, b);
+    let mut i = at + 1;
+    while i < text.len() {
+        let d = text[i];
+        if is_digit(d) {
+            value = with_digit(value, d);
+            i += 1;
+        } else {
+            return Numeral::Value(value, i);
+        }
+    }
+    Numeral::Value(value, i)
+}
+
+// The count that begins with the `[` at `at`.
+fn count(text: &[u8], at: usize) -> Counted
+    requires { ⌜ at < length (now text) ⌝ }
+    ensures { λ r. ⌜ r ≡ countAt (now (text .entry)) at ⌝ }
+{
+    match read_numeral(text, at + 1) {
+        Numeral::Value(min, p) => {
+            if stands(text, p, b'.') {} else {
+                return Counted::Bad(p);
+            }
+            if stands(text, p + 1, b'.') {} else {
+                return Counted::Bad(p + 1);
+            }
+            if stands(text, p + 2, b'*') {
+                return unbounded(text, p + 3, min);
+            }
+            bounded(text, p + 2, min)
+        }
+        Numeral::Bad(p) => Counted::Bad(p),
+    }
+}
+
+// Behind `[m..*`.
+fn unbounded(text: &[u8], at: usize, min: u32) -> Counted
+    requires { ⌜ at ≤ length (now text) ⌝ }
+    ensures { λ r. ⌜ r ≡ onwardAt (now (text .entry)) at min ⌝ }
+{
+    if stands(text, at, b']') {
+        if MAX_COUNT < min {
+            return Counted::Wrong(at);
+        }
+        return Counted::Counts(min as u16, Upper::Unbounded, at + 1);
+    }
+    Counted::Bad(at)
+}
+
+// Behind `[m..`.
+fn bounded(text: &[u8], at: usize, min: u32) -> Counted
+    requires { ⌜ at ≤ length (now text) ⌝ }
+    ensures { λ r. ⌜ r ≡ betweenAt (now (text .entry)) (numeralAt (now (text .entry)) at) min ⌝ }
+{
+    match read_numeral(text, at) {
+        Numeral::Value(max, p) => {
+            if stands(text, p, b']') {} else {
+                return Counted::Bad(p);
+            }
+            if (max == 0) | (max < min) | (MAX_COUNT < max) {
+                return Counted::Wrong(p);
+            }
+            Counted::Counts(min as u16, Upper::Number(max as u16), p + 1)
+        }
+        Numeral::Bad(p) => Counted::Bad(p),
+    }
+}
+
+// ---- what is kept of nodes and names while reading: one number each
+
+// The number of a node that has no mark: its shape is a sign's byte or 0, or 1 or 2 for an atom.
+fn packed(shape: u8, low: u16, high: u16) -> u64
+    ensures { λ r. ⌜ r ≡ word shape low high ⌝ }
+{
+    ((high as u64) * 65536 + (low as u64)) * 256 + (shape as u64)
+}
+
+fn packed_atom(min: u16, max: Upper) -> u64
+    ensures { λ r. ⌜ nodeOf r ≡ plain (Atom min max) ⌝ }
+{
+    match max {
+        Upper::Number(n) => packed(1, min, n),
+        Upper::Unbounded => packed(2, min, 0),
+    }
+}
+
+// `sign` is the byte of a sign, or 0.
+fn packed_group(sign: u8, members: u16) -> u64
+    requires { ⌜ T (isSign sign) ⌝ }
+    ensures { λ r. ⌜ nodeOf r ≡ plain (Group (signBy sign) members) ⌝ }
+{
+    packed(sign, members, 0)
+}
+
+// The number of the same node with `?`.
+fn packed_optional(word: u64) -> u64
+    ensures { λ r. ⌜ nodeOf r ≡ optional (nodeOf word) ⌝ }
+{
+    word / 256 * 256 + 128 + word % 128
+}
+
+fn sign_by(byte: u64) -> Sign
+    ensures { λ r. ⌜ r ≡ signBy byte ⌝ }
+{
+    if byte == 44 {
+        return Sign::Sequence;
+    }
+    if byte == 124 {
+        return Sign::Choice;
+    }
+    if byte == 38 {
+        return Sign::Interleaving;
+    }
+    Sign::None
+}
+
+fn kind_of(shape: u64, low: u16, high: u16) -> Kind
+    ensures { λ r. ⌜ r ≡ kindBy shape low high ⌝ }
+{
+    if shape == 1 {
+        return Kind::Atom {
+            min: low,
+            max: Upper::Number(high),
+        };
+    }
+    if shape == 2 {
+        return Kind::Atom {
+            min: low,
+            max: Upper::Unbounded,
+        };
+    }
+    Kind::Group {
+        sign: sign_by(shape),
+        members: low,
+    }
+}
+
+fn mark_of(bit: u64) -> Mark
+    ensures { λ r. ⌜ r ≡ markBy bit ⌝ }
+{
+    if bit == 0 {
+        Mark::Plain
+    } else {
+        Mark::Optional
+    }
+}
+
+fn unpacked(word: u64) -> Node
+    ensures { λ r. ⌜ r ≡ nodeOf word ⌝ }
+{
+    Node {
+        kind: kind_of(
+            word % 128,
+            (word / 256 % 65536) as u16,
+            (word / 256 / 65536 % 65536) as u16,
+        ),
+        mark: mark_of(word / 128 % 2),
+    }
+}
+
+fn same_bytes(a: &[u8], b: &[u8]) -> bool
+    ensures { λ r. ⌜ r ≡ sameText (now (a .entry)) (now (b .entry)) ⌝ }
+{
+    if a.len() != b.len() {
+        return false;
+    }
+    let mut i: usize = 0;
+    while i < a.len() {
+        if a[i] != b[i] {
+            return false;
+        }
+        i += 1;
+    }
+    true
+}
+
+// Is the name from start to end among the first n names?
+fn repeated(text: &[u8], names: &[u32; MAX_ATOMS], n: usize, start: usize, end: usize) -> bool
+    requires { ⌜ Comparable (now text) (now names) n start end ⌝ }
+    ensures { λ r. ⌜ r ≡ among (now (text .entry)) (places (now (text .entry)) start) start ⌝ }
+{
+    let name = &text[start..end];
+    let mut i: usize = 0;
+    while i < n {
+        let word = names[i];
+        let from = (word / 256 % 65536) as usize;
+        let len = (word % 256) as usize;
+        if same_bytes(&text[from..from + len], name) {
+            return true;
+        }
+        i += 1;
+    }
+    false
+}
+
+// ---- the readers
+
+// The mark behind node i at c.at, if there is one.
+fn mark(text: &[u8], work: &mut [u64; MAX_NODES], c: Cursor, i: usize) -> Cursor
+    requires { ⌜ (i < 128) × (c .at ≤ length (now text)) ⌝ }
+    ensures { λ r. ⌜ Marking (now (text .entry)) (now (work .entry)) (now (work .exit)) c i r ⌝ }
+{
+    let at = c.at;
+    if stands(text, at, b'?') {
+        work[i] = packed_optional(work[i]);
+        return Cursor {
+            at: at + 1,
+            nodes: c.nodes,
+            names: c.names,
+        };
+    }
+    c
+}
+
+// The atom whose name stands from c.at to end, with its count and its mark.
+fn atom_rest(text: &[u8], work: &mut [u64; MAX_NODES], c: Cursor, end: usize) -> Got
+    requires { ⌜ NameRead (now text) (now work) c end (stackOf (here (now text) end)) ⌝ }
+    ensures { λ r. ⌜ AtomRead (now (text .entry)) (now (work .exit)) c end (stackOf (here (now (text .entry)) end)) r ⌝ }
+{
+    let node = c.nodes;
+    let names = c.names + 1;
+    if stands(text, end, b'[') {
+        match count(text, end) {
+            Counted::Counts(min, max, p) => {
+                work[node] = packed_atom(min, max);
+                let past = Cursor {
+                    at: p,
+                    nodes: node + 1,
+                    names: names,
+                };
+                return Got::Past(mark(text, work, past, node));
+            }
+            Counted::Bad(p) => {
+                return Got::Fault(ModelFault::Spelling, p);
+            }
+            Counted::Wrong(p) => {
+                return Got::Fault(ModelFault::WrongCount, p);
+            }
+        }
+    }
+    work[node] = packed_atom(1, Upper::Number(1));
+    let past = Cursor {
+        at: end,
+        nodes: node + 1,
+        names: names,
+    };
+    Got::Past(mark(text, work, past, node))
+}
+
+// The atom whose name begins at c.at.
+fn atom(text: &[u8], work: &mut [u64; MAX_NODES], names: &mut [u32; MAX_ATOMS], c: Cursor) -> Got
+    requires { ⌜ Expecting (now text) (now work) (now names) c (stackOf (here (now text) (c .at))) × (isLetter (getD (now text) (c .at) 0) ≡ true) ⌝ }
+    ensures { λ r. ⌜ Member (now (text .entry)) (now (work .exit)) (now (names .exit)) (c .at) (stackOf (here (now (text .entry)) (c .at))) r ⌝ }
+{
+    let at = c.at;
+    let end = name_end(text, at + 1);
+    if MAX_NAME < end - at {
+        return Got::Fault(ModelFault::LongName, at);
+    }
+    let n = c.names;
+    if n == MAX_ATOMS {
+        return Got::Fault(ModelFault::ManyAtoms, at);
+    }
+    if c.nodes == MAX_NODES {
+        return Got::Fault(ModelFault::ManyNodes, at);
+    }
+    if repeated(text, names, n, at, end) {
+        return Got::Fault(ModelFault::Repeated, at);
+    }
+    names[n] = (at as u32) * 256 + ((end - at) as u32);
+    atom_rest(text, work, c, end)
+}
+
+// The member that begins at c.at, where `left` brackets may still be opened.
+fn member(
+    text: &[u8],
+    work: &mut [u64; MAX_NODES],
+    names: &mut [u32; MAX_ATOMS],
+    c: Cursor,
+    left: usize,
+) -> Got
+    requires { ⌜ Ready (now text) (now work) (now names) c left (stackOf (here (now text) (c .at))) ⌝ }
+    ensures { λ r. ⌜ Member (now (text .entry)) (now (work .exit)) (now (names .exit)) (c .at) (stackOf (here (now (text .entry)) (c .at))) r ⌝ }
+{
+    let at = c.at;
+    if at == text.len() {
+        return Got::Fault(ModelFault::Spelling, at);
+    }
+    let b = text[at];
+    if is_letter(b) {
+        return atom(text, work, names, c);
+    }
+    if b != b'(' {
+        return Got::Fault(ModelFault::Spelling, at);
+    }
+    if left == 0 {
+        return Got::Fault(ModelFault::TooDeep, at);
+    }
+    let node = c.nodes;
+    if node == MAX_NODES {
+        return Got::Fault(ModelFault::ManyNodes, at);
+    }
+    work[node] = 0;
+    let inside = Cursor {
+        at: at + 1,
+        nodes: node + 1,
+        names: c.names,
+    };
+    match group(text, work, names, inside, left - 1, node, 0, 0) {
+        Got::Past(past) => Got::Past(mark(text, work, past, node)),
+        Got::Fault(f, p) => Got::Fault(f, p),
+    }
+}
+
+// May b part two members, where the byte that parted members so far is `sign` (0: none yet)?
+fn parts(sign: u8, b: u8) -> bool
+    ensures { λ r. ⌜ r ≡ joins sign b ⌝ }
+{
+    if sign == 0 {
+        (b == b',') | (b == b'|') | (b == b'&')
+    } else {
+        b == sign
+    }
+}
+
+// Reads on in the group of node `node`, to behind its `)`. It has `members` members so far, and `sign` is the byte that parts them, 0 where none did yet.
+fn group(
+    text: &[u8],
+    work: &mut [u64; MAX_NODES],
+    names: &mut [u32; MAX_ATOMS],
+    c: Cursor,
+    left: usize,
+    node: usize,
+    sign: u8,
+    members: u16,
+) -> Got
+    requires { ⌜ Inside (now text) (now work) (now names) c left node sign members (tail (stackOf (here (now text) (c .at)))) ⌝ }
+    ensures { λ r. ⌜ GroupRead (now (text .entry)) (now (work .exit)) (now (names .exit)) (c .at) (tail (stackOf (here (now (text .entry)) (c .at)))) r ⌝ }
+{
+    let at = c.at;
+    if (sign == 0) & stands(text, at, b')') {
+        return Got::Past(Cursor {
+            at: at + 1,
+            nodes: c.nodes,
+            names: c.names,
+        });
+    }
+    match member(text, work, names, c, left) {
+        Got::Past(past) => {
+            let p = past.at;
+            if p == text.len() {
+                return Got::Fault(ModelFault::Spelling, p);
+            }
+            let b = text[p];
+            let next = Cursor {
+                at: p + 1,
+                nodes: past.nodes,
+                names: past.names,
+            };
+            if b == b')' {
+                work[node] = packed_group(sign, members + 1);
+                return Got::Past(next);
+            }
+            if parts(sign, b) {
+                return group(text, work, names, next, left, node, b, members + 1);
+            }
+            Got::Fault(ModelFault::Spelling, p)
+        }
+        Got::Fault(f, p) => Got::Fault(f, p),
+    }
+}
+
+// ---- the whole text
+
+fn no_rule() -> Rule
+    ensures { λ r. ⌜ r ≡ ruleWith (unused ∷ []) ⌝ }
+{
+    let node = Node {
+        kind: Kind::Group {
+            sign: Sign::None,
+            members: 0,
+        },
+        mark: Mark::Plain,
+    };
+    Rule {
+        nodes: [node; MAX_NODES],
+        len: 1,
+    }
+}
+
+fn no_names() -> Names
+    ensures { λ r. ⌜ r ≡ namesWith [] ⌝ }
+{
+    let none = NamePlace { start: 0, len: 0 };
+    Names {
+        places: [none; MAX_ATOMS],
+        len: 0,
+    }
+}
+
+fn refused(f: ModelFault, p: usize) -> Reading
+    ensures { λ r. ⌜ r ≡ refusal f p ⌝ }
+{
+    Reading {
+        outcome: Outcome::Refused(f, p),
+        rule: no_rule(),
+        names: no_names(),
+    }
+}
+
+fn rule_of(work: &[u64; MAX_NODES], len: usize) -> Rule
+    requires { ⌜ (len ≤ 128) × (length (now work) ≡ 128) ⌝ }
+    ensures { λ r. ⌜ r ≡ ruleWith (map nodeOf (take len (now (work .entry)))) ⌝ }
+{
+    let mut rule = no_rule();
+    let mut i: usize = 0;
+    while i < len {
+        rule.nodes[i] = unpacked(work[i]);
+        i += 1;
+    }
+    rule.len = len;
+    rule
+}
+
+fn names_of(words: &[u32; MAX_ATOMS], len: usize) -> Names
+    requires { ⌜ (len ≤ 64) × (length (now words) ≡ 64) ⌝ }
+    ensures { λ r. ⌜ r ≡ namesWith (map placeOf (take len (now (words .entry)))) ⌝ }
+{
+    let mut names = no_names();
+    let mut i: usize = 0;
+    while i < len {
+        names.places[i] = NamePlace {
+            start: (words[i] / 256 % 65536) as u16,
+            len: (words[i] % 256) as u16,
+        };
+        i += 1;
+    }
+    names.len = len;
+    names
+}
+
+pub fn read_model(text: &[u8]) -> Reading
+    ensures { λ r. ⌜ r ≡ reading (now (text .entry)) ⌝ }
+{
+    if (text.len() == 0) | (MAX_TEXT < text.len()) {
+        return refused(ModelFault::Size, 0);
+    }
+    let mut work = [0u64; MAX_NODES];
+    let mut names = [0u32; MAX_ATOMS];
+    let start = Cursor {
+        at: 0,
+        nodes: 0,
+        names: 0,
+    };
+    match member(text, &mut work, &mut names, start, MAX_DEPTH) {
+        Got::Past(past) => {
+            let end = past.at;
+            if end < text.len() {
+                return refused(ModelFault::Spelling, end);
+            }
+            Reading {
+                outcome: Outcome::Read,
+                rule: rule_of(&work, past.nodes),
+                names: names_of(&names, past.names),
+            }
+        }
+        Got::Fault(f, p) => refused(f, p),
+    }
+}
+
+fn lesser(a: usize, b: usize) -> usize
+    ensures { λ r. ⌜ r ≡ min a b ⌝ }
+{
+    if a < b { a } else { b }
+}
+
+// The number of a name: from 1, of the first place whose part of the text is that name; 0 where there is none.
+pub fn number_of(text: &[u8], names: Names, name: &[u8]) -> NameNumber
+    ensures { λ r. ⌜ r .0 ≡ numberIn (partsOf (now (text .entry)) names) (now (name .entry)) ⌝ }
+{
+    let n = lesser(names.len, MAX_ATOMS);
+    let mut i: usize = 0;
+    while i < n {
+        let place = names.places[i];
+        let start = lesser(place.start as usize, text.len());
+        let end = lesser(place.start as usize + place.len as usize, text.len());
+        if same_bytes(&text[start..end], name) {
+            return NameNumber((i + 1) as u16);
+        }
+        i += 1;
+    }
+    NameNumber(0)
+}
