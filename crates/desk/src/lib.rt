@@ -1,3 +1,4 @@
 // The desk: a model text and a children text in, a number out.
 
+mod row;
 mod table;

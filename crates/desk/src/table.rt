@@ -2,12 +2,12 @@
 
 ghost use mathlib.Core.Path.{_≡_};
 ghost use mathlib.Core.List.{map};
-ghost use Prim.Native.Nat.{_≤_, _<_};
+ghost use Prim.Native.Nat.{_/_, _%_, _≤_, _<_};
 ghost use lib.ListN.{length, replicate, take};
 ghost use Rattle.judge.specs.Limits.{maxAtoms};
-ghost use Rattle.judge.specs.Bytes.{sameText};
 ghost use Rattle.judge.specs.Syntax.{numberIn};
 ghost use Rattle.desk.specs.Table.{spotOf, spotParts, Spots, hashOf, mixed, slots, Table};
+use fields::split::same_text;
 use judge::rule::MAX_ATOMS;
 use judge::text::NamePlace;
 use judge::text::Names;
@@ -19,6 +19,24 @@ fn spot(place: NamePlace) -> u32
     ensures { λ r. ⌜ r ≡ spotOf place ⌝ }
 {
     (place.start as u32) * 65536 + (place.len as u32)
+}
+
+fn start_of(spot: u32) -> usize
+    ensures { λ r. ⌜ r ≡ spot / 65536 ⌝ }
+{
+    (spot / 65536) as usize
+}
+
+fn len_of(spot: u32) -> usize
+    ensures { λ r. ⌜ r ≡ spot % 65536 ⌝ }
+{
+    (spot % 65536) as usize
+}
+
+fn wide(number: u8) -> usize
+    ensures { λ r. ⌜ r ≡ number ⌝ }
+{
+    number as usize
 }
 
 // The hash of a text with one byte more.
@@ -41,22 +59,6 @@ fn hash(text: &[u8]) -> usize
     hash
 }
 
-fn same(a: &[u8], b: &[u8]) -> bool
-    ensures { λ r. ⌜ r ≡ sameText (now (a .entry)) (now (b .entry)) ⌝ }
-{
-    if a.len() != b.len() {
-        return false;
-    }
-    let mut i: usize = 0;
-    while i < a.len() {
-        if a[i] != b[i] {
-            return false;
-        }
-        i += 1;
-    }
-    true
-}
-
 // Links the n names at these spots: a slot has the number of the first name of that hash, or 0, and a name the number of the next one of its hash.
 pub fn link(
     model: &[u8],
@@ -72,9 +74,9 @@ pub fn link(
     let mut i = n;
     while 0 < i {
         i -= 1;
-        let start = (spots[i] / 65536) as usize;
-        let len = (spots[i] % 65536) as usize;
-        let slot = hash(&model[start..start + len]);
+        let start = start_of(spots[i]);
+        let end = start + len_of(spots[i]);
+        let slot = hash(&model[start..end]);
         next[i] = heads[slot];
         heads[slot] = (i + 1) as u8;
     }
@@ -95,15 +97,15 @@ pub fn find(
     requires { ⌜ (hash ≡ hashOf (now name)) × (hash < slots) ⌝ }
     ensures { λ r. ⌜ r ≡ numberIn (spotParts (now (model .entry)) (now (spots .entry)) n) (now (name .entry)) ⌝ }
 {
-    let mut k = heads[hash] as usize;
+    let mut k = wide(heads[hash]);
     while k != 0 {
         let i = k - 1;
-        let start = (spots[i] / 65536) as usize;
-        let len = (spots[i] % 65536) as usize;
-        if same(&model[start..start + len], name) {
+        let start = start_of(spots[i]);
+        let end = start + len_of(spots[i]);
+        if same_text(&model[start..end], name) {
             return k as u16;
         }
-        k = next[i] as usize;
+        k = wide(next[i]);
     }
     0
 }

@@ -2,21 +2,23 @@
 use mathlib.Core.Path.{_≡_, refl, sym, ap, subst, _∙_}
 use mathlib.Core.Logic.{by-cases}
 use mathlib.Core.Bool.{Bool, true, false, cond, true≢false}
-use mathlib.Core.List.{List, [], _∷_}
-use Prim.Native.Nat.{ℕ, zero, suc, _+_, _-_, _≤_, _<_}
+use mathlib.Core.List.{List, [], _∷_, map, map-append}
+use Prim.Native.Nat.{ℕ, zero, suc, _+_, _-_, _/_, _%_, _≤_, _<_}
 use native.Mathlib.Numerals.{add-one}
 use native.Mathlib.Decide.{ℕ-discrete}
 use native.Mathlib.Omega.{arith}
 use lib.Dec.{eqb}
-use lib.ListN.{length, drop, getD, set, length-set, length-drop, replicate, length-replicate, getD-replicate}
-use lib.Seq.{drop-cons, drop-drop, drop-length, getD-drop, getD-set-same, getD-set-other}
+use lib.ListN.{length, take, drop, getD, set, length-set, length-take, length-drop, length-map, drop-of-length-le, replicate, length-replicate, getD-replicate}
+use lib.Seq.{take-suc, take-suc-set, getD-take, drop-cons, drop-drop, drop-length, getD-drop, getD-set-same, getD-set-other}
 use borrow.Author.Tests.{eqb-true, eqb-false, eq-eqb, ne-eqb}
 use Rattle.judge.specs.Tests.{by-test}
 use Rattle.judge.specs.Bytes.{Text, sameText}
 use Rattle.judge.specs.Bytes.Laws.{same-text}
 use Rattle.judge.specs.Syntax.{numberFrom, numberIn}
 use Rattle.judge.specs.Limits.{maxAtoms}
-use Rattle.desk.specs.Table.{slots, hashOf, firstFrom, Linked, Table}
+use Rattle.judge.specs.declared.text.NamePlace.{NamePlace}
+use Rattle.desk.specs.Names.{mapped-at}
+use Rattle.desk.specs.Table.{spotOf, spotPart, spotParts, Spots, slots, mixed, hashFrom, hashOf, firstFrom, Linked, Table}
 
 -- the first of a hash is one of the names and has that hash
 pub record Firsts (l : List Text) (h k j : ℕ) : Type 0 where
@@ -91,7 +93,8 @@ module _ (ns : List Text) (heads next : List ℕ) (table : Table ns heads next) 
     here : rest ns x k ≡ cond (sameText (getD ns (k - 1) []) x) k (numberFrom (suc k) (drop k ns) x)
     here =
         let z : suc (k - 1) ≡ k = omega arith in
-        rw (ne-eqb k 0 n, drop-cons ns (k - 1) [] (omega (arith, s .known n .0)), z)
+        rw (ne-eqb k 0 n, drop-cons ns (k - 1) [] (omega (arith, s .known n .0)))
+        (ap (λ y. cond (sameText (getD ns (k - 1) []) x) k (numberFrom (suc k) (drop y ns) x)) z)
 
     pub walk-finds : sameText (getD ns (k - 1) []) x ≡ true → k ≡ numberIn ns x
     walk-finds e = sym (here ∙ rw e) ∙ s .number-is
@@ -116,7 +119,7 @@ walk-ends ns x k s e = sym (rw e) ∙ s .number-is
 -- linking, from the last to the first
 pub links-none : (ns : List Text) (n : ℕ) (heads next : List ℕ) → n ≡ length ns → heads ≡ replicate slots 0 → length next ≡ maxAtoms → Linked ns n heads next
 links-none ns n heads next e z l = record {
-  heads-long = ap length z ∙ length-replicate slots 0;
+  heads-long = ap length z ∙ length-replicate {A = ℕ} slots 0;
   next-long = l;
   first = λ h b. rw (z, e, drop-length ns) (getD-replicate slots h 0 0 b);
   follows = λ j a b. absurd (omega arith);
@@ -140,3 +143,44 @@ pub links-next : (ns : List Text) (i slot : ℕ) (heads next : List ℕ) → 0 <
 links-next ns i slot heads next p h few s b w =
     let z : i ≡ suc (i - 1) = omega arith in
     rw add-one (links-turn ns (i - 1) slot heads next (omega arith) few s b (subst (λ k. Linked ns k heads next) z w))
+
+-- the hash of a text, byte by byte
+module _ (y : Text) (i h : ℕ) where
+  pub hash-next : i < length y → hashFrom (mixed h (getD y i 0)) (drop (i + 1) y) ≡ hashFrom h (drop i y)
+  hash-next l = rw (drop-cons y i 0 l, add-one)
+
+  pub hash-ends : length y ≤ i → hashFrom h (drop i y) ≡ h
+  hash-ends l = rw (drop-of-length-le y {i = i} l)
+
+pub hash-starts : (y : Text) → hashFrom 0 y ≡ hashOf y
+unfolding hashOf
+hash-starts y = refl
+
+-- spots, filled from the front
+pub spots-next : (w : List ℕ) (ps : List NamePlace) (d : NamePlace) (i : ℕ) → i < length w → i < length ps → take i w ≡ map spotOf (take i ps)
+    → take (i + 1) (set w i (spotOf (getD ps i d))) ≡ map spotOf (take (i + 1) ps)
+spots-next w ps d i h k e = rw (add-one, take-suc-set w i (spotOf (getD ps i d)) h, take-suc ps i d k, map-append, e)
+
+-- a name by its spot
+module _ (m : Text) (spots : List ℕ) (n : ℕ) (s : Spots m spots n) where
+  pub spots-length : length (spotParts m spots n) ≡ n
+  spots-length = length-map (take n spots) (spotPart m) ∙ length-take n spots ∙ omega (arith, s .whole, s .few)
+
+  pub spots-few : length (spotParts m spots n) ≤ maxAtoms
+  spots-few = omega (arith, spots-length, s .few)
+
+  spot-slice : (i : ℕ) → i < n → take (getD spots i 0 / 65536 + getD spots i 0 % 65536 - getD spots i 0 / 65536) (drop (getD spots i 0 / 65536) m) ≡ getD (spotParts m spots n) i []
+  spot-slice i h =
+      let e : getD spots i 0 / 65536 + getD spots i 0 % 65536 - getD spots i 0 / 65536 ≡ getD spots i 0 % 65536 = omega arith in
+      ap (λ k. take k (drop (getD spots i 0 / 65536) m)) e ∙ ap (spotPart m) (sym (getD-take n spots i 0 h))
+      ∙ sym (mapped-at (spotPart m) (take n spots) i 0 [] (rw length-take (omega (arith, s .whole, s .few))))
+
+  pub spot-named : (i a b : ℕ) → i < n → a ≡ getD spots i 0 / 65536 → b ≡ getD spots i 0 % 65536 → take (a + b - a) (drop a m) ≡ getD (spotParts m spots n) i []
+  spot-named i a b h p q = rw (p, q) (spot-slice i h)
+
+  pub spot-within : (i a b : ℕ) → i < n → a ≡ getD spots i 0 / 65536 → b ≡ getD spots i 0 % 65536 → a + b ≤ length m
+  spot-within i a b h p q = omega (arith, s .inside i h)
+
+  -- a walk along the links stands at one of the spots
+  pub stands-at : (x : Text) (k : ℕ) → Stands (spotParts m spots n) x k → (k ≡ 0 → ⊥) → k - 1 < n
+  stands-at x k w o = omega (arith, w .known o .0, spots-length, o)
