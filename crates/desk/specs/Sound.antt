@@ -120,9 +120,13 @@ row-upto : (n : ℕ) (ns cs : List Text) → length ns ≤ n → upto n (rowOf n
 row-upto n ns [] h = refl
 row-upto n ns (x ∷ cs) h = rw (le-leb (numberIn ns x) n (omega (arith, number-below 0 ns x)), row-upto n ns cs h)
 
+-- the judge's answer to a row is its verdict
+abbrev pub JudgedRow : Rule → Word → Type 0
+JudgedRow r w = judged r w ≡ Verdict (verdict (ruleType r) w)
+
 -- the judge refuses no such row
 pub judged-row : (m : Text) (ns : Names) (r : Rule) → Sound m ns r → (cs : List Text) → length cs ≤ maxRow
-    → judged r (rowOf (partsOf m ns) cs) ≡ Verdict (verdict (ruleType r) (rowOf (partsOf m ns) cs))
+    → JudgedRow r (rowOf (partsOf m ns) cs)
 unfolding judged
 judged-row m ns r s cs h =
     rw (s .reads, length-map cs (numberIn (partsOf m ns)), le-leb (length cs) maxRow h, row-upto (ruleNames r) (partsOf m ns) cs (omega (arith, parts-many m ns (s .whole) (s .few), s .counted)))

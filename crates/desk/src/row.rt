@@ -7,6 +7,7 @@ ghost use lib.ListN.{length, set};
 ghost use Rattle.judge.specs.Bytes.{isLetter, isInner};
 ghost use Rattle.judge.specs.Limits.{maxRow};
 ghost use Rattle.fields.specs.Split.{tab, split};
+ghost use Rattle.desk.specs.Desk.{maxChildrenText};
 ghost use Rattle.desk.specs.Table.{spotParts, Spots, Table};
 ghost use Rattle.desk.specs.Row.{childAt, nameTo, RowRead};
 use crate::table::SLOTS;
@@ -101,7 +102,7 @@ pub fn read_row(
 ) -> Children
     requires { ⌜ Spots (now model) (now spots) n ⌝ }
     requires { ⌜ Table (spotParts (now model) (now spots) n) (now heads) (now next) ⌝ }
-    requires { ⌜ min (length (split tab (now children))) maxRow ≤ length (now row) ⌝ }
+    requires { ⌜ (length (now children) ≤ maxChildrenText) × (min (length (split tab (now children))) maxRow ≤ length (now row)) ⌝ }
     ensures { λ r. ⌜ RowRead (spotParts (now (model .entry)) (now (spots .entry)) n) (split tab (now (children .entry))) (now (row .exit)) r ⌝ }
 {
     let mut count: usize = 0;

@@ -2,7 +2,7 @@
 use mathlib.Core.Path.{_≡_, refl, sym, ap, subst, _∙_}
 use mathlib.Core.Bool.{Bool, true, false, cond, _&&_, _||_, true≢false, and-true, and-false, and-assoc}
 use mathlib.Core.List.{List, [], _∷_, _++_, map, map-append, head-eq-of-cons-eq, tail-eq-of-cons-eq}
-use Prim.Native.Nat.{ℕ, zero, suc, _+_, _-_, _≤_, _<_}
+use Prim.Native.Nat.{ℕ, zero, suc, _+_, _-_, _≤_, _<_, min}
 use native.Mathlib.Numerals.{add-one}
 use native.Mathlib.Omega.{arith}
 use lib.Dec.{leb, ltb, eqb}
@@ -17,13 +17,13 @@ use Rattle.judge.specs.Limits.{maxName, maxRow}
 use Rattle.fields.specs.declared.fault.CueFault.the-variants.{NoName, ManyChildren}
 use Rattle.fields.specs.declared.children.Children.{Children}
 use Rattle.fields.specs.declared.children.Children.the-variants.{Count, Refused}
-use Rattle.fields.specs.Split.{tab, split, other, part, partEnd, more}
+use Rattle.fields.specs.Split.{tab, split, other, partEnd, more}
 use Rattle.fields.specs.Split.Laws.{part-at, end-within}
 use Rattle.fields.specs.Children.{shortName, allNames, childrenOf, rowOf}
 use Rattle.fields.specs.Children.Laws.{name-refused, name-sized, name-is}
 use Rattle.desk.specs.declared.row.Child.{Child}
-use Rattle.desk.specs.Table.{mixed, hashFrom, hashOf}
-use Rattle.desk.specs.Table.Laws.{hash-starts}
+use Rattle.desk.specs.Table.{slots, mixed, hashFrom, hashOf}
+use Rattle.desk.specs.Table.Laws.{hash-starts, hash-small}
 use Rattle.desk.specs.Row.{childFrom, childAt, nameTo, childrenFrom, Passed, Filled, RowRead}
 
 -- A scan of the child that begins at `at` stands at i: what is left of the child, with what the scan has, gives the whole.
@@ -95,15 +95,31 @@ module _ (c : Text) where
   pub left-tab : (i : ℕ) → i < length c → getD c i 0 ≡ tab → childFrom c i ≡ []
   left-tab i h e = rw (drop-cons c i 0 h, eq-eqb (getD c i 0) tab e)
 
+  -- what is told of a child by its scan
+  module _ (at : ℕ) (k : Child) (q : k ≡ childAt c at) where
+    end-is : k .end ≡ partEnd c tab at
+    end-is = ap (λ y. y .end) q
+
+    pub met-part : take (k .end - at) (drop at c) ≡ childFrom c at
+    met-part =
+        let z : k .end - at ≡ length (childFrom c at) = omega (arith, end-is) in
+        rw z (front-take (other tab) (drop at c))
+
+    pub met-hash : (k .hash ≡ hashOf (take (k .end - at) (drop at c))) × (k .hash < slots)
+    met-hash = (ap (λ y. y .hash) q ∙ ap hashOf (sym met-part), rw (ap (λ y. y .hash) q) (hash-small (childFrom c at)))
+
+    pub met-bounds : at ≤ length c → (at ≤ k .end) × (k .end ≤ length c)
+    met-bounds h = (omega (arith, end-is), rw end-is (end-within c tab at h))
+
+    pub met-unnamed : k .named ≡ false → shortName (childFrom c at) ≡ false
+    met-unnamed e = sym (ap (λ y. y .named) q) ∙ e
+
   -- the walk meets the next child
   first-child : (at : ℕ) → at ≤ length c → childrenFrom c at ≡ childFrom c at ∷ childrenFrom c (partEnd c tab at + 1)
   first-child at h =
       rw (le-leb at (length c) h)
-      (part-at c tab at h ∙ ap (λ y. y ∷ more c tab (partEnd c tab at)) whole ∙ ap (λ l. childFrom c at ∷ l) (behind (partEnd c tab at)))
+      (part-at c tab at h ∙ ap (λ y. y ∷ more c tab (partEnd c tab at)) (met-part at (childAt c at) refl) ∙ ap (λ l. childFrom c at ∷ l) (behind (partEnd c tab at)))
     where
-      whole : part c at (partEnd c tab at) ≡ childFrom c at
-      whole = let z : partEnd c tab at - at ≡ length (childFrom c at) = omega arith in rw z (front-take (other tab) (drop at c))
-
       behind : (e : ℕ) → more c tab e ≡ childrenFrom c (e + 1)
       behind e = by-test (ltb e (length c)) (λ t. let k = ltb-true e (length c) t in rw (t, add-one, le-leb (suc e) (length c) k)) (λ t. let k = ltb-false e (length c) t in rw (t, add-one, lt-leb (suc e) (length c) (omega arith)))
 
@@ -114,6 +130,9 @@ module _ (c : Text) where
         let b : n < length (split tab c) = omega (arith, length-drop n (split tab c), ap length e) in
         let g : childFrom c at ∷ childrenFrom c (partEnd c tab at + 1) ≡ getD (split tab c) n [] ∷ drop (suc n) (split tab c) = e ∙ drop-cons (split tab c) n [] b in
         (b, sym (head-eq-of-cons-eq g), sym (tail-eq-of-cons-eq g))
+
+    pub one-more : at ≤ length c → n < length (split tab c)
+    one-more h = next-is h .0
 
     -- one that is no name
     pub walk-stops : at ≤ length c → shortName (childFrom c at) ≡ false → Refused NoName ≡ childrenOf (split tab c)
@@ -146,11 +165,11 @@ module _ (c : Text) where
     names-all : length c < at → allNames (split tab c) ≡ true
     names-all h = rw (← take-length (split tab c), ← walked h) (p .named)
 
-    pub walk-few : length c < at → n ≤ maxRow → n ≤ length row → RowRead ns (split tab c) row (Count n)
+    pub walk-few : length c < at → n ≤ maxRow → min (length (split tab c)) maxRow ≤ length row → RowRead ns (split tab c) row (Count n)
     walk-few h l r =
         let e = walked h in record {
           is = rw (names-all h, ← e, le-leb n maxRow l);
-          row-is = p .filled r ∙ ap (rowOf ns) (take-all n (split tab c) (omega arith));
+          row-is = p .filled (omega (arith, e)) ∙ ap (rowOf ns) (take-all n (split tab c) (omega arith));
         }
 
     pub walk-many : length c < at → maxRow < n → RowRead ns (split tab c) row (Refused ManyChildren)

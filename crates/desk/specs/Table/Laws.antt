@@ -156,6 +156,14 @@ pub hash-starts : (y : Text) → hashFrom 0 y ≡ hashOf y
 unfolding hashOf
 hash-starts y = refl
 
+pub hash-small : (y : Text) → hashOf y < slots
+unfolding hashOf
+hash-small y = go y 0 (omega arith)
+  where
+    go : (z : Text) (h : ℕ) → h < slots → hashFrom h z < slots
+    go [] h l = l
+    go (b ∷ z) h l = go z (mixed h b) (omega arith)
+
 -- spots, filled from the front
 pub spots-next : (w : List ℕ) (ps : List NamePlace) (d : NamePlace) (i : ℕ) → i < length w → i < length ps → take i w ≡ map spotOf (take i ps)
     → take (i + 1) (set w i (spotOf (getD ps i d))) ≡ map spotOf (take (i + 1) ps)
