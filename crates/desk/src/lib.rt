@@ -1,4 +1,5 @@
 // The desk: a model text and a children text in, a number out.
 
+pub mod answer;
 mod row;
 mod table;

@@ -153,7 +153,7 @@ module _ (c : Text) where
           left = rw (add-one n, d) (sym (i .2));
           named = rw (add-one n, take-suc (split tab c) n [] (i .0)) (good (take n (split tab c)) (getD (split tab c) n []) (p .named) (rw (i .1) f));
           filled = λ l. let b : n < length row = omega (arith, length-set row n v) in
-            rw (add-one n, take-suc-set row n v b, take-suc (split tab c) n [] (i .0), map-append, p .filled (omega arith), i .1, w);
+              rw (add-one n, take-suc-set row n v b, take-suc (split tab c) n [] (i .0), map-append, p .filled (omega arith), i .1, w);
         }
 
     -- there are no more

@@ -104,14 +104,15 @@ module _ (ns : List Text) (heads next : List ℕ) (table : Table ns heads next) 
         let z : suc (k - 1) ≡ k = omega arith in
         let j : ℕ = getD next (k - 1) 0 in
         let f : firstFrom (hashOf x) (suc k) (drop k ns) ≡ getD next (k - 1) 0 = sym (table .follows (k - 1) (omega arith) (omega (arith, s .known n .0)) ∙ rw (s .known n .1, z)) in
-        let q = known-at ns x k (getD next (k - 1) 0) (s .known n .0) f in
-        (record {
-          number-is = sym (skip-to ns x k (getD next (k - 1) 0) f) ∙ sym (here ∙ rw e) ∙ s .number-is;
-          known = λ o. (q o .1, q o .2);
-        },
-        by-test (eqb (getD next (k - 1) 0) 0)
-        (λ o. rw (o, ne-eqb k 0 n) (omega (arith, s .known n .0)))
-        (λ o. rw (o, ne-eqb k 0 n) (omega (arith, s .known n .0, q (eqb-false (getD next (k - 1) 0) 0 o) .0, q (eqb-false (getD next (k - 1) 0) 0 o) .1))))
+        let q = known-at ns x k (getD next (k - 1) 0) (s .known n .0) f in (
+          record {
+            number-is = sym (skip-to ns x k (getD next (k - 1) 0) f) ∙ sym (here ∙ rw e) ∙ s .number-is;
+            known = λ o. (q o .1, q o .2);
+          },
+          by-test (eqb (getD next (k - 1) 0) 0)
+              (λ o. rw (o, ne-eqb k 0 n) (omega (arith, s .known n .0)))
+              (λ o. rw (o, ne-eqb k 0 n) (omega (arith, s .known n .0, q (eqb-false (getD next (k - 1) 0) 0 o) .0, q (eqb-false (getD next (k - 1) 0) 0 o) .1))),
+        )
 
 pub walk-ends : (ns : List Text) (x : Text) (k : ℕ) → Stands ns x k → k ≡ 0 → 0 ≡ numberIn ns x
 walk-ends ns x k s e = sym (rw e) ∙ s .number-is
@@ -131,11 +132,11 @@ links-turn ns i slot heads next h few s b w = record {
   heads-long = length-set heads slot (suc i) ∙ w .heads-long;
   next-long = length-set next i (getD heads slot 0) ∙ w .next-long;
   first = λ g l. rw (drop-cons ns i [] h, ← s) (by-cases (ℕ-discrete g slot)
-    (λ e. rw (e, getD-set-same heads slot (suc i) 0 (omega (arith, w .heads-long)), eq-eqb slot slot refl))
-    (λ e. rw (getD-set-other heads slot g (suc i) 0 e, ne-eqb slot g (λ d. e (sym d))) (w .first g l)));
+      (λ e. rw (e, getD-set-same heads slot (suc i) 0 (omega (arith, w .heads-long)), eq-eqb slot slot refl))
+      (λ e. rw (getD-set-other heads slot g (suc i) 0 e, ne-eqb slot g (λ d. e (sym d))) (w .first g l)));
   follows = λ j a l. by-cases (ℕ-discrete j i)
-    (λ e. rw (e, getD-set-same next i (getD heads slot 0) 0 (omega (arith, w .next-long)), ← s) (w .first slot b))
-    (λ e. rw (getD-set-other next i j (getD heads slot 0) 0 e) (w .follows j (omega arith) l));
+      (λ e. rw (e, getD-set-same next i (getD heads slot 0) 0 (omega (arith, w .next-long)), ← s) (w .first slot b))
+      (λ e. rw (getD-set-other next i j (getD heads slot 0) 0 e) (w .follows j (omega arith) l));
 }
 
 pub links-next : (ns : List Text) (i slot : ℕ) (heads next : List ℕ) → 0 < i → i ≤ length ns → length ns ≤ maxAtoms → slot ≡ hashOf (getD ns (i - 1) []) → slot < slots

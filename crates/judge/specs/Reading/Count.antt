@@ -69,13 +69,13 @@ module _ (r : State) (s : Text → State) (first : (d : ℕ) → T (isDigit d) �
           by-test (eqb (getD x p 0) (code "0"))
           (λ z. made (getD x p 0 ∷ []) t (rw (drop-cons x p 0 h, t, z)) (record { text = getD x p 0 ∷ []; on = omega arith; number = refl; some = (getD x p 0, [], refl); at-is = b; over = rw (z, and-false) }))
           (λ z.
-            let g : At x l (p + 1 + length (front isDigit (drop (p + 1) x))) (s (getD x p 0 ∷ front isDigit (drop (p + 1) x))) =
-              run-front isDigit (λ ds. s (getD x p 0 ∷ ds)) (λ ds d i. grow (getD x p 0 ∷ ds) d (rw (T-true (isDigit d) i, z) tt)) (λ ds. quiet (getD x p 0 ∷ ds)) x l (drop (p + 1) x) (p + 1) [] refl b
-            in
-            let o : isDigit (getD x (p + 1 + length (front isDigit (drop (p + 1) x))) 0) ≡ false = front-over isDigit x (p + 1) refl in
-            let q : p + length (getD x p 0 ∷ front isDigit (drop (p + 1) x)) ≡ p + 1 + length (front isDigit (drop (p + 1) x)) = omega arith in
-            made (getD x p 0 ∷ front isDigit (drop (p + 1) x)) t (rw (drop-cons x p 0 h, t, z, add-one))
-            (record { text = getD x p 0 ∷ front isDigit (drop (p + 1) x); on = omega arith; number = refl; some = (getD x p 0, front isDigit (drop (p + 1) x), refl); at-is = rw q g; over = rw (q, o) }))
+          let g : At x l (p + 1 + length (front isDigit (drop (p + 1) x))) (s (getD x p 0 ∷ front isDigit (drop (p + 1) x))) =
+          run-front isDigit (λ ds. s (getD x p 0 ∷ ds)) (λ ds d i. grow (getD x p 0 ∷ ds) d (rw (T-true (isDigit d) i, z) tt)) (λ ds. quiet (getD x p 0 ∷ ds)) x l (drop (p + 1) x) (p + 1) [] refl b
+          in
+          let o : isDigit (getD x (p + 1 + length (front isDigit (drop (p + 1) x))) 0) ≡ false = front-over isDigit x (p + 1) refl in
+          let q : p + length (getD x p 0 ∷ front isDigit (drop (p + 1) x)) ≡ p + 1 + length (front isDigit (drop (p + 1) x)) = omega arith in
+          made (getD x p 0 ∷ front isDigit (drop (p + 1) x)) t (rw (drop-cons x p 0 h, t, z, add-one))
+          (record { text = getD x p 0 ∷ front isDigit (drop (p + 1) x); on = omega arith; number = refl; some = (getD x p 0, front isDigit (drop (p + 1) x), refl); at-is = rw q g; over = rw (q, o) }))
 
 -- a count that is open is no whole text
 in-count : (k : List Frame) (n : Text) (c : Part) → result (at k (counting n c)) ≡ nothing
@@ -124,9 +124,9 @@ module _ (x : Text) (l : List ℕ) (k : List Frame) (n : Text) (p : ℕ) (a : At
           let v : ltb maxCount m ≡ ltb maxCount (value t) = rw i (capped-over (value t)) in
           by-test (ltb maxCount m) (λ j. rw (e, j) (wrong-count (onward t) refl q _ b o refl h g (sym v ∙ j)))
           (λ j.
-            let d : m ≤ maxCount = ltb-false maxCount m j in
-            let c : value t ≡ m = omega arith in
-            rw (e, j) (right-count (onward t) refl q _ b o refl h g m Unbounded (rw c) (sym v ∙ j)))
+          let d : m ≤ maxCount = ltb-false maxCount m j in
+          let c : value t ≡ m = omega arith in
+          rw (e, j) (right-count (onward t) refl q _ b o refl h g m Unbounded (rw c) (sym v ∙ j)))
 
   -- behind [m..n
   between-read : (t : Text) (m q : ℕ) → m ≡ capped (value t) → p < q → (b : At x l q (at k (counting n (dots t)))) → (is x (code "*") q ≡ false)
@@ -143,10 +143,10 @@ module _ (x : Text) (l : List ℕ) (k : List Frame) (n : Text) (p : ℕ) (a : At
           let o′ : p < r = omega (arith, d .on) in
           by-test (eqb v 0 || ltb v m || ltb maxCount v) (λ j. rw (e, j) (wrong-count (between t (d .text)) refl r _ (d .at-is) o′ refl h g (sym w ∙ j)))
           (λ j.
-            let u = above-of m v maxCount j in
-            let c : value t ≡ m = omega (arith, u .0, u .1, d .number) in
-            let c′ : value (d .text) ≡ v = omega (arith, u .1, d .number) in
-            rw (e, j) (right-count (between t (d .text)) refl r _ (d .at-is) o′ refl h g m (Number v) (rw (c, c′)) (sym w ∙ j)))
+          let u = above-of m v maxCount j in
+          let c : value t ≡ m = omega (arith, u .0, u .1, d .number) in
+          let c′ : value (d .text) ≡ v = omega (arith, u .1, d .number) in
+          rw (e, j) (right-count (between t (d .text)) refl r _ (d .at-is) o′ refl h g m (Number v) (rw (c, c′)) (sym w ∙ j)))
 
   -- behind [m
   bounded-read : (b : At x l (p + 1) (at k (counting n (low []))))
@@ -166,12 +166,12 @@ module _ (x : Text) (l : List ℕ) (k : List Frame) (n : Text) (p : ℕ) (a : At
           let b₁ : At x l (q + 1) (at k (counting n (dot (d .text)))) = step-on x l q _ (d .at-is) (at k (counting n (dot (d .text)))) (stands-inside x (code ".") q (omega arith) e) (rw (d .over, e, some)) refl tt refl in
           by-test (is x (code ".") (q + 1))
           (λ f.
-            let b₂ : At x l (q + 2) (at k (counting n (dots (d .text)))) = subst (λ (r : ℕ). At x l r (at k (counting n (dots (d .text))))) (omega arith) (step-on x l (q + 1) _ b₁ (at k (counting n (dots (d .text)))) (stands-inside x (code ".") (q + 1) (omega arith) f) (rw f) refl tt refl) in
-            by-test (is x (code "*") (q + 2))
-            (λ g.
-              let b₃ : At x l (q + 3) (at k (counting n (star (d .text)))) = subst (λ (r : ℕ). At x l r (at k (counting n (star (d .text))))) (omega arith) (step-on x l (q + 2) _ b₂ (at k (counting n (star (d .text)))) (stands-inside x (code "*") (q + 2) (omega arith) g) (rw (eqb-true (getD x (q + 2) 0) (code "*") g)) refl tt refl) in
-              rw (e, f, g) (onward-read (d .text) m (q + 3) (d .number) (omega arith) b₃))
-            (λ g. rw (e, f, g) (between-read (d .text) m (q + 2) (d .number) (omega arith) b₂ g (numeralAt x (q + 2)) (numeral-read _ (λ ds. at k (counting n (high (d .text) ds))) (λ d i. cond-true (isDigit d) _ _ i) (λ ds d i. cond-true (isDigit d && grows ds) _ _ i) refl (λ ds. (tt, (refl, refl))) x l (q + 2) b₂))))
+          let b₂ : At x l (q + 2) (at k (counting n (dots (d .text)))) = subst (λ (r : ℕ). At x l r (at k (counting n (dots (d .text))))) (omega arith) (step-on x l (q + 1) _ b₁ (at k (counting n (dots (d .text)))) (stands-inside x (code ".") (q + 1) (omega arith) f) (rw f) refl tt refl) in
+          by-test (is x (code "*") (q + 2))
+          (λ g.
+          let b₃ : At x l (q + 3) (at k (counting n (star (d .text)))) = subst (λ (r : ℕ). At x l r (at k (counting n (star (d .text))))) (omega arith) (step-on x l (q + 2) _ b₂ (at k (counting n (star (d .text)))) (stands-inside x (code "*") (q + 2) (omega arith) g) (rw (eqb-true (getD x (q + 2) 0) (code "*") g)) refl tt refl) in
+          rw (e, f, g) (onward-read (d .text) m (q + 3) (d .number) (omega arith) b₃))
+          (λ g. rw (e, f, g) (between-read (d .text) m (q + 2) (d .number) (omega arith) b₂ g (numeralAt x (q + 2)) (numeral-read _ (λ ds. at k (counting n (high (d .text) ds))) (λ d i. cond-true (isDigit d) _ _ i) (λ ds d i. cond-true (isDigit d && grows ds) _ _ i) refl (λ ds. (tt, (refl, refl))) x l (q + 2) b₂))))
           (λ f. rw (e, f) (bad x l (q + 1) (at k (counting n (dot (d .text)))) b₁ tt (rw f) (in-count k n (dot (d .text)))))
 
   pub count-read : is x (code "[") p ≡ true → CountRead (countAt x p)

@@ -66,10 +66,11 @@ loop-again : tie.Need-loop-again Inv-loop μ-loop
 loop-again c = let s = c .before .before .before .before .before .before .before .before .before .before .before .before .before in let a = s .args in let l = c .before .before .before .before .before .before .before .before .before .loop in let k = c .before .before .before .before .before .before .before .child-at in
     let ns = spotParts (a .model .now) (a .spots .now) (a .n) in
     let v = c .before .before .before .before .find .ensures ∙ ap (numberIn ns) (met-part (a .children .now) (l .at) (k .result) (k .ensures)) in
-    let w = walk-goes (a .children .now) ns (l .row) (l .count) (l .at) (l .inv .2) (c .before .before .before .before .before .before .before .before .loop-test .taken) (k .result) (k .ensures) (c .before .before .before .before .before .before .if1 .taken) (c .before .before .before .before .find .result) v in
-    (ap length (c .before .before .put .ensures) ∙ length-set (l .row) (l .count) (c .before .before .before .before .find .result) ∙ l .inv .0,
-    omega (arith, met-bounds (a .children .now) (l .at) (k .result) (k .ensures) (c .before .before .before .before .before .before .before .before .loop-test .taken)),
-    subst (λ r. Passed ns (a .children .now) r (l .count + 1) (k .result .end + 1)) (sym (c .before .before .put .ensures)) w)
+    let w = walk-goes (a .children .now) ns (l .row) (l .count) (l .at) (l .inv .2) (c .before .before .before .before .before .before .before .before .loop-test .taken) (k .result) (k .ensures) (c .before .before .before .before .before .before .if1 .taken) (c .before .before .before .before .find .result) v in (
+      ap length (c .before .before .put .ensures) ∙ length-set (l .row) (l .count) (c .before .before .before .before .find .result) ∙ l .inv .0,
+      omega (arith, met-bounds (a .children .now) (l .at) (k .result) (k .ensures) (c .before .before .before .before .before .before .before .before .loop-test .taken)),
+      subst (λ r. Passed ns (a .children .now) r (l .count + 1) (k .result .end + 1)) (sym (c .before .before .put .ensures)) w,
+    )
 
 same-length-2 : tie.Need-same-length-2 Inv-loop μ-loop
 same-length-2 c = search needs
