@@ -28,7 +28,7 @@ mapped-at f (a ∷ l) zero d e h = refl
 mapped-at f (a ∷ l) (suc i) d e h = mapped-at f l i d e (omega arith)
 
 -- as many names begin before place k as its number says
-place-tally : (x : Text) (n k : ℕ) → k < length (places x n) → T (nameAt x (getD (places x n) k 0)) × (tally (nameAt x) (getD (places x n) k 0) ≡ k)
+pub place-tally : (x : Text) (n k : ℕ) → k < length (places x n) → T (nameAt x (getD (places x n) k 0)) × (tally (nameAt x) (getD (places x n) k 0) ≡ k)
 place-tally x zero k h = absurd (omega arith)
 place-tally x (suc q) k h = by-test (nameAt x q) (λ e. rw e (last e (place-tally x q k) (rw e at h))) (λ e. rw e (place-tally x q k (rw e at h)))
   where

@@ -72,7 +72,7 @@ module _ (m : Text) (t : Syntax) (h : Answers m (accepted t)) where
   few-names : length (places m (length m)) ≤ maxAtoms
   few-names = omega (arith, names-atoms, accepted-within m t h .few-atoms)
 
-  place-in : (i : ℕ) → i < length (places m (length m)) → getD (namesOf m .places) i noPlace ≡ namePlace m (getD (places m (length m)) i 0)
+  pub place-in : (i : ℕ) → i < length (places m (length m)) → getD (namesOf m .places) i noPlace ≡ namePlace m (getD (places m (length m)) i 0)
   place-in i l =
       List·getD-append (map (namePlace m) (places m (length m))) _ noPlace i (rw (length-map (places m (length m)) (namePlace m)) l)
       ∙ mapped-at (namePlace m) (places m (length m)) i 0 noPlace l
