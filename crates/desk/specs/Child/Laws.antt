@@ -367,3 +367,7 @@ module _ (m c : Text) (k : ℕ) (x : Located) (e : x ≡ located (found m c k)) 
       go (noChildren g) h i = let z : g ≡ f = cc in (refl, rw z)
       go (good (ofModel p l)) h i = let z : _≡_ {A = ℕ} 0 1 = cc in absurd (omega arith)
       go (good (ofChildren p l)) h i = let z : _≡_ {A = ℕ} 0 1 = cc in absurd (omega arith)
+
+-- a part by its end is the part by its length
+pub part-sized : (x : Text) (s n : ℕ) → take (s + n - s) (drop s x) ≡ take n (drop s x)
+part-sized x s n = let e : s + n - s ≡ n = omega arith in ap (λ j. take j (drop s x)) e
