@@ -69,11 +69,11 @@ part-result-end-4 c = search needs
 
 returns : tie.Need-returns
 returns c = let a = c .before .before .before .before .before .before .before .args in let g = in-model (a .model .now) (a .children .now) (a .k) (c .before .before .before .before .locate .result) (c .before .before .before .before .locate .ensures) _ _ (c .before .before .start .given .1) in
-    rw (g .0) (refl, omega arith, part-sized (a .model .now) _ _)
+    rw (g .0) (refl, omega arith, part-sized (a .model .now) (c .before .before .start .given .0 .0) (c .before .before .start .given .0 .1 .0))
 
 returns-2 : tie.Need-returns-2
 returns-2 c = let a = c .before .before .before .before .before .before .before .args in let g = in-children (a .model .now) (a .children .now) (a .k) (c .before .before .before .before .locate .result) (c .before .before .before .before .locate .ensures) _ _ (c .before .before .start2 .given .1) in
-    rw (g .0) (refl, omega arith, part-sized (a .children .now) _ _)
+    rw (g .0) (refl, omega arith, part-sized (a .children .now) (c .before .before .start2 .given .0 .0) (c .before .before .start2 .given .0 .1 .0))
 
 returns-3 : tie.Need-returns-3
 returns-3 c = let a = c .before .before .before .before .before .before .args in let g = no-model (a .model .now) (a .children .now) (a .k) (c .before .before .before .locate .result) (c .before .before .before .locate .ensures) _ (c .before .enum-told .given .1) in
