@@ -1,20 +1,19 @@
 -- The names of a model stand at the places where names begin in its text.
 use mathlib.Core.Path.{_≡_, refl, sym, ap, subst, _∙_}
 use mathlib.Core.Logic.{by-cases}
-use mathlib.Core.Bool.{Bool, true, false, cond}
+use mathlib.Core.Bool.{true}
 use mathlib.Core.List.{List, [], _∷_, _++_, map}
-use Prim.Native.Nat.{ℕ, zero, suc, _+_, _-_, _≤_, _<_}
+use Prim.Native.Nat.{ℕ, zero, suc, _≤_, _<_}
 use native.Mathlib.Decide.{decLt}
 use native.Mathlib.Omega.{arith}
-use lib.Dec.{T, eqb}
-use lib.ListN.{length, take, drop, getD, length-map, length-append, List·getD-append}
+use lib.Dec.{T}
+use lib.ListN.{length, getD, length-map, length-append, List·getD-append}
 use lib.Seq.{ext-getD, getD-at, take-at}
 use Rattle.judge.specs.Tests.{by-test}
-use Rattle.judge.specs.declared.text.NamePlace.{NamePlace}
-use Rattle.judge.specs.Bytes.{Text, sameText}
+use Rattle.judge.specs.Bytes.{Text}
 use Rattle.judge.specs.Bytes.Laws.{front-take}
 use Rattle.judge.specs.Tree.{Formed}
-use Rattle.judge.specs.Syntax.{Syntax, SpellingFormed, Spells, text, names, numberFrom, numberIn}
+use Rattle.judge.specs.Syntax.{Syntax, SpellingFormed, Spells, text, names}
 use Rattle.judge.specs.Fault.{nameAt, nameFrom, tally}
 use Rattle.judge.specs.Fault.Answered.{name-inside}
 use Rattle.judge.specs.Fault.Ties.{places, places-tally}

@@ -1,13 +1,13 @@
 -- What a reading of a model text hands to the desk, and what the judge then says of a row.
 use mathlib.Core.Path.{_≡_, refl, sym, ap, subst, _∙_}
 use mathlib.Core.Logic.{inr, by-cases}
-use mathlib.Core.Bool.{Bool, true, false, cond, _&&_}
-use mathlib.Core.List.{List, [], _∷_, _++_, map}
-use Prim.Native.Nat.{ℕ, zero, suc, _+_, _-_, _*_, _/_, _%_, _≤_, _<_, min}
+use mathlib.Core.Bool.{true}
+use mathlib.Core.List.{List, [], _∷_, map}
+use Prim.Native.Nat.{ℕ, suc, _+_, _-_, _/_, _%_, _≤_, _<_}
 use native.Mathlib.Decide.{decLe}
 use native.Mathlib.Omega.{arith}
-use lib.Dec.{T, leb, ltb, eqb}
-use lib.ListN.{length, take, drop, getD, replicate, length-map, length-take, length-append, length-replicate, List·getD-append}
+use lib.Dec.{leb, eqb}
+use lib.ListN.{length, take, getD, length-map, length-take, length-append, length-replicate, List·getD-append}
 use lib.Seq.{getD-take}
 use borrow.Author.Tests.{leb-true, le-leb, le-ltb, lt-ltb}
 use Rattle.judge.specs.Tests.{by-test}
@@ -51,7 +51,7 @@ use Rattle.fields.specs.Children.{cueNumber, allNames, childrenOf, rowOf}
 use Rattle.desk.specs.Names.{mapped-at, names-many, parts-are, begins-at}
 use Rattle.desk.specs.Table.{spotOf, spotPart, spotParts, Spots}
 use Rattle.desk.specs.Row.{Filled, RowRead}
-use Rattle.desk.specs.Desk.{childrenIn, maxChildrenText, Asked, row, child, Reply, noChildren, good, askedBy, childrenBy, replyNumber, verdictNumber, deskAnswer}
+use Rattle.desk.specs.Desk.{childrenIn, maxChildrenText, row, Reply, noChildren, good, childrenBy, replyNumber, verdictNumber, deskAnswer}
 
 -- a rule that some text reads into, and names that are parts of the text, no more than the rule has
 pub record Sound (m : Text) (ns : Names) (r : Rule) : Type 0 where

@@ -1,7 +1,6 @@
 // The children: each tested and numbered.
 
 ghost use mathlib.Core.Path.{_≡_};
-ghost use mathlib.Core.List.{map};
 ghost use Prim.Native.Nat.{_≤_, _<_, min};
 ghost use lib.ListN.{length, set};
 ghost use Rattle.judge.specs.Bytes.{isLetter, isInner};

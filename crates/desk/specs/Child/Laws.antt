@@ -1,16 +1,16 @@
 -- Every child asked for has one reply, and `found` computes it; and what the code sees on the way.
 use mathlib.Core.Path.{_≡_, refl, sym, ap, subst, _∙_}
 use mathlib.Core.Logic.{_↔_, inl, inr, by-cases}
-use mathlib.Core.Bool.{Bool, true, false, cond, _&&_, true≢false}
-use mathlib.Core.List.{List, [], _∷_, _++_, head-eq-of-cons-eq, tail-eq-of-cons-eq}
+use mathlib.Core.Bool.{true, false, cond, _&&_}
+use mathlib.Core.List.{List, [], _∷_, head-eq-of-cons-eq, tail-eq-of-cons-eq}
 use Prim.Native.Nat.{ℕ, zero, suc, _+_, _-_, _≤_, _<_}
 use native.Mathlib.Decide.{decLt}
 use native.Mathlib.Numerals.{add-one}
 use native.Mathlib.Omega.{arith}
-use lib.Dec.{T, leb, ltb, eqb}
+use lib.Dec.{T, leb, ltb}
 use lib.ListN.{length, take, drop, getD, length-drop, length-take, length-append}
 use lib.Seq.{drop-cons}
-use borrow.Author.Tests.{leb-true, le-leb, lt-leb, le-ltb, lt-ltb, ltb-true, ltb-false}
+use borrow.Author.Tests.{leb-true, lt-leb, le-ltb, lt-ltb, ltb-true, ltb-false}
 use Rattle.judge.specs.Tests.{by-test}
 use Rattle.judge.specs.declared.fault.ModelFault.{ModelFault}
 use Rattle.judge.specs.declared.fault.ModelFault.the-variants.{Repeated}
@@ -23,10 +23,8 @@ use Rattle.judge.specs.Syntax.{Syntax, text, names, numberFrom, numberIn}
 use Rattle.judge.specs.Fault.{nameAt, nameFrom, tally, modelNumber, Answer, Answers, refused, accepted}
 use Rattle.judge.specs.Fault.Answered.{answer, answered, name-inside}
 use Rattle.judge.specs.Fault.Ties.{places}
-use Rattle.judge.specs.Accept.Laws.{accepted-within}
-use Rattle.judge.specs.Accept.Places.{tally-passes}
 use Rattle.judge.specs.Accept.Starts.{name-at}
-use Rattle.judge.specs.Reading.{noPlace, namesOf, refusal, readingBy, reading, partsOf, sameText as sameRead, numberFrom as readFrom, numberIn as numberRead}
+use Rattle.judge.specs.Reading.{noPlace, namesOf, readingBy, reading, partsOf, sameText as sameRead, numberFrom as readFrom, numberIn as numberRead}
 use Rattle.judge.specs.Reading.Search.{name-fits}
 use Rattle.judge.specs.Limits.{maxRow}
 use Rattle.fields.specs.declared.fault.CueFault.{CueFault}
@@ -38,9 +36,9 @@ use Rattle.fields.specs.Split.Laws.{joined, joined-split, part-at, end-within}
 use Rattle.fields.specs.Children.{cueNumber, allNames, childrenOf}
 use Rattle.desk.specs.declared.child.Located.{Located}
 use Rattle.desk.specs.declared.child.Located.the-variants.{InModel, InChildren, NoModel, NoChildren}
-use Rattle.desk.specs.Desk.{childrenIn, maxChildrenText, child, Reply, noModel, noChildren, good, replyNumber, childrenBy, ChildrenFault}
-use Rattle.desk.specs.Desk.Laws.{Faultless, replies-exactly}
-use Rattle.desk.specs.Names.{place-tally, names-many, begins-at, name-is, parts-are}
+use Rattle.desk.specs.Desk.{childrenIn, maxChildrenText, child, Reply, noModel, noChildren, good, replyNumber, childrenBy}
+use Rattle.desk.specs.Desk.Laws.{replies-exactly}
+use Rattle.desk.specs.Names.{names-many, begins-at, name-is, parts-are}
 use Rattle.desk.specs.Sound.{kidsBy, place-in, children-some}
 use Rattle.desk.specs.Child.{Part, ofModel, ofChildren, childName, startIn, Stands, Finds, partBy, partIn, found, childRefusal, partOf, childPart, located}
 

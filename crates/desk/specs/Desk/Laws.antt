@@ -1,22 +1,23 @@
 -- Every two texts have one reply, and `reply` computes it.
 use mathlib.Core.Path.{_≡_, refl, sym, ap, _∙_}
-use mathlib.Core.Logic.{_⊎_, inl, inr, _↔_}
-use mathlib.Core.Bool.{Bool, true, false, cond, _&&_, true≢false}
+use mathlib.Core.Logic.{inl, inr, _↔_}
+use mathlib.Core.Bool.{true, false, cond, _&&_, true≢false}
 use Prim.Native.Nat.{ℕ, _≤_, _<_}
 use native.Mathlib.Omega.{arith}
 use lib.Dec.{leb, ltb, eqb}
 use lib.ListN.{length}
 use borrow.Author.Tests.{ltb-true, ltb-false, leb-true, leb-false}
 use Rattle.judge.specs.Tests.{by-test}
+use Rattle.judge.specs.declared.fault.ModelFault.{ModelFault}
+use Rattle.judge.specs.declared.fault.ModelFault.the-variants.{Size, Spelling, LongName, WrongCount, TooDeep, ManyAtoms, ManyNodes, Repeated}
 use Rattle.judge.specs.declared.verdict.Verdict.{Verdict}
-use Rattle.judge.specs.Word.{Word}
-use Rattle.judge.specs.Types.{ConflictFree}
+use Rattle.judge.specs.declared.verdict.Verdict.the-variants.{Complete, Open, Dead}
 use Rattle.judge.specs.Verdict.{Says}
 use Rattle.judge.specs.Verdict.Laws.{verdict, verdict-is}
 use Rattle.judge.specs.Bytes.{Text}
 use Rattle.judge.specs.Syntax.{Syntax}
-use Rattle.judge.specs.Fault.{Answer, Answers, refused, accepted}
-use Rattle.judge.specs.Fault.Answered.{answer, answered, answer-is}
+use Rattle.judge.specs.Fault.{modelNumber, Answer, Answers, refused, accepted}
+use Rattle.judge.specs.Fault.Answered.{number-injective, answer, answered, answer-is}
 use Rattle.judge.specs.Accept.Laws.{accepted-counts}
 use Rattle.judge.specs.Model.{modelOf, typeOf}
 use Rattle.judge.specs.Model.Types.{type-conflict-free}
@@ -24,7 +25,7 @@ use Rattle.judge.specs.Limits.{maxRow}
 use Rattle.fields.specs.declared.fault.CueFault.{CueFault}
 use Rattle.fields.specs.declared.fault.CueFault.the-variants.{LongFile, Unended, BadFields, BadNumber, NotAbove, NoName, ManyChildren, NoChild}
 use Rattle.fields.specs.Children.{cueNumber, allNames}
-use Rattle.desk.specs.Desk.{childrenIn, maxChildrenText, Asked, row, child, Missing, ChildrenFault, Reply, noModel, noChildren, good, Replies, askedBy, childrenBy, replyBy, reply, rowIn, DeskJudges, deskJudged}
+use Rattle.desk.specs.Desk.{childrenIn, maxChildrenText, Asked, row, child, Missing, ChildrenFault, Reply, noModel, noChildren, good, Replies, askedBy, childrenBy, replyBy, reply, rowIn, replyNumber, verdictNumber, DeskJudges, deskJudged, deskAnswer}
 
 -- a fault of the children is known by its number
 cueOf : ℕ → CueFault
@@ -190,3 +191,57 @@ pub judges-exactly : (m c : Text) (r : Reply Verdict) → (deskJudged m c ≡ r)
 judges-exactly m c =
     replies-exactly row (λ t. verdict (typeOf (modelOf t)) (rowIn t c)) (λ t v. Says (typeOf (modelOf t)) (rowIn t c) v) m c
     (λ t h g v. verdict-is (typeOf (modelOf t)) (type-conflict-free (modelOf t) (accepted-counts m t h)) (rowIn t c) v)
+
+-- a reply is known by its number: those of the model text are below 18, those of the children text from 30 on, verdicts below 3
+model-under : (f : ModelFault) → (10 ≤ modelNumber f) × (modelNumber f < 18)
+model-under Size = (omega arith, omega arith)
+model-under Spelling = (omega arith, omega arith)
+model-under LongName = (omega arith, omega arith)
+model-under WrongCount = (omega arith, omega arith)
+model-under TooDeep = (omega arith, omega arith)
+model-under ManyAtoms = (omega arith, omega arith)
+model-under ManyNodes = (omega arith, omega arith)
+model-under Repeated = (omega arith, omega arith)
+
+cue-over : (f : CueFault) → 30 ≤ cueNumber f
+cue-over LongFile = omega arith
+cue-over Unended = omega arith
+cue-over BadFields = omega arith
+cue-over BadNumber = omega arith
+cue-over NotAbove = omega arith
+cue-over NoName = omega arith
+cue-over ManyChildren = omega arith
+cue-over NoChild = omega arith
+
+verdict-under : (v : Verdict) → verdictNumber v < 3
+verdict-under Complete = omega arith
+verdict-under Open = omega arith
+verdict-under Dead = omega arith
+
+verdict-injective : (u v : Verdict) → verdictNumber u ≡ verdictNumber v → u ≡ v
+verdict-injective Complete Complete e = refl
+verdict-injective Complete Open e = absurd (omega arith)
+verdict-injective Complete Dead e = absurd (omega arith)
+verdict-injective Open Complete e = absurd (omega arith)
+verdict-injective Open Open e = refl
+verdict-injective Open Dead e = absurd (omega arith)
+verdict-injective Dead Complete e = absurd (omega arith)
+verdict-injective Dead Open e = absurd (omega arith)
+verdict-injective Dead Dead e = refl
+
+reply-injective : (r s : Reply Verdict) → replyNumber verdictNumber r ≡ replyNumber verdictNumber s → r ≡ s
+reply-injective (noModel f) (noModel g) e = let d : f ≡ g = number-injective f g e in cc
+reply-injective (noModel f) (noChildren g) e = absurd (omega (arith, model-under f, cue-over g))
+reply-injective (noModel f) (good v) e = absurd (omega (arith, model-under f, verdict-under v))
+reply-injective (noChildren f) (noModel g) e = absurd (omega (arith, cue-over f, model-under g))
+reply-injective (noChildren f) (noChildren g) e = let d : f ≡ g = cue-injective f g e in cc
+reply-injective (noChildren f) (good v) e = absurd (omega (arith, cue-over f, verdict-under v))
+reply-injective (good u) (noModel g) e = absurd (omega (arith, verdict-under u, model-under g))
+reply-injective (good u) (noChildren g) e = absurd (omega (arith, verdict-under u, cue-over g))
+reply-injective (good u) (good v) e = let d : u ≡ v = verdict-injective u v e in cc
+
+pub answer-exactly : (m c : Text) (r : Reply Verdict) → (deskAnswer m c ≡ replyNumber verdictNumber r) ↔ DeskJudges m c r
+answer-exactly m c r = (
+  λ e. judges-exactly m c r .0 (reply-injective (deskJudged m c) r e),
+  λ h. ap (replyNumber verdictNumber) (judges-exactly m c r .1 h),
+)

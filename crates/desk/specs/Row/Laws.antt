@@ -1,21 +1,20 @@
 -- How the children are met one by one, tested and numbered.
-use mathlib.Core.Path.{_≡_, refl, sym, ap, subst, _∙_}
-use mathlib.Core.Bool.{Bool, true, false, cond, _&&_, _||_, true≢false, and-true, and-false, and-assoc}
-use mathlib.Core.List.{List, [], _∷_, _++_, map, map-append, head-eq-of-cons-eq, tail-eq-of-cons-eq}
+use mathlib.Core.Path.{_≡_, refl, sym, ap, _∙_}
+use mathlib.Core.Bool.{Bool, true, false, _&&_, _||_, true≢false, and-true, and-false, and-assoc}
+use mathlib.Core.List.{List, [], _∷_, _++_, map-append, head-eq-of-cons-eq, tail-eq-of-cons-eq}
 use Prim.Native.Nat.{ℕ, zero, suc, _+_, _-_, _≤_, _<_, min}
 use native.Mathlib.Numerals.{add-one}
 use native.Mathlib.Omega.{arith}
-use lib.Dec.{leb, ltb, eqb}
+use lib.Dec.{ltb, eqb}
 use lib.ListN.{length, take, drop, getD, set, length-set, length-drop, drop-of-length-le}
 use lib.Seq.{drop-cons, take-suc, take-suc-set, take-all, take-length, getD-drop}
 use borrow.Author.Tests.{eqb-false, eq-eqb, ne-eqb, le-leb, lt-leb, ltb-true, ltb-false}
 use Rattle.judge.specs.Tests.{by-test}
-use Rattle.judge.specs.Bytes.{Text, isLetter, isInner, all, isName, front}
+use Rattle.judge.specs.Bytes.{Text, isLetter, isInner, all, front}
 use Rattle.judge.specs.Bytes.Laws.{front-take}
 use Rattle.judge.specs.Syntax.{numberIn}
 use Rattle.judge.specs.Limits.{maxName, maxRow}
 use Rattle.fields.specs.declared.fault.CueFault.the-variants.{NoName, ManyChildren}
-use Rattle.fields.specs.declared.children.Children.{Children}
 use Rattle.fields.specs.declared.children.Children.the-variants.{Count, Refused}
 use Rattle.fields.specs.Split.{tab, split, other, partEnd, more}
 use Rattle.fields.specs.Split.Laws.{part-at, end-within}
@@ -24,7 +23,7 @@ use Rattle.fields.specs.Children.Laws.{name-refused, name-sized, name-is}
 use Rattle.desk.specs.declared.row.Child.{Child}
 use Rattle.desk.specs.Table.{slots, mixed, hashFrom, hashOf}
 use Rattle.desk.specs.Table.Laws.{hash-starts, hash-small}
-use Rattle.desk.specs.Row.{childFrom, childAt, nameTo, childrenFrom, Passed, Filled, RowRead}
+use Rattle.desk.specs.Row.{childFrom, childAt, nameTo, childrenFrom, Passed, RowRead}
 
 -- A scan of the child that begins at `at` stands at i: what is left of the child, with what the scan has, gives the whole.
 pub record Scanning (c : Text) (at i hash : ℕ) (inner : Bool) : Type 0 where

@@ -1,4 +1,5 @@
-use mathlib.Core.Path.{_≡_, _∙_}
+-- Size first; no bytes are no children.
+use mathlib.Core.Path.{_∙_}
 use Rattle.desk.specs.Sound.{none-judged, answer-long, answer-none}
 use borrow.Author.Needs.{needs}
 use Rattle.desk.proofs.answer.answer_read.Statement.{statement}

@@ -1,4 +1,5 @@
-use mathlib.Core.Path.{_≡_, _∙_}
+-- By the reading of the model text.
+use mathlib.Core.Path.{_∙_}
 use Rattle.desk.specs.Sound.{read-sound, read-answer, read-refused}
 use borrow.Author.Needs.{needs}
 use Rattle.desk.proofs.answer.desk_judge.Statement.{statement}

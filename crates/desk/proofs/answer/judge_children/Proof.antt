@@ -1,4 +1,5 @@
-use mathlib.Core.Path.{_≡_, refl, sym, ap, _∙_}
+-- The names are linked, the children read into the row, and the row judged.
+use mathlib.Core.Path.{refl, sym, _∙_}
 use native.Mathlib.Omega.{arith}
 use Rattle.fields.specs.Split.{tab, split}
 use Rattle.desk.specs.Sound.{spots-sound, row-given, counted-row, counted-long, answer-row, answer-refused}

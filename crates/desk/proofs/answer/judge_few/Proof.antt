@@ -1,3 +1,4 @@
+-- There are not more children than bytes, and one.
 use native.Mathlib.Omega.{arith}
 use Rattle.desk.specs.Sound.{fields-few}
 use borrow.Author.Needs.{needs}

@@ -1,4 +1,5 @@
-use mathlib.Core.Path.{_≡_, ap, _∙_}
+-- The judge refuses no such row.
+use mathlib.Core.Path.{ap, _∙_}
 use Rattle.desk.specs.Desk.{verdictNumber}
 use Rattle.desk.specs.Sound.{verdict-is, not-refused}
 use borrow.Author.Needs.{needs}

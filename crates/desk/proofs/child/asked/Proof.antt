@@ -1,4 +1,4 @@
-use mathlib.Core.Path.{_≡_}
+-- Each refusal in its turn.
 use native.Mathlib.Omega.{arith}
 use Rattle.desk.specs.Child.Laws.{asked-long, asked-none, asked-there, asked-missing, asked-bad}
 use borrow.Author.Needs.{needs}

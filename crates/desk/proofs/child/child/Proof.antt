@@ -1,7 +1,6 @@
-use mathlib.Core.Path.{_≡_, refl, ap}
-use Prim.Native.Nat.{_+_, _-_}
+-- The part lies inside its text, and stands where the look-up says.
+use mathlib.Core.Path.{refl}
 use native.Mathlib.Omega.{arith}
-use lib.ListN.{take, drop}
 use Rattle.desk.specs.Child.Laws.{in-model, in-children, no-model, no-children, part-sized}
 use borrow.Author.Needs.{needs}
 use Rattle.desk.proofs.child.child.Statement.{statement}

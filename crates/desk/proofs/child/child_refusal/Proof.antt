@@ -1,4 +1,5 @@
-use mathlib.Core.Path.{_≡_, sym, _∙_}
+-- By the look-up.
+use mathlib.Core.Path.{sym, _∙_}
 use Rattle.desk.specs.Child.Laws.{in-model, in-children, no-model, no-children}
 use borrow.Author.Needs.{needs}
 use Rattle.desk.proofs.child.child_refusal.Statement.{statement}

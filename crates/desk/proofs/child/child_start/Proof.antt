@@ -1,9 +1,7 @@
+-- Child behind child, to the one before it.
 use mathlib.Core.Path.{_≡_, refl, subst}
-use Prim.Native.Nat.{_+_, _-_, _≤_}
+use Prim.Native.Nat.{_-_, _≤_}
 use native.Mathlib.Omega.{arith}
-use lib.ListN.{length}
-use borrow.Author.Needs.{needs}
-use Rattle.fields.specs.Split.{tab, split}
 use Rattle.desk.specs.Child.Laws.{Reached, reached-first, reached-bounds, reached-next}
 use Rattle.desk.proofs.child.child_start.Statement.{statement}
 use Rattle.desk.proofs.child.child_start.Tie as tie

@@ -1,4 +1,5 @@
-use mathlib.Core.Path.{_≡_, _∙_}
+-- By the reading.
+use mathlib.Core.Path.{_∙_}
 use Rattle.desk.specs.Child.Laws.{located-read, located-unread}
 use borrow.Author.Needs.{needs}
 use Rattle.desk.proofs.child.locate.Statement.{statement}

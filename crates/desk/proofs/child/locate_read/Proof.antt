@@ -1,3 +1,4 @@
+-- The child that is reached, and the number of its name.
 use mathlib.Core.Path.{_≡_, sym, _∙_}
 use Prim.Native.Nat.{_-_, _<_}
 use native.Mathlib.Omega.{arith}

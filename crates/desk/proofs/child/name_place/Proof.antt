@@ -1,4 +1,4 @@
-use mathlib.Core.Path.{_≡_}
+-- 0 is no name.
 use Prim.Native.Nat.{_-_}
 use Rattle.desk.specs.Child.Laws.{located-none, located-some}
 use borrow.Author.Needs.{needs}

@@ -1,9 +1,8 @@
-use mathlib.Core.Path.{_≡_, refl, ap, ap₂, _∙_}
-use mathlib.Core.Bool.{_&&_}
-use Prim.Native.Nat.{_+_, _-_, _<_}
+-- What is left of the child, with what is read of it, gives the whole child.
+use mathlib.Core.Path.{_∙_}
+use Prim.Native.Nat.{_-_, _<_}
 use native.Mathlib.Omega.{arith}
 use lib.ListN.{length}
-use borrow.Author.Needs.{needs}
 use Rattle.desk.specs.Table.{slots}
 use Rattle.desk.specs.Row.Laws.{Scanning, scan-starts, scan-goes, scan-ends, left-none, left-tab}
 use Rattle.desk.proofs.row.child_at.Statement.{statement}

@@ -1,5 +1,5 @@
+-- By the length, then by the first byte.
 use Prim.Native.Nat.{_-_}
-use mathlib.Core.Path.{_≡_, refl}
 use native.Mathlib.Omega.{arith}
 use Rattle.desk.specs.Row.Laws.{sized-by}
 use borrow.Author.Needs.{needs}

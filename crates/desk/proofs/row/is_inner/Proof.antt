@@ -1,4 +1,5 @@
-use mathlib.Core.Path.{_≡_, refl}
+-- By the tests.
+use mathlib.Core.Path.{refl}
 use borrow.Author.Needs.{needs}
 use Rattle.desk.proofs.row.is_inner.Statement.{statement}
 use Rattle.desk.proofs.row.is_inner.Tie as tie

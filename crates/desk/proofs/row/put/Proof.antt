@@ -1,4 +1,5 @@
-use mathlib.Core.Path.{_≡_, sym}
+-- A place past the end is no place.
+use mathlib.Core.Path.{sym}
 use lib.Seq.{set-out}
 use borrow.Author.Needs.{needs}
 use Rattle.desk.proofs.row.put.Statement.{statement}

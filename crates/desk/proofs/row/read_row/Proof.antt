@@ -1,16 +1,14 @@
+-- Child behind child: those passed are names, and their numbers stand in the row.
 use Rattle.desk.specs.Sound.{fields-few}
-use Rattle.desk.specs.Row.Laws.{one-more}
+use Rattle.desk.specs.Row.Laws.{one-more, met-part, met-hash, met-bounds, met-unnamed, walk-starts, walk-stops, walk-goes, walk-few, walk-many}
 use mathlib.Core.Path.{_≡_, refl, sym, ap, subst, _∙_}
-use Prim.Native.Nat.{_+_, _-_, _≤_, _<_, min}
+use Prim.Native.Nat.{_+_, _-_, _≤_}
 use native.Mathlib.Omega.{arith}
-use lib.ListN.{length, set, length-set}
+use lib.ListN.{length, length-set}
 use borrow.Author.Needs.{needs}
-use Rattle.judge.specs.Limits.{maxRow}
 use Rattle.judge.specs.Syntax.{numberIn}
-use Rattle.fields.specs.Split.{tab, split}
 use Rattle.desk.specs.Table.{spotParts}
-use Rattle.desk.specs.Row.{Passed, RowRead}
-use Rattle.desk.specs.Row.Laws.{met-part, met-hash, met-bounds, met-unnamed, walk-starts, walk-stops, walk-goes, walk-few, walk-many}
+use Rattle.desk.specs.Row.{Passed}
 use Rattle.desk.proofs.row.read_row.Statement.{statement}
 use Rattle.desk.proofs.row.read_row.Tie as tie
 use Rattle.desk.proofs.row.read_row.Reads as reads

@@ -3,8 +3,7 @@ use mathlib.Core.Path.{_≡_, refl, sym, ap, _∙_}
 use Prim.Native.Nat.{_+_, _-_, _<_}
 use lib.ListN.{length, drop}
 use native.Mathlib.Omega.{arith}
-use borrow.Author.Needs.{needs}
-use Rattle.desk.specs.Table.{slots, hashFrom, hashOf}
+use Rattle.desk.specs.Table.{slots, hashFrom}
 use Rattle.desk.specs.Table.Laws.{hash-next, hash-ends, hash-starts}
 use Rattle.desk.proofs.table.hash.Statement.{statement}
 use Rattle.desk.proofs.table.hash.Tie as tie

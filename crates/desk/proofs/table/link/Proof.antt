@@ -1,10 +1,10 @@
-use mathlib.Core.Path.{_≡_, refl, sym, ap, subst, _∙_}
-use Prim.Native.Nat.{_+_, _-_, _≤_, _<_}
+-- Names from the last to the first: each goes before those of its hash.
+use mathlib.Core.Path.{_≡_, sym, ap, subst, _∙_}
+use Prim.Native.Nat.{_-_, _≤_}
 use native.Mathlib.Omega.{arith}
-use lib.ListN.{length, getD}
 use borrow.Author.Needs.{needs}
 use Rattle.desk.specs.Table.{spotParts, hashOf, Linked}
-use Rattle.desk.specs.Table.Laws.{links-none, links-next, spots-length, spots-few, spot-named, spot-within}
+use Rattle.desk.specs.Table.Laws.{links-none, links-next, spots-length, spot-named, spot-within}
 use Rattle.desk.proofs.table.link.Statement.{statement}
 use Rattle.desk.proofs.table.link.Tie as tie
 use Rattle.desk.proofs.table.link.Reads as reads
