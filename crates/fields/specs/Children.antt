@@ -1,10 +1,11 @@
 -- Children: the tests of document 01, refusals 35 and 36, and their row of name numbers.
 pub mod Laws
 use mathlib.Core.Bool.{Bool, true, cond, _&&_}
-use mathlib.Core.List.{List, [], _∷_, map}
+use mathlib.Core.Path.{_≡_}
+use mathlib.Core.List.{List, [], _∷_, _++_, map}
 use Prim.Native.Nat.{ℕ}
 use lib.Dec.{leb}
-use lib.ListN.{length}
+use lib.ListN.{length, take, drop}
 use Rattle.judge.specs.Bytes.{Text, isName}
 use Rattle.judge.specs.Limits.{maxName, maxRow}
 use Rattle.judge.specs.Word.{Word}
@@ -40,3 +41,12 @@ childrenOf cs = cond (allNames cs) (cond (leb (length cs) maxRow) (Count (length
 -- the row of children by a model's names
 abbrev pub rowOf : List Text → List Text → Word
 rowOf names cs = map (numberIn names) cs
+
+-- the places of a row: the children's numbers come first, as far as they fit, and the others stay
+abbrev pub RowPut : List Text → List Text → Word → Word → Type 0
+RowPut names cs old new = new ≡ take (length old) (rowOf names cs) ++ drop (length cs) old
+
+-- the row after: a refusal changes no place
+abbrev pub rowAfter : Children → Word → Word → Word
+rowAfter (Count n) new old = take (length old) new ++ drop n old
+rowAfter (Refused f) new old = old

@@ -48,6 +48,7 @@ pub record Three (l : Text) (h : Heads) : Type 0 where
   pub second-is : field 1 l ≡ part l (h .first + 1) (h .second)
   pub third-is : field 2 l ≡ part l (h .second + 1) (h .third)
   pub rest-is : field 2 l ∷ drop 3 (fields l) ≡ split tab (drop (h .second + 1) l)
+  pub behind-is : drop 3 (fields l) ≡ more l tab (h .third)
 
 module _ (l : Text) where
   first-part : (a : ℕ) → a ≡ partEnd l tab 0 → fields l ≡ part l 0 a ∷ more l tab a
@@ -100,6 +101,7 @@ module _ (l : Text) where
           second-is = rw add-one (ap (λ f. getD f 1 []) three);
           third-is = rw add-one (ap (λ f. getD f 2 []) three);
           rest-is = rw add-one (ap (λ f. getD f 2 [] ∷ drop 3 f) three ∙ sym (next-part b d k r) ∙ rest);
+          behind-is = ap (drop 3) three;
         }
 
   pub fields-three : (h : Heads) → h ≡ headsOf l → h .second < length l → Three l h

@@ -4,5 +4,4 @@
 --   Children   names among them, and what is wrong with children
 pub mod Split
 pub mod Heads
-pub mod Same
 pub mod Children

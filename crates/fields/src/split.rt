@@ -81,20 +81,3 @@ pub fn first_fields(line: &[u8]) -> Heads
         third: third,
     }
 }
-
-// Are the bytes of two texts the same?
-pub fn same_text(a: &[u8], b: &[u8]) -> bool
-    ensures { λ r. ⌜ r ≡ sameText (now (a .entry)) (now (b .entry)) ⌝ }
-{
-    if a.len() == b.len() {} else {
-        return false;
-    }
-    let mut i: usize = 0;
-    while i < a.len() {
-        if a[i] == b[i] {} else {
-            return false;
-        }
-        i += 1;
-    }
-    true
-}

@@ -1,4 +1,9 @@
--- What a model text reads into: the answer, the rule, and the names beside it as places in the text.
+-- What a model text reads into: the answer, the rule, and the names beside it as places in the text. Below it, from bytes up to the whole text:
+--   Lexeme, Count          numbers and counts at a place
+--   Packed, Filled, Buffer what the arrays of the reader hold
+--   Search                 names that were written before, and the look-up of a name
+--   At, Walk, Atom, Group  the automaton's state where the reader stands, and what each byte does to it
+--   Whole, Laws            the whole text; what is known of a reading
 pub mod Lexeme
 pub mod Packed
 pub mod Search
@@ -10,10 +15,9 @@ pub mod Walk
 pub mod Atom
 pub mod Group
 pub mod Whole
-use mathlib.Core.Bool.{Bool, true, false, cond, _&&_}
-use mathlib.Core.List.{List, [], _∷_, _++_, map}
-use Prim.Native.Nat.{ℕ, suc, _-_}
-use lib.Dec.{eqb}
+pub mod Laws
+use mathlib.Core.List.{List, [], _++_, map}
+use Prim.Native.Nat.{ℕ, _-_}
 use lib.ListN.{length, replicate, take, drop}
 use Rattle.judge.specs.declared.fault.ModelFault.{ModelFault}
 use Rattle.judge.specs.declared.rule.Sign.the-variants.{None}
@@ -22,7 +26,6 @@ use Rattle.judge.specs.declared.rule.Node.{Node as RuleNode}
 use Rattle.judge.specs.declared.rule.Rule.{Rule}
 use Rattle.judge.specs.declared.text.NamePlace.{NamePlace}
 use Rattle.judge.specs.declared.text.Names.{Names}
-use Rattle.judge.specs.declared.text.Outcome.{Outcome}
 use Rattle.judge.specs.declared.text.Outcome.the-variants.{Read, Refused}
 use Rattle.judge.specs.declared.text.Reading.{Reading}
 use Rattle.judge.specs.Bytes.{Text}
@@ -47,7 +50,7 @@ noPlace = record { start = 0; len = 0 }
 abbrev pub namesWith : List NamePlace → Names
 namesWith l = record { places = l ++ replicate (maxAtoms - length l) noPlace; len = length l }
 
--- the names of a text
+-- the names of a text, at the places (`Fault.Ties.places`) where they begin
 abbrev pub namesOf : Text → Names
 namesOf x = namesWith (map (namePlace x) (places x (length x)))
 
@@ -63,24 +66,9 @@ readingBy x (accepted t) = record { outcome = Read; rule = ruleOf (modelOf t); n
 abbrev pub reading : Text → Reading
 reading x = readingBy x (answer x)
 
--- the same bytes
-abbrev pub sameText : Text → Text → Bool
-sameText [] [] = true
-sameText [] (c ∷ y) = false
-sameText (b ∷ x) [] = false
-sameText (b ∷ x) (c ∷ y) = eqb b c && sameText x y
-
--- the number of the first of these texts that is t, where the first has number k; 0 where none is
-abbrev pub numberFrom : ℕ → List Text → Text → ℕ
-numberFrom k [] t = 0
-numberFrom k (u ∷ l) t = cond (sameText u t) k (numberFrom (suc k) l t)
-
-abbrev pub numberIn : List Text → Text → ℕ
-numberIn l t = numberFrom 1 l t
-
 abbrev pub partAt : Text → NamePlace → Text
 partAt x p = take (p .len) (drop (p .start) x)
 
--- the parts of a text where names stand
+-- the parts of a text at the first n .len of the 64 places
 abbrev pub partsOf : Text → Names → List Text
 partsOf x n = map (partAt x) (take (n .len) (n .places))

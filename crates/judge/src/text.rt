@@ -6,20 +6,22 @@ ghost use mathlib.Core.List.{[], _∷_, map, tail};
 ghost use Prim.Native.Nat.{_+_, _*_, _-_, _≤_, _<_, min};
 ghost use lib.Dec.{T};
 ghost use lib.ListN.{length, take, getD};
-ghost use Rattle.judge.specs.Bytes.{isLetter, isDigit, isInner};
+ghost use Rattle.judge.specs.Bytes.{isLetter, isDigit, isInner, sameText};
 ghost use Rattle.judge.specs.Fault.{is, nameFrom};
 ghost use Rattle.judge.specs.Fault.Ties.{capped, places};
 ghost use Rattle.judge.specs.declared.rule.Kind.the-variants.{Atom, Group};
-ghost use Rattle.judge.specs.Reading.{ruleWith, namesWith, refusal, reading, sameText, partsOf, numberIn};
+ghost use Rattle.judge.specs.Reading.{ruleWith, namesWith, refusal, reading, partsOf};
 ghost use Rattle.judge.specs.Reading.Packed.{word, nodeOf, plain, optional, isSign, signBy, kindBy, markBy, placeOf};
 ghost use Rattle.judge.specs.Reading.Search.{among, Comparable};
 ghost use Rattle.judge.specs.Rule.{unused};
+ghost use Rattle.judge.specs.Syntax.{numberIn};
 ghost use Rattle.judge.specs.Syntax.Machine.{here};
 ghost use Rattle.judge.specs.Reading.Walk.{Marking, joins, stackOf, Expecting, Ready, Inside, Member, GroupRead};
 ghost use Rattle.judge.specs.Reading.Atom.{NameRead, AtomRead};
 ghost use Rattle.judge.specs.Reading.Lexeme.{numeralAt, countAt, onwardAt, betweenAt};
 use crate::fault::ModelFault;
 use crate::rule::Kind;
+use crate::rule::MAX_ATOMS;
 use crate::rule::MAX_NODES;
 use crate::rule::Mark;
 use crate::rule::NameNumber;
@@ -35,8 +37,6 @@ pub const MAX_NAME: usize = 32;
 pub const MAX_COUNT: u32 = 60000;
 
 pub const MAX_DEPTH: usize = 16;
-
-pub const MAX_ATOMS: usize = 64;
 
 // Where a name stands in the text.
 pub struct NamePlace {
@@ -87,19 +87,19 @@ enum Counted {
     Wrong(usize),
 }
 
-fn is_letter(b: u8) -> bool
+pub fn is_letter(b: u8) -> bool
     ensures { λ r. ⌜ r ≡ isLetter b ⌝ }
 {
     (b'a' <= b) & (b <= b'z')
 }
 
-fn is_digit(b: u8) -> bool
+pub fn is_digit(b: u8) -> bool
     ensures { λ r. ⌜ r ≡ isDigit b ⌝ }
 {
     (b'0' <= b) & (b <= b'9')
 }
 
-fn is_inner(b: u8) -> bool
+pub fn is_inner(b: u8) -> bool
     ensures { λ r. ⌜ r ≡ isInner b ⌝ }
 {
     is_letter(b) | is_digit(b) | (b == b'-')
@@ -321,7 +321,7 @@ fn unpacked(word: u64) -> Node
     }
 }
 
-fn same_bytes(a: &[u8], b: &[u8]) -> bool
+pub fn same_bytes(a: &[u8], b: &[u8]) -> bool
     ensures { λ r. ⌜ r ≡ sameText (now (a .entry)) (now (b .entry)) ⌝ }
 {
     if a.len() != b.len() {
@@ -366,8 +366,9 @@ fn mark(text: &[u8], work: &mut [u64; MAX_NODES], c: Cursor, i: usize) -> Cursor
     let at = c.at;
     if stands(text, at, b'?') {
         work[i] = packed_optional(work[i]);
+        let behind = at + 1;
         return Cursor {
-            at: at + 1,
+            at: behind,
             nodes: c.nodes,
             names: c.names,
         };

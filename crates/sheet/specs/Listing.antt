@@ -1,14 +1,30 @@
 -- A listing, a line for each cue in order: document 01, "Files".
 pub mod Laws
-use mathlib.Core.List.{List, [], _∷_, _++_}
-use Prim.Native.Nat.{ℕ}
-use lib.ListN.{length}
+use mathlib.Core.Bool.{cond}
+use mathlib.Core.List.{List, [], _∷_, _++_, map}
+use Prim.Native.Nat.{ℕ, zero, suc}
+use lib.Dec.{leb}
+use lib.ListN.{length, drop, getD}
+use Rattle.judge.specs.declared.verdict.Verdict.the-variants.{Complete as IsComplete, Open as IsOpen, Dead as IsDead}
+use Rattle.judge.specs.declared.verdict.Judged.{Judged}
+use Rattle.judge.specs.declared.verdict.Judged.the-variants.{Verdict, Refused as RowRefused}
 use Rattle.judge.specs.Bytes.{Text, bytes}
 use Rattle.judge.specs.Bytes.Numeral.{digits}
+use Rattle.judge.specs.Syntax.{numberIn}
+use Rattle.judge.specs.Judge.Laws.{judged}
+use Rattle.judge.specs.Reading.{reading, partsOf}
 use Rattle.fields.specs.Split.{lineFeed, tab, lines, field}
+use Rattle.fields.specs.Children.{cueNumber, rowOf}
 use Rattle.sheet.specs.declared.line.Said.{Said}
 use Rattle.sheet.specs.declared.line.Said.the-variants.{Complete, Open, Dead, NoSheet}
-use Rattle.sheet.specs.Cues.{children}
+use Rattle.sheet.specs.declared.cues.CuesRead.{CuesRead}
+use Rattle.sheet.specs.declared.cues.CuesRead.the-variants.{Count, Refused}
+use Rattle.sheet.specs.declared.sheet.SheetOutcome.{SheetOutcome}
+use Rattle.sheet.specs.declared.sheet.SheetOutcome.the-variants.{Read, Refused as SheetIsRefused}
+use Rattle.sheet.specs.declared.listing.Listed.{Listed}
+use Rattle.sheet.specs.declared.listing.Listed.the-variants.{Written, SheetRefused, CueRefused, TooLong}
+use Rattle.sheet.specs.Cues.{children, cuesRead}
+use Rattle.sheet.specs.Sheet.{kind, model, sheetNumber, sheetOutcome}
 
 abbrev pub word : Said → Text
 word Complete = bytes "complete"
@@ -24,3 +40,52 @@ listingLine l v = field 1 l ++ (tab ∷ (field 2 l ++ (tab ∷ (word v ++ (tab �
 abbrev pub listingBy : (Text → Said) → List Text → Text
 listingBy f [] = []
 listingBy f (l ∷ ls) = listingLine l (f l) ++ listingBy f ls
+
+-- what the judge says of a row
+abbrev pub saidBy : Judged → Said
+saidBy (Verdict IsComplete) = Complete
+saidBy (Verdict IsOpen) = Open
+saidBy (Verdict IsDead) = Dead
+saidBy (RowRefused f) = Dead
+
+-- what a model text that is read says of children: the verdict of its rule on their numbers (never a refusal: `Ends.cue-said`)
+abbrev pub saidOf : Text → List Text → Said
+saidOf m cs = saidBy (judged (reading m .rule) (rowOf (partsOf m (reading m .names)) cs))
+
+-- by the sheet's line with a number from 1, or 0 for none
+abbrev pub saidAt : List Text → ℕ → List Text → Said
+saidAt ls zero cs = NoSheet
+saidAt ls (suc k) cs = saidOf (model (getD ls k [])) cs
+
+-- what a sheet with these lines says of a cue line
+abbrev pub said : List Text → Text → Said
+said ls l = saidAt ls (numberIn (map kind ls) (field 2 l)) (children l)
+
+abbrev pub listing : Text → Text → Text
+listing s c = listingBy (said (lines s)) (lines c)
+
+-- the sheet is tried before the list; 50 where the listing is longer than the buffer
+abbrev pub byCues : CuesRead → Listed → Listed
+byCues (Count n) good = good
+byCues (Refused f n) good = CueRefused f n
+
+abbrev pub bySheet : SheetOutcome → Listed → Listed
+bySheet Read good = good
+bySheet (SheetIsRefused f n) good = SheetRefused f n
+
+abbrev pub listed : Text → Text → ℕ → Listed
+listed s c room = bySheet (sheetOutcome s) (byCues (cuesRead c) (cond (leb (length (listing s c)) room) (Written (length (listing s c))) TooLong))
+
+-- the buffer after: the listing and the bytes behind it as they were; a refusal changes none
+abbrev pub bufferAfter : Listed → Text → Text → Text
+bufferAfter (Written n) new old = new ++ drop n old
+bufferAfter (SheetRefused f n) new old = old
+bufferAfter (CueRefused f n) new old = old
+bufferAfter TooLong new old = old
+
+-- document 01's numbers, and the line: 0 for 50
+abbrev pub listedNumber : Listed → ℕ
+listedNumber (Written n) = 0
+listedNumber (SheetRefused f n) = sheetNumber f
+listedNumber (CueRefused f n) = cueNumber f
+listedNumber TooLong = 50

@@ -2,3 +2,5 @@
 
 pub mod cues;
 pub mod line;
+pub mod listing;
+pub mod sheet;

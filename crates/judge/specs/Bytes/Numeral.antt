@@ -14,11 +14,11 @@ use Rattle.judge.specs.Bytes.{Text, isDigit, all, isNumeral, value}
 use Rattle.judge.specs.Bytes.Laws.{all-snoc, value-snoc}
 
 -- with room for as many digits as the first argument says
-abbrev decimal : ℕ → ℕ → Text
+abbrev pub decimal : ℕ → ℕ → Text
 decimal zero n = []
 decimal (suc r) n = cond (ltb n 10) ((code "0" + n) ∷ []) (decimal r (n / 10) ++ ((code "0" + n % 10) ∷ []))
 
-pub digits : ℕ → Text
+unfoldable pub digits : ℕ → Text
 digits n = decimal 5 n
 
 decimal-value : (r n : ℕ) → n < 10 ^ r → value (decimal r n) ≡ n

@@ -4,9 +4,8 @@ use mathlib.Core.List.{List, [], _∷_, _++_, map, map-append}
 use Prim.Native.Nat.{ℕ, zero, suc, _+_, _≤_, _<_}
 use native.Mathlib.Omega.{arith}
 use native.Mathlib.Numerals.{add-one}
-use lib.ListN.{length, take, drop, getD, set, length-append, length-set, length-take, List·getD-map}
+use lib.ListN.{length, take, getD, set, length-append, length-set, length-take, length-map, List·getD-map}
 use lib.Seq.{take-suc-set, take-set-lt, getD-take, set-at, getD-at}
-use Rattle.judge.specs.Reading.Filled.{map-length}
 
 module _ {A : Type 0} (f : ℕ → A) (size : ℕ) where
   pub record Holds (buffer : List ℕ) (n : ℕ) (l : List A) : Type 0 where
@@ -21,7 +20,7 @@ module _ {A : Type 0} (f : ℕ → A) (size : ℕ) where
 
   module _ (b : List ℕ) (n : ℕ) (l : List A) (h : Holds b n l) where
     pub holds-count : length l ≡ n
-    holds-count = rw (← h .held) (map-length f (f 0) b (take n b) ∙ length-take n b ∙ omega (arith, h .few, h .whole))
+    holds-count = rw (← h .held) (length-map (take n b) f ∙ length-take n b ∙ omega (arith, h .few, h .whole))
 
     -- one more
     pub holds-more : (w : ℕ) (a : A) → n < size → f w ≡ a → Holds (set b n w) (n + 1) (l ++ (a ∷ []))

@@ -1,10 +1,10 @@
 -- A list that a loop fills from the front, one element a turn, with what another list holds.
-use mathlib.Core.Path.{_≡_, refl, sym, ap, _∙_}
-use mathlib.Core.List.{List, [], _∷_, _++_, append-assoc, map, map-append}
-use Prim.Native.Nat.{ℕ, suc, _+_, _-_, _≤_, _<_, min}
+use mathlib.Core.Path.{_≡_, sym, _∙_}
+use mathlib.Core.List.{List, _++_, map, map-append}
+use Prim.Native.Nat.{ℕ, suc, _+_, _-_, _≤_, _<_}
 use native.Mathlib.Omega.{arith}
 use native.Mathlib.Numerals.{add-one}
-use lib.ListN.{length, take, drop, getD, set, replicate, length-take}
+use lib.ListN.{length, take, getD, set, replicate, length-take, length-map}
 use lib.Seq.{take-suc, set-at, append-snoc}
 use Rattle.judge.specs.declared.rule.Node.{Node}
 use Rattle.judge.specs.declared.rule.Rule.{Rule}
@@ -18,12 +18,8 @@ module _ {A B : Type 0} (f : A → B) (u : B) (w : List A) where
   abbrev pub filled : ℕ → ℕ → List B
   filled n i = map f (take i w) ++ replicate (n - i) u
 
-  pub map-length : (l : List A) → length (map f l) ≡ length l
-  map-length [] = refl
-  map-length (a ∷ l) = ap suc (map-length l)
-
   pub fill-length : (i : ℕ) → i ≤ length w → length (map f (take i w)) ≡ i
-  fill-length i h = map-length (take i w) ∙ length-take i w ∙ omega arith
+  fill-length i h = length-map (take i w) f ∙ length-take i w ∙ omega arith
 
   pub fill-turn : (n i : ℕ) (d : A) → i < n → i < length w → set (filled n i) i (f (getD w i d)) ≡ filled n (i + 1)
   fill-turn n i d h k =

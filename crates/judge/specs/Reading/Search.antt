@@ -7,22 +7,22 @@ use Prim.Native.Nat.{ℕ, zero, suc, _+_, _-_, _/_, _%_, _≤_, _<_, min}
 use native.Mathlib.Numerals.{add-one}
 use native.Mathlib.Omega.{arith}
 use native.Mathlib.Decide.{decLe}
-use lib.Dec.{T, eqb, eqb→eq, eqb-refl}
-use lib.ListN.{length, take, drop, getD, drop-of-length-le, length-take, length-drop, List·getD-map}
+use lib.Dec.{T, eqb}
+use lib.ListN.{length, take, drop, getD, drop-of-length-le, length-take, length-drop, length-map, List·getD-map}
 use lib.Seq.{drop-cons, getD-take, take-all, take-nil}
-use mir.Facts.{and-yes, yes-and, or-yes}
+use mir.Facts.{or-yes}
 use borrow.Author.Tests.{eq-eqb, ne-eqb}
 use Rattle.judge.specs.declared.text.NamePlace.{NamePlace}
-use Rattle.judge.specs.Bytes.{Text, isInner}
-use Rattle.judge.specs.Bytes.Laws.{T-true, front-take}
+use Rattle.judge.specs.Bytes.{Text, isInner, sameText}
+use Rattle.judge.specs.Bytes.Laws.{T-true, front-take, same-text}
 use Rattle.judge.specs.Fault.{nameAt, nameFrom, Twice}
 use Rattle.judge.specs.Fault.Ties.{places, in-places, twice-there, twice-only}
 use Rattle.judge.specs.Limits.{maxAtoms}
 use Rattle.judge.specs.declared.text.Names.{Names}
-use Rattle.judge.specs.Reading.{namePlace, noPlace, sameText, numberFrom, numberIn, partAt, partsOf}
+use Rattle.judge.specs.Syntax.{numberFrom}
+use Rattle.judge.specs.Reading.{namePlace, noPlace, partAt, partsOf}
 use Rattle.judge.specs.Reading.Packed.{placeOf}
 use Rattle.judge.specs.Reading.Lexeme.Laws.{front-short}
-use Rattle.judge.specs.Reading.Filled.{map-length}
 
 -- the name at p begins at one of these places too
 abbrev pub among : Text → List ℕ → ℕ → Bool
@@ -54,20 +54,6 @@ module _ (a b : Text) (i : ℕ) where
   pub same-end : length a ≤ i → length b ≤ i → true ≡ sameText (drop i a) (drop i b)
   same-end h k = rw (drop-of-length-le a {i = i} h, drop-of-length-le b {i = i} k)
 
-pub same-is : (a b : Text) → T (sameText a b) → a ≡ b
-same-is [] [] h = refl
-same-is [] (c ∷ b) h = absurd h
-same-is (c ∷ a) [] h = absurd h
-same-is (c ∷ a) (d ∷ b) h =
-    let k : T (eqb c d) × T (sameText a b) = and-yes (eqb c d) (sameText a b) h in
-    let e : c ≡ d = eqb→eq c d (k .0) in
-    let f : a ≡ b = same-is a b (k .1) in
-    cc
-
-pub is-same : (a : Text) → T (sameText a a)
-is-same [] = tt
-is-same (c ∷ a) = yes-and (eqb c c) (sameText a a) (eqb-refl c) (is-same a)
-
 -- equal images: element by element
 pub images : {A B C : Type 0} (f : A → C) (g : B → C) (l : List A) (m : List B) → map f l ≡ map g m → (i : ℕ) (d : A) (e : B) → i < length l → f (getD l i d) ≡ g (getD m i e)
 images f g [] m q i d e h = absurd (omega arith)
@@ -94,7 +80,7 @@ pub name-part : (x : Text) (p n : ℕ) → n ≡ length (nameFrom x p) → take 
 name-part x p n e = rw e (front-take isInner (drop p x))
 
 -- a turn of the search
-module _ (x : Text) (names : List ℕ) (n start end : ℕ) (c : Comparable x names n start end) where
+module _ {x : Text} {names : List ℕ} {n start end : ℕ} (c : Comparable x names n start end) where
   pub many : length (places x start) ≡ n
   many = sym (images-long placeOf (namePlace x) (take n names) (places x start) (c .held)) ∙ length-take n names ∙ omega (arith, c .few, c .whole)
 
@@ -104,7 +90,9 @@ module _ (x : Text) (names : List ℕ) (n start end : ℕ) (c : Comparable x nam
 
     place-is : placeOf (getD names i 0) ≡ namePlace x earlier
     unfolding earlier
-    place-is = subst (λ (w : ℕ). placeOf w ≡ namePlace x (getD (places x start) i 0)) (getD-take n names i 0 h) (images placeOf (namePlace x) (take n names) (places x start) (c .held) i 0 0 (rw length-take (omega (arith, c .few, c .whole))))
+    place-is =
+        subst (λ (w : ℕ). placeOf w ≡ namePlace x (getD (places x start) i 0)) (getD-take n names i 0 h)
+        (images placeOf (namePlace x) (take n names) (places x start) (c .held) i 0 0 (rw length-take (omega (arith, c .few, c .whole))))
 
     pub from-is : getD names i 0 / 256 % 65536 ≡ earlier
     unfolding placeOf place-is
@@ -146,7 +134,7 @@ module _ (x : Text) (names : List ℕ) (n start end : ℕ) (c : Comparable x nam
 pub among-is : (x : Text) (l : List ℕ) (p : ℕ) → T (among x l p) → (q : ℕ) × (List·Memᴰ q l × (nameFrom x q ≡ nameFrom x p))
 among-is x [] p h = absurd h
 among-is x (q ∷ l) p h =
-    ⊎-elim (λ s. (q, (List·Memᴰ·head refl, same-is (nameFrom x q) (nameFrom x p) s)))
+    ⊎-elim (λ s. (q, (List·Memᴰ·head refl, same-text (nameFrom x q) (nameFrom x p) .0 (T-true (sameText (nameFrom x q) (nameFrom x p)) s))))
     (λ s. let r = among-is x l p s in (r .0, (List·Memᴰ·tail (r .1 .0), r .1 .1)))
     (or-yes (sameText (nameFrom x q) (nameFrom x p)) (among x l p) h)
 
@@ -155,7 +143,7 @@ is-among x [] p q m e = absurd (List·Memᴰ·not-nil m)
 is-among x (r ∷ l) p q m e = ⊎-elim (λ i. here r i) (λ k. rw (T-true (among x l p) (is-among x l p q k e), or-true) tt) (List·Memᴰ·cases-cons m)
   where
     here : (r : ℕ) → q ≡ r → T (sameText (nameFrom x r) (nameFrom x p) || among x l p)
-    here r i = rw (T-true (sameText (nameFrom x r) (nameFrom x p)) (rw (← i, e) (is-same (nameFrom x p)))) tt
+    here r i = rw (same-text (nameFrom x r) (nameFrom x p) .1 (ap (nameFrom x) (sym i) ∙ e)) tt
 
 pub twice-found : (x : Text) (p : ℕ) → T (nameAt x p) → among x (places x p) p ≡ true → Twice x p
 twice-found x p h e = let r = among-is x (places x p) p (rw e tt) in twice-there x p (r .0) h (r .1 .0) (r .1 .1)
@@ -180,7 +168,7 @@ clipped x s l = go (decLe s (length x)) (decLe (s + l) (length x))
 
 module _ (x : Text) (names : Names) (name : Text) (long : length (names .places) ≡ maxAtoms) where
   pub parts-many : length (partsOf x names) ≡ min (names .len) maxAtoms
-  parts-many = map-length (partAt x) [] (names .places) (take (names .len) (names .places)) ∙ length-take (names .len) (names .places) ∙ omega arith
+  parts-many = length-map (take (names .len) (names .places)) (partAt x) ∙ length-take (names .len) (names .places) ∙ omega arith
 
   module _ (i : ℕ) (h : i < min (names .len) maxAtoms) where
     abbrev pub place : NamePlace

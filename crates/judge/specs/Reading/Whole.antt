@@ -1,10 +1,10 @@
 -- The whole text: where the reader starts, and what its answer says.
 use mathlib.Core.Path.{_≡_, refl, sym, ap, _∙_}
 use mathlib.Core.Logic.{⊎-elim, inl, inr}
-use mathlib.Core.Bool.{Bool, true, false, not, _||_}
+use mathlib.Core.Bool.{true, false, not, _||_}
 use mathlib.Core.List.{List, [], map}
 use mathlib.Core.Option.{some}
-use Prim.Native.Nat.{ℕ, zero, _≤_, _<_}
+use Prim.Native.Nat.{ℕ, _≤_, _<_}
 use native.Mathlib.Omega.{arith}
 use lib.Dec.{T, ltb, eqb, eqb→eq, ltb→lt, nltb→le}
 use lib.ListN.{length, take, replicate}
@@ -23,7 +23,7 @@ use Rattle.judge.specs.declared.text.Got.the-variants.{Past, Fault as Fa
 use Rattle.judge.specs.Bytes.{Text}
 use Rattle.judge.specs.Tree.{leaf, group, marked}
 use Rattle.judge.specs.Syntax.{Count, unwritten, between, onward, Syntax}
-use Rattle.judge.specs.Syntax.Machine.{atom, State, at, run, start, here, whole, result}
+use Rattle.judge.specs.Syntax.Machine.{atom, at, run, start, whole, result}
 use Rattle.judge.specs.Syntax.Complete.{behindAtom, behind}
 use Rattle.judge.specs.Model.{modelOf}
 use Rattle.judge.specs.Rule.{ruleOf}
@@ -31,11 +31,11 @@ use Rattle.judge.specs.Limits.{maxText}
 use Rattle.judge.specs.Fault.{refused, accepted, Answers}
 use Rattle.judge.specs.Fault.Answered.{answer-is}
 use Rattle.judge.specs.Fault.Ties.{places}
-use Rattle.judge.specs.Fault.Places.{Sized, size-answers, dead-answers, accepted-answers}
+use Rattle.judge.specs.Fault.Places.{size-answers, dead-answers, accepted-answers}
 use Rattle.judge.specs.Reading.{namePlace, ruleWith, namesWith, namesOf, refusal, readingBy, reading}
 use Rattle.judge.specs.Reading.Packed.{nodeOf, placeOf}
 use Rattle.judge.specs.Reading.At.{next}
-use Rattle.judge.specs.Reading.Walk.{stackOf, Behind, Member, member-fault, Ready}
+use Rattle.judge.specs.Reading.Walk.{Behind, Member, member-fault, Ready}
 
 pub refused-is : (x : Text) (f : ModelFault) (p : ℕ) → Answers x (refused f p) → refusal f p ≡ reading x
 refused-is x f p a = ap (readingBy x) (answer-is x (refused f p) a)
@@ -53,7 +53,9 @@ start-ready x e =
     record {
       expecting = record {
         spots = [];
-        at-is = record { sized = (omega arith, nltb→le maxText (length x) (s .1)); within = omega arith; is = refl; clean = λ q h. absurd (let k : q < 0 = h in omega arith); names = refl };
+        at-is =
+            record
+            { sized = (omega arith, nltb→le maxText (length x) (s .1)); within = omega arith; is = refl; clean = λ q h. absurd (let k : q < 0 = h in omega arith); names = refl };
         held = record { whole = refl; few = omega arith; held = refl };
         named = record { whole = refl; few = omega arith; held = refl };
       };
@@ -74,7 +76,7 @@ whole-behind (marked Plain (leaf a)) = go (a .count)
 
 module _ (x : Text) (work names : List ℕ) (g : Got) (y : Member x work names 0 [] g) where
   pub fault-read : (f : ModelFault) (q : ℕ) → g ≡ Faulty f q → refusal f q ≡ reading x
-  fault-read f q e = refused-is x f q (member-fault x work names 0 [] g f q y e)
+  fault-read f q e = refused-is x f q (member-fault x work names 0 [] y e)
 
   module _ (d : Cursor) (u : g ≡ Past d) where
     b : Behind x work names 0 [] d
@@ -84,13 +86,14 @@ module _ (x : Text) (work names : List ℕ) (g : Got) (y : Member x work names 0
     unfolding b
     more-read h =
         let a = b .read .at-is in
-        refused-is x Misspelling (d .at) (dead-answers x (d .at) (a .sized) (a .clean) h (rw (a .is) tt) (next x (b .spots) (d .at) (at [] (behind (b .read .tree))) a h ∙ b .read .settled))
+        refused-is x Misspelling (d .at) (dead-answers x (d .at) (a .sized) (a .clean) h (rw (a .is) tt) (next a h ∙ b .read .settled))
 
     pub buffers-fit : ((d .nodes ≤ 128) × (length work ≡ 128)) × ((d .names ≤ 64) × (length names ≡ 64))
     unfolding b
     buffers-fit = ((b .read .held .few, b .read .held .whole), (b .named .few, b .named .whole))
 
-    pub whole-read : length x ≤ d .at → (r : Rule) (n : Names) → r ≡ ruleWith (map nodeOf (take (d .nodes) work)) → n ≡ namesWith (map placeOf (take (d .names) names)) → _≡_ {A = Reading} (record { outcome = Read; rule = r; names = n }) (reading x)
+    pub whole-read : length x ≤ d .at → (r : Rule) (n : Names) → r ≡ ruleWith (map nodeOf (take (d .nodes) work))
+        → n ≡ namesWith (map placeOf (take (d .names) names)) → _≡_ {A = Reading} (record { outcome = Read; rule = r; names = n }) (reading x)
     unfolding b
     whole-read h r n e f =
         let a = b .read .at-is in

@@ -71,44 +71,45 @@ limit-small (suc (suc (suc (suc (suc (suc i)))))) h = absurd (omega arith)
 pub line-few : (p : ℕ) (l : Text) → ltb (length (fields l)) 3 ≡ true → Bad BadFields ≡ cueLine p l
 line-few p l t = rw t
 
-module _ (p : ℕ) (l : Text) (h : Heads) (t : Three l h) where
-  abbrev numberPart : Text
+module _ (l : Text) (h : Heads) where
+  abbrev pub numberPart : Text
   numberPart = part l (h .first + 1) (h .second)
 
   -- kind and children
-  abbrev namesPart : Text
+  abbrev pub namesPart : Text
   namesPart = part l (h .second + 1) (length l)
 
-  rest-named : field 2 l ∷ children l ≡ split tab namesPart
-  rest-named = t .rest-is ∙ ap (split tab) (sym (part-rest l (h .second + 1)))
+  rest-named : Three l h → field 2 l ∷ children l ≡ split tab namesPart
+  rest-named t = t .rest-is ∙ ap (split tab) (sym (part-rest l (h .second + 1)))
 
-  names-are : allNames (field 2 l ∷ children l) ≡ allNames (split tab namesPart)
-  names-are = ap allNames rest-named
+  names-are : Three l h → allNames (field 2 l ∷ children l) ≡ allNames (split tab namesPart)
+  names-are t = ap allNames (rest-named t)
 
-  children-count : length (children l) ≡ times tab namesPart
-  children-count = omega (arith, ap length rest-named, split-count tab namesPart)
+  pub children-count : Three l h → length (children l) ≡ times tab namesPart
+  children-count t = omega (arith, ap length (rest-named t), split-count tab namesPart)
 
+module _ (p : ℕ) (l : Text) (h : Heads) (t : Three l h) where
   pub line-word : sameText (part l 0 (h .first)) (bytes "cue") ≡ false → Bad BadFields ≡ cueLine p l
   line-word w = rw (t .enough, t .first-is, w)
 
   module _ (w : sameText (part l 0 (h .first)) (bytes "cue") ≡ true) where
-    pub line-number : isCueNumber numberPart ≡ false → Bad BadNumber ≡ cueLine p l
+    pub line-number : isCueNumber (numberPart l h) ≡ false → Bad BadNumber ≡ cueLine p l
     line-number n = rw (t .enough, t .first-is, w, t .second-is, n)
 
-    module _ (n : isCueNumber numberPart ≡ true) (v : ℕ) (e : v ≡ value numberPart) where
+    module _ (n : isCueNumber (numberPart l h) ≡ true) (v : ℕ) (e : v ≡ value (numberPart l h)) where
       pub line-above : v ≤ p → Bad NotAbove ≡ cueLine p l
       line-above a = rw (t .enough, t .first-is, w, t .second-is, n, ← e, le-leb v p a)
 
       module _ (a : p < v) where
-        pub line-names : allNames (split tab namesPart) ≡ false → Bad NoName ≡ cueLine p l
-        line-names s = rw (t .enough, t .first-is, w, t .second-is, n, ← e, lt-leb v p a, names-are, s)
+        pub line-names : allNames (split tab (namesPart l h)) ≡ false → Bad NoName ≡ cueLine p l
+        line-names s = rw (t .enough, t .first-is, w, t .second-is, n, ← e, lt-leb v p a, names-are l h t, s)
 
-        module _ (s : allNames (split tab namesPart) ≡ true) (k : ℕ) (c : k ≡ times tab namesPart) where
+        module _ (s : allNames (split tab (namesPart l h)) ≡ true) (k : ℕ) (c : k ≡ times tab (namesPart l h)) where
           pub line-many : maxRow < k → Bad ManyChildren ≡ cueLine p l
-          line-many m = rw (t .enough, t .first-is, w, t .second-is, n, ← e, lt-leb v p a, names-are, s, children-count, ← c, lt-ltb maxRow k m)
+          line-many m = rw (t .enough, t .first-is, w, t .second-is, n, ← e, lt-leb v p a, names-are l h t, s, children-count l h t, ← c, lt-ltb maxRow k m)
 
           pub line-good : k ≤ maxRow → Number v ≡ cueLine p l
-          line-good m = rw (t .enough, t .first-is, w, t .second-is, n, ← e, lt-leb v p a, names-are, s, children-count, ← c, le-ltb maxRow k m)
+          line-good m = rw (t .enough, t .first-is, w, t .second-is, n, ← e, lt-leb v p a, names-are l h t, s, children-count l h t, ← c, le-ltb maxRow k m)
 
 -- what is said of a text, line by line
 module _ (ls : List Text) (n p : ℕ) where

@@ -17,8 +17,6 @@ use Rattle.fields.proofs.children.is_name.Statement.{statement}
 use Rattle.fields.proofs.children.is_name.Tie as tie
 use Rattle.fields.proofs.children.is_name.Reads as reads
 use Rattle.fields.proofs.children.is_name.Lts as lts
-use Rattle.fields.proofs.children.is_inner.Reads as is-inner-reads
-use Rattle.fields.proofs.children.is_letter.Reads as is-letter-reads
 
 abbrev Inv-loop : tie.InvT-loop
 Inv-loop text n good₀ i₀ good i = (1 ≤ i) × (i ≤ length text) × (length text ≤ maxName) × (good ≡ all isInner (drop i text))

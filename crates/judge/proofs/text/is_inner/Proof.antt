@@ -1,12 +1,7 @@
-use mathlib.Core.Path.{refl}
-use mathlib.Core.Bool.{or-assoc}
+-- The three tests of its parts, in the definition's own order.
 use borrow.Author.Needs.{needs}
 use Rattle.judge.proofs.text.is_inner.Statement.{statement}
 use Rattle.judge.proofs.text.is_inner.Tie as tie
-use Rattle.judge.proofs.text.is_inner.Reads as reads
-use Rattle.judge.proofs.text.is_inner.Lts as lts
-use Rattle.judge.proofs.text.is_digit.Reads as is-digit-reads
-use Rattle.judge.proofs.text.is_letter.Reads as is-letter-reads
 
 is-letter-requires : tie.Need-is-letter-requires
 is-letter-requires c κs = search needs

@@ -1,10 +1,8 @@
+-- The definition's tests in its own order.
 use borrow.Author.Tests.{eq-eqb, ne-eqb}
 use borrow.Author.Needs.{needs}
 use Rattle.judge.proofs.text.kind_of.Statement.{statement}
 use Rattle.judge.proofs.text.kind_of.Tie as tie
-use Rattle.judge.proofs.text.kind_of.Reads as reads
-use Rattle.judge.proofs.text.kind_of.Lts as lts
-use Rattle.judge.proofs.text.sign_by.Reads as sign-by-reads
 
 returns : tie.Need-returns
 returns c = rw (eq-eqb _ _ (c .if1 .taken))

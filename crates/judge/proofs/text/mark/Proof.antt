@@ -1,12 +1,9 @@
+-- The two cases of `Marking`.
 use mathlib.Core.Path.{refl, sym, _∙_}
 use Rattle.judge.specs.Reading.Walk.{with-mark, without}
 use borrow.Author.Needs.{needs}
 use Rattle.judge.proofs.text.mark.Statement.{statement}
 use Rattle.judge.proofs.text.mark.Tie as tie
-use Rattle.judge.proofs.text.mark.Reads as reads
-use Rattle.judge.proofs.text.mark.Lts as lts
-use Rattle.judge.proofs.text.packed_optional.Reads as packed-optional-reads
-use Rattle.judge.proofs.text.stands.Reads as stands-reads
 
 stands-requires : tie.Need-stands-requires
 stands-requires c κs = search needs
@@ -26,8 +23,8 @@ mul-work c = search needs
 element-write-work : tie.Need-element-write-work
 element-write-work c = search needs
 
-add-t8 : tie.Need-add-t8
-add-t8 c = search needs
+add-behind : tie.Need-add-behind
+add-behind c = search needs
 
 returns : tie.Need-returns
 returns c = with-mark (c .packed-optional .result) (sym (c .before .before .before .stands .ensures) ∙ c .before .before .if1 .taken) refl (c .packed-optional .ensures) refl
@@ -45,6 +42,6 @@ mark-spec =
     packed-optional-requires
     mul-work
     element-write-work
-    add-t8
+    add-behind
     returns
     returns-2)

@@ -1,8 +1,7 @@
+-- The definition's test.
 use borrow.Author.Tests.{eq-eqb, ne-eqb}
 use Rattle.judge.proofs.text.mark_of.Statement.{statement}
 use Rattle.judge.proofs.text.mark_of.Tie as tie
-use Rattle.judge.proofs.text.mark_of.Reads as reads
-use Rattle.judge.proofs.text.mark_of.Lts as lts
 
 returns : tie.Need-returns
 returns c = rw (eq-eqb _ _ (c .if1 .taken))

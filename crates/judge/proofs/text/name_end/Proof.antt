@@ -1,16 +1,13 @@
+-- The run that began at `at` ends where the run from `i` on does.
 use Prim.Native.Nat.{_≤_, _+_, _-_}
 use mathlib.Core.Path.{_≡_, sym, ap, _∙_}
 use lib.ListN.{length}
 use native.Mathlib.Omega.{arith}
-use borrow.Author.Needs.{needs}
 use Rattle.judge.specs.Bytes.{isInner}
 use Rattle.judge.specs.Fault.{nameFrom}
 use Rattle.judge.specs.Reading.Lexeme.Laws.{front-step, front-stop, front-out}
 use Rattle.judge.proofs.text.name_end.Statement.{statement}
 use Rattle.judge.proofs.text.name_end.Tie as tie
-use Rattle.judge.proofs.text.name_end.Reads as reads
-use Rattle.judge.proofs.text.name_end.Lts as lts
-use Rattle.judge.proofs.text.is_inner.Reads as is-inner-reads
 
 abbrev Inv-loop : tie.InvT-loop
 Inv-loop text at i₀ i = (i ≤ length text) × (at + length (nameFrom text at) ≡ i + length (nameFrom text i))
@@ -34,10 +31,14 @@ loop-less : tie.Need-loop-less Inv-loop μ-loop
 loop-less c = omega arith
 
 loop-again : tie.Need-loop-again Inv-loop μ-loop
-loop-again c = omega (arith, ap length (front-step isInner (c .before .before .before .before .before .before .args .text .now) (c .before .before .before .before .loop .i) (c .before .before .before .loop-test .taken) (sym (c .before .is-inner .ensures) ∙ c .if1 .taken)))
+loop-again c =
+    omega
+    (arith, ap length (front-step isInner (c .before .before .before .before .before .before .args .text .now) (c .before .before .before .before .loop .i) (c .before .before .before .loop-test .taken) (sym (c .before .is-inner .ensures) ∙ c .if1 .taken)))
 
 returns : tie.Need-returns Inv-loop μ-loop
-returns c = omega (arith, ap length (front-stop isInner (c .before .before .before .before .before .before .args .text .now) (c .before .before .before .before .loop .i) (c .before .before .before .loop-test .taken) (sym (c .before .is-inner .ensures) ∙ c .if1 .left)))
+returns c =
+    omega
+    (arith, ap length (front-stop isInner (c .before .before .before .before .before .before .args .text .now) (c .before .before .before .before .loop .i) (c .before .before .before .loop-test .taken) (sym (c .before .is-inner .ensures) ∙ c .if1 .left)))
 
 returns-2 : tie.Need-returns-2 Inv-loop μ-loop
 returns-2 c = omega (arith, ap length (front-out isInner (c .before .before .before .args .text .now) (c .before .loop .i) (c .loop-test .left)))

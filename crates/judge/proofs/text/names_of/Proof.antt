@@ -1,6 +1,7 @@
+-- The loop fills the names from the front.
 use Prim.Native.Nat.{_≤_, _-_}
-use mathlib.Core.Path.{_≡_, refl, _∙_}
-use lib.ListN.{length, take}
+use mathlib.Core.Path.{_≡_}
+use lib.ListN.{take}
 use native.Mathlib.Omega.{arith}
 use Rattle.judge.specs.Reading.{noPlace}
 use Rattle.judge.specs.Reading.Packed.{placeOf}
@@ -8,9 +9,6 @@ use Rattle.judge.specs.Reading.Filled.{filled, fill-turn, fill-length, n
 use mathlib.Core.List.{map}
 use Rattle.judge.proofs.text.names_of.Statement.{statement}
 use Rattle.judge.proofs.text.names_of.Tie as tie
-use Rattle.judge.proofs.text.names_of.Reads as reads
-use Rattle.judge.proofs.text.names_of.Lts as lts
-use Rattle.judge.proofs.text.no_names.Reads as no-names-reads
 
 abbrev Inv-loop : tie.InvT-loop
 Inv-loop words len names₀ i₀ names i = (i ≤ len) × (names .places ≡ filled placeOf noPlace words 64 i)
@@ -56,10 +54,19 @@ loop-less c = omega arith
 
 loop-again : tie.Need-loop-again Inv-loop μ-loop
 unfolding placeOf
-loop-again c = (omega arith, rw (c .before .before .before .loop .inv .1) (fill-turn placeOf noPlace (c .before .before .before .before .before .args .words .now) 64 (c .before .before .before .loop .i) 0 (omega arith) (omega arith)))
+loop-again c = (
+  omega arith,
+  rw (c .before .before .before .loop .inv .1)
+      (fill-turn placeOf noPlace (c .before .before .before .before .before .args .words .now) 64 (c .before .before .before .loop .i) 0 (omega arith) (omega arith)),
+)
 
 returns : tie.Need-returns Inv-loop μ-loop
-returns c = let e : c .before .loop .i ≡ c .before .before .before .args .len = omega arith in names-filled (map placeOf (take (c .before .before .before .args .len) (c .before .before .before .args .words .now))) (c .before .loop .names .places) (c .before .before .before .args .len) (fill-length placeOf noPlace (c .before .before .before .args .words .now) (c .before .before .before .args .len) (omega arith)) (rw e at (c .before .loop .inv .1))
+returns c =
+    let e : c .before .loop .i ≡ c .before .before .before .args .len = omega arith in
+    names-filled (map placeOf (take (c .before .before .before .args .len) (c .before .before .before .args .words .now))) (c .before .loop .names .places)
+    (c .before .before .before .args .len)
+    (fill-length placeOf noPlace (c .before .before .before .args .words .now) (c .before .before .before .args .len) (omega arith))
+    (rw e at (c .before .loop .inv .1))
 
 pub names-of-spec : {M : Type 1} → statement M
 names-of-spec =

@@ -1,10 +1,8 @@
+-- A sign's byte is no atom's shape.
 use Rattle.judge.specs.Reading.Packed.{unpack-group}
 use borrow.Author.Needs.{needs}
 use Rattle.judge.proofs.text.packed_group.Statement.{statement}
 use Rattle.judge.proofs.text.packed_group.Tie as tie
-use Rattle.judge.proofs.text.packed_group.Reads as reads
-use Rattle.judge.proofs.text.packed_group.Lts as lts
-use Rattle.judge.proofs.text.packed.Reads as packed-reads
 
 packed-requires : tie.Need-packed-requires
 packed-requires c κs = search needs

@@ -1,9 +1,8 @@
+-- Only the mark changes.
 use Rattle.judge.specs.Reading.Packed.{unpack-optional}
 use borrow.Author.Needs.{needs}
 use Rattle.judge.proofs.text.packed_optional.Statement.{statement}
 use Rattle.judge.proofs.text.packed_optional.Tie as tie
-use Rattle.judge.proofs.text.packed_optional.Reads as reads
-use Rattle.judge.proofs.text.packed_optional.Lts as lts
 
 mul-result : tie.Need-mul-result
 mul-result c = search needs

@@ -1,9 +1,8 @@
+-- The definition's test.
 use mathlib.Core.Bool.{or-assoc}
 use borrow.Author.Tests.{eq-eqb, ne-eqb}
 use Rattle.judge.proofs.text.parts.Statement.{statement}
 use Rattle.judge.proofs.text.parts.Tie as tie
-use Rattle.judge.proofs.text.parts.Reads as reads
-use Rattle.judge.proofs.text.parts.Lts as lts
 
 returns : tie.Need-returns
 returns c = rw (eq-eqb _ _ (c .if1 .taken)) (rw or-assoc)

@@ -1,20 +1,14 @@
-use borrow.Author.Needs.{needs}
-use mathlib.Core.Path.{ap}
-use Rattle.judge.specs.declared.rule.Rule.{Rule}
+-- The loop fills the rule from the front.
 use mathlib.Core.List.{map}
 use Prim.Native.Nat.{_≤_, _-_}
-use mathlib.Core.Path.{_≡_, refl, _∙_}
-use lib.ListN.{length, take}
+use mathlib.Core.Path.{_≡_}
+use lib.ListN.{take}
 use native.Mathlib.Omega.{arith}
 use Rattle.judge.specs.Rule.{unused}
 use Rattle.judge.specs.Reading.Packed.{nodeOf}
 use Rattle.judge.specs.Reading.Filled.{filled, fill-turn, fill-length, rule-filled}
 use Rattle.judge.proofs.text.rule_of.Statement.{statement}
 use Rattle.judge.proofs.text.rule_of.Tie as tie
-use Rattle.judge.proofs.text.rule_of.Reads as reads
-use Rattle.judge.proofs.text.rule_of.Lts as lts
-use Rattle.judge.proofs.text.no_rule.Reads as no-rule-reads
-use Rattle.judge.proofs.text.unpacked.Reads as unpacked-reads
 
 abbrev Inv-loop : tie.InvT-loop
 Inv-loop work len rule₀ i₀ rule i = (i ≤ len) × (rule .nodes ≡ filled nodeOf unused work 128 i)
@@ -50,10 +44,19 @@ loop-less : tie.Need-loop-less Inv-loop μ-loop
 loop-less c = omega arith
 
 loop-again : tie.Need-loop-again Inv-loop μ-loop
-loop-again c = (omega arith, rw (c .before .before .before .loop .inv .1, c .unpacked .ensures) (fill-turn nodeOf unused (c .before .before .before .before .before .args .work .now) 128 (c .before .before .before .loop .i) 0 (omega arith) (omega arith)))
+loop-again c = (
+  omega arith,
+  rw (c .before .before .before .loop .inv .1, c .unpacked .ensures)
+      (fill-turn nodeOf unused (c .before .before .before .before .before .args .work .now) 128 (c .before .before .before .loop .i) 0 (omega arith) (omega arith)),
+)
 
 returns : tie.Need-returns Inv-loop μ-loop
-returns c = let e : c .before .loop .i ≡ c .before .before .before .args .len = omega arith in rule-filled (map nodeOf (take (c .before .before .before .args .len) (c .before .before .before .args .work .now))) (c .before .loop .rule .nodes) (c .before .before .before .args .len) (fill-length nodeOf unused (c .before .before .before .args .work .now) (c .before .before .before .args .len) (omega arith)) (rw e at (c .before .loop .inv .1))
+returns c =
+    let e : c .before .loop .i ≡ c .before .before .before .args .len = omega arith in
+    rule-filled (map nodeOf (take (c .before .before .before .args .len) (c .before .before .before .args .work .now))) (c .before .loop .rule .nodes)
+    (c .before .before .before .args .len)
+    (fill-length nodeOf unused (c .before .before .before .args .work .now) (c .before .before .before .args .len) (omega arith))
+    (rw e at (c .before .loop .inv .1))
 
 pub rule-of-spec : {M : Type 1} → statement M
 rule-of-spec =

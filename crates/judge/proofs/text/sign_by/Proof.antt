@@ -1,8 +1,7 @@
+-- The definition's tests in its own order.
 use borrow.Author.Tests.{eq-eqb, ne-eqb}
 use Rattle.judge.proofs.text.sign_by.Statement.{statement}
 use Rattle.judge.proofs.text.sign_by.Tie as tie
-use Rattle.judge.proofs.text.sign_by.Reads as reads
-use Rattle.judge.proofs.text.sign_by.Lts as lts
 
 returns : tie.Need-returns
 returns c = rw (eq-eqb _ _ (c .if1 .taken))

@@ -1,12 +1,11 @@
-use mathlib.Core.Path.{sym, _∙_}
+-- Past the end `getD` gives 0, which is no byte asked for.
+use mathlib.Core.Path.{sym}
 use native.Mathlib.Omega.{arith}
 use lib.ListN.{List·getD-eq-default}
 use borrow.Author.Tests.{ne-eqb}
 use borrow.Author.Needs.{needs}
 use Rattle.judge.proofs.text.stands.Statement.{statement}
 use Rattle.judge.proofs.text.stands.Tie as tie
-use Rattle.judge.proofs.text.stands.Reads as reads
-use Rattle.judge.proofs.text.stands.Lts as lts
 
 shared-slice-read-result : tie.Need-shared-slice-read-result
 shared-slice-read-result c = search needs

@@ -1,12 +1,10 @@
+-- Each return is one case of `onwardAt`.
 use mathlib.Core.Path.{sym, _∙_}
 use borrow.Author.Tests.{lt-ltb, le-ltb}
 use Rattle.judge.specs.Reading.Lexeme.{onwardAt}
 use borrow.Author.Needs.{needs}
 use Rattle.judge.proofs.text.unbounded.Statement.{statement}
 use Rattle.judge.proofs.text.unbounded.Tie as tie
-use Rattle.judge.proofs.text.unbounded.Reads as reads
-use Rattle.judge.proofs.text.unbounded.Lts as lts
-use Rattle.judge.proofs.text.stands.Reads as stands-reads
 
 stands-requires : tie.Need-stands-requires
 stands-requires c κs = search needs

@@ -1,12 +1,8 @@
-use mathlib.Core.Path.{refl}
+-- The parts are those of `nodeOf`.
 use Rattle.judge.specs.Reading.Packed.{nodeOf}
 use borrow.Author.Needs.{needs}
 use Rattle.judge.proofs.text.unpacked.Statement.{statement}
 use Rattle.judge.proofs.text.unpacked.Tie as tie
-use Rattle.judge.proofs.text.unpacked.Reads as reads
-use Rattle.judge.proofs.text.unpacked.Lts as lts
-use Rattle.judge.proofs.text.kind_of.Reads as kind-of-reads
-use Rattle.judge.proofs.text.mark_of.Reads as mark-of-reads
 
 cast-kind-of : tie.Need-cast-kind-of
 cast-kind-of c = search needs

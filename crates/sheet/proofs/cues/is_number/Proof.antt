@@ -12,7 +12,6 @@ use Rattle.sheet.proofs.cues.is_number.Statement.{statement}
 use Rattle.sheet.proofs.cues.is_number.Tie as tie
 use Rattle.sheet.proofs.cues.is_number.Reads as reads
 use Rattle.sheet.proofs.cues.is_number.Lts as lts
-use Rattle.sheet.proofs.cues.is_digit.Reads as is-digit-reads
 
 abbrev Inv-loop : tie.InvT-loop
 Inv-loop text n good₀ i₀ good i = (1 ≤ length text) × (i ≤ length text) × (length text ≤ 5) × (getD text 0 0 ≡ 48 → ⊥) × (good ≡ all isDigit (drop i text))

@@ -12,7 +12,6 @@ use Rattle.sheet.proofs.cues.read_line.Reads as reads
 use Rattle.sheet.proofs.cues.read_line.Lts as lts
 use Rattle.fields.proofs.children.all_names.Reads as all-names-reads
 use Rattle.fields.proofs.split.first_fields.Reads as first-fields-reads
-use Rattle.fields.proofs.split.same_text.Reads as same-text-reads
 use Rattle.fields.proofs.split.times_in.Reads as times-in-reads
 use Rattle.sheet.proofs.cues.is_number.Reads as is-number-reads
 use Rattle.sheet.proofs.cues.value_of.Reads as value-of-reads
@@ -26,29 +25,29 @@ returns c =
     let at-first-fields = c .before .first-fields in
     line-few (at-args .previous) (at-args .line .now) (fields-few (at-args .line .now) (at-first-fields .result) (at-first-fields .ensures) (c .if1 .left))
 
-sub-same-text : tie.Need-sub-same-text
-sub-same-text c = search needs
+sub-same-bytes : tie.Need-sub-same-bytes
+sub-same-bytes c = search needs
 
-part-same-text-start : tie.Need-part-same-text-start
-part-same-text-start c = search needs
+part-same-bytes-start : tie.Need-part-same-bytes-start
+part-same-bytes-start c = search needs
 
-part-same-text-end : tie.Need-part-same-text-end
-part-same-text-end c =
+part-same-bytes-end : tie.Need-part-same-bytes-end
+part-same-bytes-end c =
     let at-first-fields = c .before .first-fields in
     let t = fields-three (c .before .before .before .args .line .now) (at-first-fields .result) (at-first-fields .ensures) (c .if1 .taken) in
     omega arith
 
-slice-aggregate-same-text : tie.Need-slice-aggregate-same-text
-slice-aggregate-same-text c = search needs
+slice-aggregate-same-bytes : tie.Need-slice-aggregate-same-bytes
+slice-aggregate-same-bytes c = search needs
 
-same-text-requires : tie.Need-same-text-requires
-same-text-requires c κs = search needs
+same-bytes-requires : tie.Need-same-bytes-requires
+same-bytes-requires c κs = search needs
 
 returns-2 : tie.Need-returns-2
 returns-2 c =
     let at-args = c .before .before .before .before .before .before .before .args in
     let at-first-fields = c .before .before .before .before .before .first-fields in
-    line-word (at-args .previous) (at-args .line .now) (at-first-fields .result) (fields-three (at-args .line .now) (at-first-fields .result) (at-first-fields .ensures) (c .before .before .before .before .if1 .taken)) (sym (c .before .same-text .ensures) ∙ c .if2 .left)
+    line-word (at-args .previous) (at-args .line .now) (at-first-fields .result) (fields-three (at-args .line .now) (at-first-fields .result) (at-first-fields .ensures) (c .before .before .before .before .if1 .taken)) (sym (c .before .same-bytes .ensures) ∙ c .if2 .left)
 
 add-is-number : tie.Need-add-is-number
 add-is-number c =
@@ -81,7 +80,7 @@ returns-3 : tie.Need-returns-3
 returns-3 c =
     let at-args = c .before .before .before .before .before .before .before .before .before .before .args in
     let at-first-fields = c .before .before .before .before .before .before .before .before .first-fields in
-    line-number (at-args .previous) (at-args .line .now) (at-first-fields .result) (fields-three (at-args .line .now) (at-first-fields .result) (at-first-fields .ensures) (c .before .before .before .before .before .before .before .if1 .taken)) (sym (c .before .before .before .before .same-text .ensures) ∙ c .before .before .before .if2 .taken) (sym (c .before .is-number .ensures) ∙ c .if3 .left)
+    line-number (at-args .previous) (at-args .line .now) (at-first-fields .result) (fields-three (at-args .line .now) (at-first-fields .result) (at-first-fields .ensures) (c .before .before .before .before .before .before .before .if1 .taken)) (sym (c .before .before .before .before .same-bytes .ensures) ∙ c .before .before .before .if2 .taken) (sym (c .before .is-number .ensures) ∙ c .if3 .left)
 
 add-value-of : tie.Need-add-value-of
 add-value-of c =
@@ -117,7 +116,7 @@ returns-4 c =
     let at-args = c .before .before .before .before .before .before .before .before .before .before .before .before .before .args in
     let at-first-fields = c .before .before .before .before .before .before .before .before .before .before .before .first-fields in
     let at-value-of = c .before .value-of in
-    line-above (at-args .previous) (at-args .line .now) (at-first-fields .result) (fields-three (at-args .line .now) (at-first-fields .result) (at-first-fields .ensures) (c .before .before .before .before .before .before .before .before .before .before .if1 .taken)) (sym (c .before .before .before .before .before .before .before .same-text .ensures) ∙ c .before .before .before .before .before .before .if2 .taken) (sym (c .before .before .before .before .is-number .ensures) ∙ c .before .before .before .if3 .taken) (at-value-of .result) (at-value-of .ensures) (c .if4 .taken)
+    line-above (at-args .previous) (at-args .line .now) (at-first-fields .result) (fields-three (at-args .line .now) (at-first-fields .result) (at-first-fields .ensures) (c .before .before .before .before .before .before .before .before .before .before .if1 .taken)) (sym (c .before .before .before .before .before .before .before .same-bytes .ensures) ∙ c .before .before .before .before .before .before .if2 .taken) (sym (c .before .before .before .before .is-number .ensures) ∙ c .before .before .before .if3 .taken) (at-value-of .result) (at-value-of .ensures) (c .if4 .taken)
 
 add-names : tie.Need-add-names
 add-names c =
@@ -151,7 +150,7 @@ returns-5 c =
     let at-args = c .before .before .before .before .before .before .before .before .before .before .before .before .before .before .before .before .args in
     let at-first-fields = c .before .before .before .before .before .before .before .before .before .before .before .before .before .before .first-fields in
     let at-value-of = c .before .before .before .before .value-of in
-    line-names (at-args .previous) (at-args .line .now) (at-first-fields .result) (fields-three (at-args .line .now) (at-first-fields .result) (at-first-fields .ensures) (c .before .before .before .before .before .before .before .before .before .before .before .before .before .if1 .taken)) (sym (c .before .before .before .before .before .before .before .before .before .before .same-text .ensures) ∙ c .before .before .before .before .before .before .before .before .before .if2 .taken) (sym (c .before .before .before .before .before .before .before .is-number .ensures) ∙ c .before .before .before .before .before .before .if3 .taken) (at-value-of .result) (at-value-of .ensures) (c .before .before .before .if4 .left) (sym (c .before .all-names .ensures) ∙ c .if5 .left)
+    line-names (at-args .previous) (at-args .line .now) (at-first-fields .result) (fields-three (at-args .line .now) (at-first-fields .result) (at-first-fields .ensures) (c .before .before .before .before .before .before .before .before .before .before .before .before .before .if1 .taken)) (sym (c .before .before .before .before .before .before .before .before .before .before .same-bytes .ensures) ∙ c .before .before .before .before .before .before .before .before .before .if2 .taken) (sym (c .before .before .before .before .before .before .before .is-number .ensures) ∙ c .before .before .before .before .before .before .if3 .taken) (at-value-of .result) (at-value-of .ensures) (c .before .before .before .if4 .left) (sym (c .before .all-names .ensures) ∙ c .if5 .left)
 
 times-in-requires : tie.Need-times-in-requires
 times-in-requires c κs = search needs
@@ -162,7 +161,7 @@ returns-6 c =
     let at-first-fields = c .before .before .before .before .before .before .before .before .before .before .before .before .before .before .before .before .first-fields in
     let at-value-of = c .before .before .before .before .before .before .value-of in
     let at-times-in = c .before .times-in in
-    line-many (at-args .previous) (at-args .line .now) (at-first-fields .result) (fields-three (at-args .line .now) (at-first-fields .result) (at-first-fields .ensures) (c .before .before .before .before .before .before .before .before .before .before .before .before .before .before .before .if1 .taken)) (sym (c .before .before .before .before .before .before .before .before .before .before .before .before .same-text .ensures) ∙ c .before .before .before .before .before .before .before .before .before .before .before .if2 .taken) (sym (c .before .before .before .before .before .before .before .before .before .is-number .ensures) ∙ c .before .before .before .before .before .before .before .before .if3 .taken) (at-value-of .result) (at-value-of .ensures) (c .before .before .before .before .before .if4 .left) (sym (c .before .before .before .all-names .ensures) ∙ c .before .before .if5 .taken) (at-times-in .result) (at-times-in .ensures) (c .if6 .taken)
+    line-many (at-args .previous) (at-args .line .now) (at-first-fields .result) (fields-three (at-args .line .now) (at-first-fields .result) (at-first-fields .ensures) (c .before .before .before .before .before .before .before .before .before .before .before .before .before .before .before .if1 .taken)) (sym (c .before .before .before .before .before .before .before .before .before .before .before .before .same-bytes .ensures) ∙ c .before .before .before .before .before .before .before .before .before .before .before .if2 .taken) (sym (c .before .before .before .before .before .before .before .before .before .is-number .ensures) ∙ c .before .before .before .before .before .before .before .before .if3 .taken) (at-value-of .result) (at-value-of .ensures) (c .before .before .before .before .before .if4 .left) (sym (c .before .before .before .all-names .ensures) ∙ c .before .before .if5 .taken) (at-times-in .result) (at-times-in .ensures) (c .if6 .taken)
 
 returns-7 : tie.Need-returns-7
 returns-7 c =
@@ -170,7 +169,7 @@ returns-7 c =
     let at-first-fields = c .before .before .before .before .before .before .before .before .before .before .before .before .before .before .before .before .first-fields in
     let at-value-of = c .before .before .before .before .before .before .value-of in
     let at-times-in = c .before .times-in in
-    line-good (at-args .previous) (at-args .line .now) (at-first-fields .result) (fields-three (at-args .line .now) (at-first-fields .result) (at-first-fields .ensures) (c .before .before .before .before .before .before .before .before .before .before .before .before .before .before .before .if1 .taken)) (sym (c .before .before .before .before .before .before .before .before .before .before .before .before .same-text .ensures) ∙ c .before .before .before .before .before .before .before .before .before .before .before .if2 .taken) (sym (c .before .before .before .before .before .before .before .before .before .is-number .ensures) ∙ c .before .before .before .before .before .before .before .before .if3 .taken) (at-value-of .result) (at-value-of .ensures) (c .before .before .before .before .before .if4 .left) (sym (c .before .before .before .all-names .ensures) ∙ c .before .before .if5 .taken) (at-times-in .result) (at-times-in .ensures) (c .if6 .left)
+    line-good (at-args .previous) (at-args .line .now) (at-first-fields .result) (fields-three (at-args .line .now) (at-first-fields .result) (at-first-fields .ensures) (c .before .before .before .before .before .before .before .before .before .before .before .before .before .before .before .if1 .taken)) (sym (c .before .before .before .before .before .before .before .before .before .before .before .before .same-bytes .ensures) ∙ c .before .before .before .before .before .before .before .before .before .before .before .if2 .taken) (sym (c .before .before .before .before .before .before .before .before .before .is-number .ensures) ∙ c .before .before .before .before .before .before .before .before .if3 .taken) (at-value-of .result) (at-value-of .ensures) (c .before .before .before .before .before .if4 .left) (sym (c .before .before .before .all-names .ensures) ∙ c .before .before .if5 .taken) (at-times-in .result) (at-times-in .ensures) (c .if6 .left)
 
 pub read-line-spec : {M : Type 1} → statement M
 read-line-spec =
@@ -178,11 +177,11 @@ read-line-spec =
     (tie.spec
     first-fields-requires
     returns
-    sub-same-text
-    part-same-text-start
-    part-same-text-end
-    slice-aggregate-same-text
-    same-text-requires
+    sub-same-bytes
+    part-same-bytes-start
+    part-same-bytes-end
+    slice-aggregate-same-bytes
+    same-bytes-requires
     returns-2
     add-is-number
     sub-is-number

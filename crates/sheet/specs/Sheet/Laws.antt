@@ -1,0 +1,200 @@
+-- How the lines of a sheet are read.
+use mathlib.Core.Path.{_≡_, refl, ap, sym, _∙_}
+use mathlib.Core.Bool.{Bool, true, false, cond, not, _&&_, _||_, true≢false, false≢true}
+use mathlib.Core.Option.{Option, none, some}
+use mathlib.Core.List.{List, [], _∷_, _++_, map, append-assoc}
+use Prim.Native.Nat.{ℕ, zero, suc, _+_, _-_, _≤_, _<_}
+use native.Mathlib.Omega.{arith}
+use native.Mathlib.Numerals.{add-one}
+use lib.Dec.{leb, ltb, eqb, eqb·suc-zero}
+use lib.ListN.{length, take, drop, getD, replicate, set, length-take, length-drop}
+use borrow.Author.Tests.{ltb-true, ltb-false, lt-ltb, le-ltb, eqb-true, eq-eqb, ne-eqb, not-true, not-false}
+use Rattle.judge.specs.Tests.{by-test}
+use Rattle.judge.specs.declared.text.NamePlace.{NamePlace}
+use Rattle.judge.specs.declared.text.Names.{Names}
+use Rattle.judge.specs.declared.text.Reading.{Reading}
+use Rattle.judge.specs.declared.text.Outcome.the-variants.{Read as ModelRead, Refused as ModelRefused}
+use Rattle.judge.specs.declared.fault.ModelFault.{ModelFault}
+use Rattle.judge.specs.Bytes.{Text, bytes, sameText}
+use Rattle.judge.specs.Bytes.Laws.{same-text}
+use Rattle.judge.specs.Syntax.{numberFrom, numberIn}
+use Rattle.judge.specs.Fault.{Answer, refused, accepted}
+use Rattle.judge.specs.Fault.Answered.{answer}
+use Rattle.judge.specs.Reading.{noPlace, namesWith, readingBy, reading, partsOf}
+use Rattle.fields.specs.declared.split.Heads.{Heads}
+use Rattle.fields.specs.Split.{tab, split, fields, field, part}
+use Rattle.fields.specs.Split.Laws.{split-count}
+use Rattle.fields.specs.Heads.{headsOf, fields-three, Three, more-none}
+use Rattle.fields.specs.Children.{shortName}
+use Rattle.sheet.specs.declared.sheet.SheetFault.{SheetFault}
+use Rattle.sheet.specs.declared.sheet.SheetFault.the-variants.{BadFields, NoKind, Repeated, Model}
+use Rattle.sheet.specs.declared.sheet.Checked.{Checked}
+use Rattle.sheet.specs.declared.sheet.Checked.the-variants.{Good, Bad}
+use Rattle.sheet.specs.declared.sheet.LineRead.{LineRead}
+use Rattle.sheet.specs.declared.sheet.SheetOutcome.the-variants.{Read, Refused}
+use Rattle.sheet.specs.declared.sheet.Entry.{Entry}
+use Rattle.sheet.specs.declared.sheet.Sheet.{Sheet}
+use Rattle.sheet.specs.declared.sheet.SheetRead.{SheetRead}
+use Rattle.sheet.specs.Listing.Laws.{enough}
+use Rattle.sheet.specs.Sheet.{maxRules, kind, model, among, modelFault, lineFault, Placed, kindPlace, entryOf, noEntry, sheetWith, sheetBy}
+
+-- what is wrong with a line, its model left aside
+abbrev pub lineChecked : List Text → Text → Checked
+lineChecked ks l =
+    cond (not (eqb (length (fields l)) 3) || not (sameText (field 0 l) (bytes "rule"))) (Bad BadFields)
+    (cond (not (shortName (kind l))) (Bad NoKind)
+    (cond (among ks (kind l)) (Bad Repeated) Good))
+
+abbrev pub checkedBy : Option SheetFault → Checked
+checkedBy none = Good
+checkedBy (some f) = Bad f
+
+-- the line of the text x from at to end is read into r
+pub record LineIs (x : Text) (kinds : Names) (at end : ℕ) (r : LineRead) : Type 0 where
+  pub checked-is : r .checked ≡ checkedBy (lineFault (partsOf x kinds) (part x at end))
+  pub kind-is : r .checked ≡ Good → r .kind ≡ kindPlace (record { start = at; line = part x at end })
+  pub entry-is : r .checked ≡ Good → r .entry ≡ entryOf (record { start = at; line = part x at end })
+
+-- what is made where nothing is read
+pub entry-made : (m : NamePlace) (r : Reading) → m ≡ noPlace → r ≡ reading [] → _≡_ {A = Entry} (record { model = m; rule = r .rule; names = r .names }) noEntry
+entry-made m r e f = rw (e, f)
+
+pub rules-made : (k : Names) (e : Entry) → k ≡ namesWith [] → e ≡ noEntry → _≡_ {A = Sheet} (record { kinds = k; entries = replicate maxRules e }) (sheetWith [])
+rules-made k e f g = rw (f, g)
+
+pub refused-made : (s : Sheet) (f : SheetFault) (n : ℕ) → s ≡ sheetWith [] → _≡_ {A = SheetRead} (record { outcome = Refused f n; sheet = s }) (sheetBy [] (Refused f n))
+refused-made s f n e = rw e
+
+-- a kind has a number among the earlier ones if it is one of them
+among-from : (ks : List Text) (x : Text) (k : ℕ) → eqb (numberFrom (suc k) ks x) 0 ≡ not (among ks x)
+among-from [] x k = refl
+among-from (y ∷ ks) x k = by-test (sameText y x) (λ e. rw e (eqb·suc-zero k)) (λ e. rw e (among-from ks x (suc k)))
+
+pub among-none : (ks : List Text) (x : Text) (n : ℕ) → n ≡ numberIn ks x → n ≡ 0 → among ks x ≡ false
+among-none ks x n e z = not-true (among ks x) (sym (among-from ks x 0) ∙ eq-eqb (numberIn ks x) 0 (sym e ∙ z))
+
+pub among-some : (ks : List Text) (x : Text) (n : ℕ) → n ≡ numberIn ks x → (n ≡ 0 → ⊥) → among ks x ≡ true
+among-some ks x n e z = not-false (among ks x) (sym (among-from ks x 0) ∙ ne-eqb (numberIn ks x) 0 (λ f. z (e ∙ f)))
+
+-- a line has three fields if its third ends it
+module _ (l : Text) (h : Heads) (t : Three l h) where
+  three-or-more : 3 ≤ length (fields l)
+  three-or-more = ltb-false (length (fields l)) 3 (t .enough)
+
+  pub just-three : h .third ≡ length l → eqb (length (fields l)) 3 ≡ true
+  just-three e =
+      let z : drop 3 (fields l) ≡ [] = t .behind-is ∙ more-none l (h .third) (omega arith) in
+      eq-eqb (length (fields l)) 3 (omega (arith, three-or-more, length-drop 3 (fields l), ap length z))
+
+  pub over-three : (h .third ≡ length l → ⊥) → eqb (length (fields l)) 3 ≡ false
+  over-three n =
+      let k : h .third < length l = omega (arith, t .ascending) in
+      let e : drop 3 (fields l) ≡ split tab (drop (suc (h .third)) l) = t .behind-is ∙ rw (lt-ltb (h .third) (length l) k) in
+      ne-eqb (length (fields l)) 3 (λ f. omega (arith, f, length-drop 3 (fields l), ap length e, split-count tab (drop (suc (h .third)) l)))
+
+pub under-three : (l : Text) → ltb (length (fields l)) 3 ≡ true → eqb (length (fields l)) 3 ≡ false
+under-three l t = ne-eqb (length (fields l)) 3 (λ e. omega (arith, e, ltb-true (length (fields l)) 3 t))
+
+-- what is said of a line, test by test
+module _ (ks : List Text) (l : Text) where
+  pub checked-fields : eqb (length (fields l)) 3 ≡ false → Bad BadFields ≡ lineChecked ks l
+  checked-fields e = rw e
+
+  module _ (e : eqb (length (fields l)) 3 ≡ true) where
+    pub checked-word : sameText (field 0 l) (bytes "rule") ≡ false → Bad BadFields ≡ lineChecked ks l
+    checked-word w = rw (e, w)
+
+    module _ (w : sameText (field 0 l) (bytes "rule") ≡ true) where
+      pub checked-name : shortName (kind l) ≡ false → Bad NoKind ≡ lineChecked ks l
+      checked-name n = rw (e, w, n)
+
+      pub checked-again : shortName (kind l) ≡ true → among ks (kind l) ≡ true → Bad Repeated ≡ lineChecked ks l
+      checked-again n a = rw (e, w, n, a)
+
+      pub checked-good : shortName (kind l) ≡ true → among ks (kind l) ≡ false → Good ≡ lineChecked ks l
+      checked-good n a = rw (e, w, n, a)
+
+abbrev byChecked : Checked → Option SheetFault → Option SheetFault
+byChecked Good m = m
+byChecked (Bad f) m = some f
+
+-- a line is at fault by its check, and behind that by its model
+module _ (ks : List Text) (l : Text) where
+  fault-by : lineFault ks l ≡ byChecked (lineChecked ks l) (modelFault (answer (model l)))
+  fault-by =
+      by-test (not (eqb (length (fields l)) 3) || not (sameText (field 0 l) (bytes "rule")))
+      (λ e. rw e)
+      (λ e. by-test (shortName (kind l)) (λ f. by-test (among ks (kind l)) (λ g. rw (e, f, g)) (λ g. rw (e, f, g))) (λ f. rw (e, f)))
+
+  pub line-bad : (f : SheetFault) → lineChecked ks l ≡ Bad f → checkedBy (lineFault ks l) ≡ Bad f
+  line-bad f e = rw (fault-by, e)
+
+  outcome-read : (a : Answer) → readingBy (model l) a .outcome ≡ ModelRead → modelFault a ≡ none
+  outcome-read (refused f p) e = let z : _≡_ {A = ℕ} 0 1 = cc e in absurd (omega arith)
+  outcome-read (accepted t) e = refl
+
+  outcome-bad : (a : Answer) (f : ModelFault) (p : ℕ) → readingBy (model l) a .outcome ≡ ModelRefused f p → modelFault a ≡ some (Model f)
+  outcome-bad (refused g q) f p e = let z : g ≡ f = cc e in ap (λ h. some (Model h)) z
+  outcome-bad (accepted t) f p e = let z : _≡_ {A = ℕ} 0 1 = cc e in absurd (omega arith)
+
+  module _ (g : lineChecked ks l ≡ Good) where
+    pub line-read : reading (model l) .outcome ≡ ModelRead → checkedBy (lineFault ks l) ≡ Good
+    line-read e = rw (fault-by, g, outcome-read (answer (model l)) e)
+
+    pub line-model : (f : ModelFault) (p : ℕ) → reading (model l) .outcome ≡ ModelRefused f p → checkedBy (lineFault ks l) ≡ Bad (Model f)
+    line-model f p e = rw (fault-by, g, outcome-bad (answer (model l)) f p e)
+
+    good-word : (eqb (length (fields l)) 3 ≡ true) × (sameText (field 0 l) (bytes "rule") ≡ true)
+    good-word =
+        by-test (eqb (length (fields l)) 3)
+        (λ e. by-test (sameText (field 0 l) (bytes "rule")) (λ w. (e, w)) (λ w. bad (rw (e, w))))
+        (λ e. bad (rw e))
+      where
+        bad : {C : Type 0} → Bad BadFields ≡ lineChecked ks l → C
+        bad e = let z : _≡_ {A = ℕ} 0 1 = cc (e, g) in absurd (omega arith)
+
+pub part-size : (x : Text) (at end : ℕ) → end ≤ length x → length (part x at end) ≡ end - at
+part-size x at end h = rw (length-take, length-drop) (omega arith)
+
+-- where the fields of a good line stand
+module _ (ks : List Text) (l : Text) (h : Heads) (e : h ≡ headsOf l) (g : lineChecked ks l ≡ Good) where
+  good-three : Three l h
+  good-three = fields-three l h e (enough l h e (omega (arith, eqb-true (length (fields l)) 3 (good-word ks l g .0))))
+
+  pub line-sizes : (h .first ≡ 4) × (h .first < h .second) × (h .second < h .third) × (h .third ≤ length l)
+  line-sizes =
+      let t = good-three in
+      let w : part l 0 (h .first) ≡ bytes "rule" = sym (t .first-is) ∙ same-text (field 0 l) (bytes "rule") .0 (good-word ks l g .1) in
+      let n : length (part l 0 (h .first)) ≡ 4 = ap length w in
+      (omega (arith, n, part-size l 0 (h .first) (omega (arith, t .ascending)), t .ascending), t .ascending .0, t .ascending .1, t .ascending .2)
+
+  pub line-kind : (at : ℕ) → _≡_ {A = NamePlace} (record { start = at + h .first + 1; len = (h .second - h .first) - 1 }) (kindPlace (record { start = at; line = l }))
+  line-kind at =
+      let t = good-three in
+      let s = line-sizes in
+      let k : length (kind l) ≡ (h .second - h .first) - 1 = ap length (t .second-is) ∙ part-size l (h .first + 1) (h .second) (omega arith) ∙ omega arith in
+      let a : at + h .first + 1 ≡ at + 5 = omega arith in
+      rw (k, a)
+
+  pub line-entry : (at : ℕ) (m : Reading) → m ≡ reading (part l (h .second + 1) (h .third))
+      → _≡_ {A = Entry} (record { model = record { start = at + h .second + 1; len = (h .third - h .second) - 1 }; rule = m .rule; names = m .names }) (entryOf (record { start = at; line = l }))
+  line-entry at m r =
+      let t = good-three in
+      let s = line-sizes in
+      let k : length (kind l) ≡ (h .second - h .first) - 1 = ap length (t .second-is) ∙ part-size l (h .first + 1) (h .second) (omega arith) ∙ omega arith in
+      let j : length (model l) ≡ (h .third - h .second) - 1 = ap length (t .third-is) ∙ part-size l (h .second + 1) (h .third) (omega arith) ∙ omega arith in
+      let a : at + (6 + length (kind l)) ≡ at + h .second + 1 = omega arith in
+      let q : m ≡ reading (model l) = r ∙ ap reading (sym (t .third-is)) in
+      rw (q, j, a)
+
+module _ (x : Text) (kinds : Names) (at end : ℕ) (r : LineRead) where
+  pub is-bad : (f : SheetFault) → r .checked ≡ Bad f → checkedBy (lineFault (partsOf x kinds) (part x at end)) ≡ Bad f → LineIs x kinds at end r
+  is-bad f e k =
+      record {
+        checked-is = e ∙ sym k;
+        kind-is = λ g. let z : _≡_ {A = ℕ} 0 1 = cc (e, g) in absurd (omega arith);
+        entry-is = λ g. let z : _≡_ {A = ℕ} 0 1 = cc (e, g) in absurd (omega arith);
+      }
+
+pub third-model : (ks : List Text) (l : Text) (h : Heads) → h ≡ headsOf l → lineChecked ks l ≡ Good → model l ≡ part l (h .second + 1) (h .third)
+third-model ks l h e g = good-three ks l h e g .third-is
