@@ -39,6 +39,7 @@ use Rattle.judge.specs.Rule.Names.{names-model}
 use Rattle.judge.specs.Rule.Decide.{readable, readable-is, ruleType, rule-type}
 use Rattle.judge.specs.Judge.Laws.{upto, judged}
 use Rattle.judge.specs.Reading.{namePlace, noPlace, namesOf, refusal, readingBy, reading, partAt, partsOf}
+use Rattle.judge.specs.Reading.Laws.{names-are}
 use Rattle.judge.specs.Reading.Search.{name-fits}
 use Rattle.judge.specs.Limits.{maxAtoms, maxRow, maxText}
 use Rattle.fields.specs.declared.fault.CueFault.{CueFault}
@@ -48,7 +49,7 @@ use Rattle.fields.specs.declared.children.Children.the-variants.{Count, Refused
 use Rattle.fields.specs.Split.{tab, split, times}
 use Rattle.fields.specs.Split.Laws.{split-count}
 use Rattle.fields.specs.Children.{cueNumber, allNames, childrenOf, rowOf}
-use Rattle.desk.specs.Names.{mapped-at, names-many, parts-are, begins-at}
+use Rattle.desk.specs.Names.{mapped-at, names-many, begins-at}
 use Rattle.desk.specs.Table.{spotOf, spotPart, spotParts, Spots}
 use Rattle.desk.specs.Row.{Filled, RowRead}
 use Rattle.desk.specs.Desk.{childrenIn, maxChildrenText, row, Reply, noChildren, good, childrenBy, replyNumber, verdictNumber, deskAnswer}
@@ -67,7 +68,7 @@ parts-many m ns w f = length-map (take (ns .len) (ns .places)) (partAt m) ∙ le
 -- what is accepted is sound
 module _ (m : Text) (t : Syntax) (h : Answers m (accepted t)) where
   names-atoms : length (places m (length m)) ≡ atoms t
-  names-atoms = names-many m t (h .1) ∙ length-map (leaves t) (λ a. a .name) ∙ length-leaves t
+  names-atoms = names-many m t h ∙ length-map (leaves t) (λ a. a .name) ∙ length-leaves t
 
   few-names : length (places m (length m)) ≤ maxAtoms
   few-names = omega (arith, names-atoms, accepted-within m t h .few-atoms)
@@ -89,7 +90,7 @@ module _ (m : Text) (t : Syntax) (h : Answers m (accepted t)) where
     inside = λ i l.
         let k : i < length (places m (length m)) = rw (length-map (places m (length m)) (namePlace m)) at l in
         let p = getD (places m (length m)) i 0 in
-        let f = name-fits m p (omega (arith, name-inside m p (begins-at m t (h .1) i (omega (arith, names-many m t (h .1)))))) in
+        let f = name-fits m p (omega (arith, name-inside m p (begins-at m t h i (omega (arith, names-many m t h))))) in
         rw (place-in i k) (f, omega (arith, f, short));
   }
 
@@ -248,7 +249,7 @@ module _ (m : Text) (x : Reading) (e : x ≡ reading m) where
     unfolding answerBy
     read-answer = by-answer (λ y. y .outcome ≡ Read → answerBy m (y .names) (y .rule) c ≡ deskAnswer m c)
         (λ f p k o. let z : _≡_ {A = ℕ} 0 1 = cc in absurd (omega arith))
-        (λ t k o. rw (k, rule-type (modelOf t), parts-are m t ((rw k at (answered m)) .1)))
+        (λ t k o. rw (k, rule-type (modelOf t), names-are m t (rw k at (answered m))))
 
     pub read-refused : (f : ModelFault) (p : ℕ) → x .outcome ≡ Unread f p → modelNumber f ≡ deskAnswer m c
     read-refused = by-answer (λ y. (f : ModelFault) (p : ℕ) → y .outcome ≡ Unread f p → modelNumber f ≡ deskAnswer m c)

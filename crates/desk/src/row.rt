@@ -3,7 +3,6 @@
 ghost use mathlib.Core.Path.{_≡_};
 ghost use Prim.Native.Nat.{_≤_, _<_, min};
 ghost use lib.ListN.{length, set};
-ghost use Rattle.judge.specs.Bytes.{isLetter, isInner};
 ghost use Rattle.judge.specs.Limits.{maxRow};
 ghost use Rattle.fields.specs.Split.{tab, split};
 ghost use Rattle.desk.specs.Desk.{maxChildrenText};
@@ -18,24 +17,14 @@ use fields::children::MAX_ROW;
 use fields::fault::CueFault;
 use fields::split::TAB;
 use judge::rule::MAX_ATOMS;
+use judge::text::is_inner;
+use judge::text::is_letter;
 
 // Where a child ends, the hash of its bytes, and whether it is a name of 1 to 32 characters.
 pub struct Child {
     pub end: usize,
     pub hash: usize,
     pub named: bool,
-}
-
-fn is_letter(b: u8) -> bool
-    ensures { λ r. ⌜ r ≡ isLetter b ⌝ }
-{
-    (b'a' <= b) & (b <= b'z')
-}
-
-fn is_inner(b: u8) -> bool
-    ensures { λ r. ⌜ r ≡ isInner b ⌝ }
-{
-    is_letter(b) | ((b'0' <= b) & (b <= b'9')) | (b == b'-')
 }
 
 // The child from `at` to `end`, where `inner` says whether its bytes are those of a name.

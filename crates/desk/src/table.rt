@@ -7,10 +7,10 @@ ghost use lib.ListN.{length, replicate, take};
 ghost use Rattle.judge.specs.Limits.{maxAtoms};
 ghost use Rattle.judge.specs.Syntax.{numberIn};
 ghost use Rattle.desk.specs.Table.{spotOf, spotParts, Spots, hashOf, mixed, slots, Table};
-use fields::split::same_text;
 use judge::rule::MAX_ATOMS;
 use judge::text::NamePlace;
 use judge::text::Names;
+use judge::text::same_bytes;
 
 pub const SLOTS: usize = 128;
 
@@ -102,7 +102,7 @@ pub fn find(
         let i = k - 1;
         let start = start_of(spots[i]);
         let end = start + len_of(spots[i]);
-        if same_text(&model[start..end], name) {
+        if same_bytes(&model[start..end], name) {
             return k as u16;
         }
         k = wide(next[i]);

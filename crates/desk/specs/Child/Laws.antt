@@ -24,7 +24,8 @@ use Rattle.judge.specs.Fault.{nameAt, nameFrom, tally, modelNumber, Answer, Ans
 use Rattle.judge.specs.Fault.Answered.{answer, answered, name-inside}
 use Rattle.judge.specs.Fault.Ties.{places}
 use Rattle.judge.specs.Accept.Starts.{name-at}
-use Rattle.judge.specs.Reading.{noPlace, namesOf, readingBy, reading, partsOf, sameText as sameRead, numberFrom as readFrom, numberIn as numberRead}
+use Rattle.judge.specs.Reading.{noPlace, namesOf, readingBy, reading, partsOf}
+use Rattle.judge.specs.Reading.Laws.{names-are}
 use Rattle.judge.specs.Reading.Search.{name-fits}
 use Rattle.judge.specs.Limits.{maxRow}
 use Rattle.fields.specs.declared.fault.CueFault.{CueFault}
@@ -38,7 +39,7 @@ use Rattle.desk.specs.declared.child.Located.{Located}
 use Rattle.desk.specs.declared.child.Located.the-variants.{InModel, InChildren, NoModel, NoChildren}
 use Rattle.desk.specs.Desk.{childrenIn, maxChildrenText, child, Reply, noModel, noChildren, good, replyNumber, childrenBy}
 use Rattle.desk.specs.Desk.Laws.{replies-exactly}
-use Rattle.desk.specs.Names.{names-many, begins-at, name-is, parts-are}
+use Rattle.desk.specs.Names.{names-many, begins-at, name-is}
 use Rattle.desk.specs.Sound.{kidsBy, place-in, children-some}
 use Rattle.desk.specs.Child.{Part, ofModel, ofChildren, childName, startIn, Stands, Finds, partBy, partIn, found, childRefusal, partOf, childPart, located}
 
@@ -60,17 +61,6 @@ number-none k (u ∷ ns) x zero e l d = let s : sameText u x ≡ true = same-tex
 number-none k (u ∷ ns) x (suc i) e l d =
     by-test (sameText u x) (λ s. let z : suc k ≡ 0 = rw s at e in omega arith) (λ s. number-none (suc k) ns x i (rw s at e) (omega arith) d)
 
--- the reader's own test and look-up say the same
-same-read : (x y : Text) → sameRead x y ≡ sameText x y
-same-read [] [] = refl
-same-read [] (c ∷ y) = refl
-same-read (b ∷ x) [] = refl
-same-read (b ∷ x) (c ∷ y) = rw (same-read x y)
-
-number-read : (k : ℕ) (ns : List Text) (x : Text) → readFrom k ns x ≡ numberFrom k ns x
-number-read k [] x = refl
-number-read k (u ∷ ns) x = rw (same-read u x, number-read (suc k) ns x)
-
 -- the function and what it means agree
 module _ (m c : Text) (k : ℕ) (t : Syntax) (h : Answers m (accepted t)) where
   name-here : (n : ℕ) → numberIn (names t) (childName c k) ≡ suc n
@@ -79,7 +69,7 @@ module _ (m c : Text) (k : ℕ) (t : Syntax) (h : Answers m (accepted t)) where
       let f = number-found 0 (names t) (childName c k) n e in
       let l : n < length (names t) = omega (arith, f .1) in
       let z : n - 0 ≡ n = omega arith in
-      (l, begins-at m t (h .1) n l, name-is m t (h .1) n l ∙ ap (λ j. getD (names t) j []) (sym z) ∙ f .2)
+      (l, begins-at m t h n l, name-is m t h n l ∙ ap (λ j. getD (names t) j []) (sym z) ∙ f .2)
 
   stands-by : (n : ℕ) → numberIn (names t) (childName c k) ≡ n → Stands m c k t (partBy m c k n)
   stands-by zero e = (e, refl, refl)
@@ -247,7 +237,7 @@ located-some ns zero at len o = absurd (o refl)
 located-some ns (suc n) at len o = let z : suc n - 1 ≡ n = omega arith in rw z
 
 abbrev locatedBy : Text → Names → Text → ℕ → Children → Located
-locatedBy m ns c k (Count n) = locatedIn ns (numberRead (partsOf m ns) (childName c k)) (startIn (childrenIn c) (k - 1)) (length (childName c k))
+locatedBy m ns c k (Count n) = locatedIn ns (numberIn (partsOf m ns) (childName c k)) (startIn (childrenIn c) (k - 1)) (length (childName c k))
 locatedBy m ns c k (Refused f) = NoChildren f
 
 unfoldable pub locatedRead : Text → Names → Text → ℕ → Located
@@ -258,7 +248,7 @@ module _ (m : Text) (ns : Names) (c : Text) (k : ℕ) where
   unfolding locatedRead
   read-missing f e = rw e
 
-  pub read-there : (n number at len : ℕ) (name : Text) → askedOf c k ≡ Count n → number ≡ numberRead (partsOf m ns) name → name ≡ getD (split tab c) (k - 1) []
+  pub read-there : (n number at len : ℕ) (name : Text) → askedOf c k ≡ Count n → number ≡ numberIn (partsOf m ns) name → name ≡ getD (split tab c) (k - 1) []
       → at ≡ startIn (split tab c) (k - 1) → len ≡ length (getD (split tab c) (k - 1) []) → locatedIn ns number at len ≡ locatedRead m ns c k
   unfolding locatedRead
   read-there n number at len name e p d q l =
@@ -266,9 +256,9 @@ module _ (m : Text) (ns : Names) (c : Text) (k : ℕ) where
       rw (e, s, p, q, l, d)
 
 -- no number is above the names
-pub read-below : (k : ℕ) (ns : List Text) (x : Text) → readFrom (suc k) ns x ≤ k + length ns
+pub read-below : (k : ℕ) (ns : List Text) (x : Text) → numberFrom (suc k) ns x ≤ k + length ns
 read-below k [] x = omega arith
-read-below k (u ∷ ns) x = by-test (sameRead u x) (λ e. rw e (omega arith)) (λ e. rw e (omega (arith, read-below (suc k) ns x)))
+read-below k (u ∷ ns) x = by-test (sameText u x) (λ e. rw e (omega arith)) (λ e. rw e (omega (arith, read-below (suc k) ns x)))
 
 -- what the code finds is what is meant
 module _ (m c : Text) (k : ℕ) where
@@ -281,11 +271,11 @@ module _ (m c : Text) (k : ℕ) where
       by-number zero d = refl
       by-number (suc n) d =
           let f = name-here m c k t h n d in
-          let p = place-in m t h n (omega (arith, f .0, names-many m t (h .1))) in
+          let p = place-in m t h n (omega (arith, f .0, names-many m t h)) in
           rw (p, f .2)
 
       go : (x : Children) → locatedBy m (namesOf m) c k x ≡ located (kidsBy x (partIn m c k t))
-      go (Count n) = rw (parts-are m t (h .1), number-read 1 (names t) (childName c k)) (by-number (numberIn (names t) (childName c k)) refl)
+      go (Count n) = rw (names-are m t h) (by-number (numberIn (names t) (childName c k)) refl)
       go (Refused f) = refl
 
   module _ (x : Reading) (e : x ≡ reading m) where

@@ -13,7 +13,7 @@ use Rattle.desk.proofs.table.find.Lts as lts
 use Rattle.desk.proofs.table.len_of.Reads as len-of-reads
 use Rattle.desk.proofs.table.start_of.Reads as start-of-reads
 use Rattle.desk.proofs.table.wide.Reads as wide-reads
-use Rattle.fields.proofs.split.same_text.Reads as same-text-reads
+use Rattle.judge.proofs.text.same_bytes.Reads as same-bytes-reads
 
 abbrev Inv-loop : tie.InvT-loop
 Inv-loop model spots n heads next name hash k₀ k = Stands (spotParts model spots n) name k
@@ -56,17 +56,17 @@ len-of-requires c κs = tt
 add-end : tie.Need-add-end Inv-loop μ-loop
 add-end c = let s = c .before .before .before .before .before .before .before .before .before .before in let a = s .args in omega (arith, spot-within (a .model .now) (a .spots .now) (a .n) (s .pre .0) (c .before .before .before .before .before .loop .k - 1) (c .before .before .start-of .result) (c .len-of .result) (stands-at (a .model .now) (a .spots .now) (a .n) (s .pre .0) (a .name .now) (c .before .before .before .before .before .loop .k) (c .before .before .before .before .before .loop .inv) (c .before .before .before .before .loop-test .taken)) (c .before .before .start-of .ensures) (c .len-of .ensures))
 
-sub-same-text : tie.Need-sub-same-text Inv-loop μ-loop
-sub-same-text c = omega arith
+sub-same-bytes : tie.Need-sub-same-bytes Inv-loop μ-loop
+sub-same-bytes c = omega arith
 
-part-same-text-start : tie.Need-part-same-text-start Inv-loop μ-loop
-part-same-text-start c = search needs
+part-same-bytes-start : tie.Need-part-same-bytes-start Inv-loop μ-loop
+part-same-bytes-start c = search needs
 
-part-same-text-end : tie.Need-part-same-text-end Inv-loop μ-loop
-part-same-text-end c = let s = c .before .before .before .before .before .before .before .before .before .before in let a = s .args in spot-within (a .model .now) (a .spots .now) (a .n) (s .pre .0) (c .before .before .before .before .before .loop .k - 1) (c .before .before .start-of .result) (c .len-of .result) (stands-at (a .model .now) (a .spots .now) (a .n) (s .pre .0) (a .name .now) (c .before .before .before .before .before .loop .k) (c .before .before .before .before .before .loop .inv) (c .before .before .before .before .loop-test .taken)) (c .before .before .start-of .ensures) (c .len-of .ensures)
+part-same-bytes-end : tie.Need-part-same-bytes-end Inv-loop μ-loop
+part-same-bytes-end c = let s = c .before .before .before .before .before .before .before .before .before .before in let a = s .args in spot-within (a .model .now) (a .spots .now) (a .n) (s .pre .0) (c .before .before .before .before .before .loop .k - 1) (c .before .before .start-of .result) (c .len-of .result) (stands-at (a .model .now) (a .spots .now) (a .n) (s .pre .0) (a .name .now) (c .before .before .before .before .before .loop .k) (c .before .before .before .before .before .loop .inv) (c .before .before .before .before .loop-test .taken)) (c .before .before .start-of .ensures) (c .len-of .ensures)
 
-same-text-requires : tie.Need-same-text-requires Inv-loop μ-loop
-same-text-requires c κs = tt
+same-bytes-requires : tie.Need-same-bytes-requires Inv-loop μ-loop
+same-bytes-requires c κs = tt
 
 cast-result : tie.Need-cast-result Inv-loop μ-loop
 cast-result c = let s = c .before .before .before .before .before .before .before .before .before .before .before .before .before in let a = s .args in omega (arith, stands-at (a .model .now) (a .spots .now) (a .n) (s .pre .0) (a .name .now) (c .before .before .before .before .before .before .before .before .loop .k) (c .before .before .before .before .before .before .before .before .loop .inv) (c .before .before .before .before .before .before .before .loop-test .taken), s .pre .0 .few)
@@ -76,7 +76,7 @@ returns c = let s = c .before .before .before .before .before .before .before .b
     let l = stands-at (a .model .now) (a .spots .now) (a .n) (s .pre .0) (a .name .now) (c .before .before .before .before .before .before .before .before .loop .k) (c .before .before .before .before .before .before .before .before .loop .inv) (c .before .before .before .before .before .before .before .loop-test .taken) in
     let e = spot-named (a .model .now) (a .spots .now) (a .n) (s .pre .0) (c .before .before .before .before .before .before .before .before .loop .k - 1) (c .before .before .before .before .before .start-of .result) (c .before .before .before .len-of .result) l (c .before .before .before .before .before .start-of .ensures) (c .before .before .before .len-of .ensures) in
     walk-finds (spotParts (a .model .now) (a .spots .now) (a .n)) (a .heads .now) (a .next .now) (s .pre .1 .0) (a .name .now) (spots-few (a .model .now) (a .spots .now) (a .n) (s .pre .0)) (c .before .before .before .before .before .before .before .before .loop .k) (c .before .before .before .before .before .before .before .before .loop .inv) (c .before .before .before .before .before .before .before .loop-test .taken)
-    (sym (ap (λ y. sameText y (a .name .now)) e) ∙ sym (c .before .same-text .ensures) ∙ c .if1 .taken)
+    (sym (ap (λ y. sameText y (a .name .now)) e) ∙ sym (c .before .same-bytes .ensures) ∙ c .if1 .taken)
 
 element-copy-out-wide-2 : tie.Need-element-copy-out-wide-2 Inv-loop μ-loop
 element-copy-out-wide-2 c = let s = c .before .before .before .before .before .before .before .before .before .before .before .before .before in let a = s .args in omega (arith, stands-at (a .model .now) (a .spots .now) (a .n) (s .pre .0) (a .name .now) (c .before .before .before .before .before .before .before .before .loop .k) (c .before .before .before .before .before .before .before .before .loop .inv) (c .before .before .before .before .before .before .before .loop-test .taken), s .pre .0 .few)
@@ -89,7 +89,7 @@ loop-less c = let s = c .before .before .before .before .before .before .before 
     let l = stands-at (a .model .now) (a .spots .now) (a .n) (s .pre .0) (a .name .now) (c .before .before .before .before .before .before .before .before .before .before .loop .k) (c .before .before .before .before .before .before .before .before .before .before .loop .inv) (c .before .before .before .before .before .before .before .before .before .loop-test .taken) in
     let e = spot-named (a .model .now) (a .spots .now) (a .n) (s .pre .0) (c .before .before .before .before .before .before .before .before .before .before .loop .k - 1) (c .before .before .before .before .before .before .before .start-of .result) (c .before .before .before .before .before .len-of .result) l (c .before .before .before .before .before .before .before .start-of .ensures) (c .before .before .before .before .before .len-of .ensures) in
     let w = walk-goes (spotParts (a .model .now) (a .spots .now) (a .n)) (a .heads .now) (a .next .now) (s .pre .1 .0) (a .name .now) (spots-few (a .model .now) (a .spots .now) (a .n) (s .pre .0)) (c .before .before .before .before .before .before .before .before .before .before .loop .k) (c .before .before .before .before .before .before .before .before .before .before .loop .inv) (c .before .before .before .before .before .before .before .before .before .loop-test .taken)
-    (sym (ap (λ y. sameText y (a .name .now)) e) ∙ sym (c .before .before .before .same-text .ensures) ∙ c .before .before .if1 .left) in
+    (sym (ap (λ y. sameText y (a .name .now)) e) ∙ sym (c .before .before .before .same-bytes .ensures) ∙ c .before .before .if1 .left) in
     subst (λ k. ahead k < ahead (c .before .before .before .before .before .before .before .before .before .before .loop .k)) (sym (c .wide2 .ensures)) (w .1)
 
 loop-again : tie.Need-loop-again Inv-loop μ-loop
@@ -97,7 +97,7 @@ loop-again c = let s = c .before .before .before .before .before .before .before
     let l = stands-at (a .model .now) (a .spots .now) (a .n) (s .pre .0) (a .name .now) (c .before .before .before .before .before .before .before .before .before .before .loop .k) (c .before .before .before .before .before .before .before .before .before .before .loop .inv) (c .before .before .before .before .before .before .before .before .before .loop-test .taken) in
     let e = spot-named (a .model .now) (a .spots .now) (a .n) (s .pre .0) (c .before .before .before .before .before .before .before .before .before .before .loop .k - 1) (c .before .before .before .before .before .before .before .start-of .result) (c .before .before .before .before .before .len-of .result) l (c .before .before .before .before .before .before .before .start-of .ensures) (c .before .before .before .before .before .len-of .ensures) in
     let w = walk-goes (spotParts (a .model .now) (a .spots .now) (a .n)) (a .heads .now) (a .next .now) (s .pre .1 .0) (a .name .now) (spots-few (a .model .now) (a .spots .now) (a .n) (s .pre .0)) (c .before .before .before .before .before .before .before .before .before .before .loop .k) (c .before .before .before .before .before .before .before .before .before .before .loop .inv) (c .before .before .before .before .before .before .before .before .before .loop-test .taken)
-    (sym (ap (λ y. sameText y (a .name .now)) e) ∙ sym (c .before .before .before .same-text .ensures) ∙ c .before .before .if1 .left) in
+    (sym (ap (λ y. sameText y (a .name .now)) e) ∙ sym (c .before .before .before .same-bytes .ensures) ∙ c .before .before .if1 .left) in
     subst (λ k. Stands (spotParts (a .model .now) (a .spots .now) (a .n)) (a .name .now) k) (sym (c .wide2 .ensures)) (w .0)
 
 returns-2 : tie.Need-returns-2 Inv-loop μ-loop
@@ -120,10 +120,10 @@ find-spec =
     element-copy-out-len-of
     len-of-requires
     add-end
-    sub-same-text
-    part-same-text-start
-    part-same-text-end
-    same-text-requires
+    sub-same-bytes
+    part-same-bytes-start
+    part-same-bytes-end
+    same-bytes-requires
     cast-result
     returns
     element-copy-out-wide-2
