@@ -1,6 +1,7 @@
 -- A sheet: document 01, "Files" and refusals 20 to 25. Size and last line come first, then the lines in order, in each the rest by number, then the
 -- model's own.
 pub mod Laws
+pub mod Walk
 use mathlib.Core.Bool.{Bool, true, false, cond, not, _||_}
 use mathlib.Core.Option.{Option, none, some}
 use mathlib.Core.List.{List, [], _∷_, _++_, map}

@@ -8,6 +8,7 @@ use native.Mathlib.Omega.{arith}
 use native.Mathlib.Numerals.{add-one}
 use lib.Dec.{leb, ltb, eqb, eqb·suc-zero}
 use lib.ListN.{length, take, drop, getD, replicate, set, length-take, length-drop}
+use lib.Seq.{take-nil, drop-nil, take-take, drop-drop}
 use borrow.Author.Tests.{ltb-true, ltb-false, lt-ltb, le-ltb, eqb-true, eq-eqb, ne-eqb, not-true, not-false}
 use Rattle.judge.specs.Tests.{by-test}
 use Rattle.judge.specs.declared.text.NamePlace.{NamePlace}
@@ -20,14 +21,14 @@ use Rattle.judge.specs.Bytes.Laws.{same-text}
 use Rattle.judge.specs.Syntax.{numberFrom, numberIn}
 use Rattle.judge.specs.Fault.{Answer, refused, accepted}
 use Rattle.judge.specs.Fault.Answered.{answer}
-use Rattle.judge.specs.Reading.{noPlace, namesWith, readingBy, reading, partsOf}
+use Rattle.judge.specs.Reading.{noPlace, namesWith, readingBy, reading, partAt, partsOf}
 use Rattle.fields.specs.declared.split.Heads.{Heads}
-use Rattle.fields.specs.Split.{tab, split, fields, field, part}
+use Rattle.fields.specs.Split.{tab, split, lines, behind, fields, field, part}
 use Rattle.fields.specs.Split.Laws.{split-count}
 use Rattle.fields.specs.Heads.{headsOf, fields-three, Three, more-none}
 use Rattle.fields.specs.Children.{shortName}
 use Rattle.sheet.specs.declared.sheet.SheetFault.{SheetFault}
-use Rattle.sheet.specs.declared.sheet.SheetFault.the-variants.{BadFields, NoKind, Repeated, Model}
+use Rattle.sheet.specs.declared.sheet.SheetFault.the-variants.{LongFile, Unended, BadFields, NoKind, Repeated, Model}
 use Rattle.sheet.specs.declared.sheet.Checked.{Checked}
 use Rattle.sheet.specs.declared.sheet.Checked.the-variants.{Good, Bad}
 use Rattle.sheet.specs.declared.sheet.LineRead.{LineRead}
@@ -35,8 +36,9 @@ use Rattle.sheet.specs.declared.sheet.SheetOutcome.the-variants.{Read, R
 use Rattle.sheet.specs.declared.sheet.Entry.{Entry}
 use Rattle.sheet.specs.declared.sheet.Sheet.{Sheet}
 use Rattle.sheet.specs.declared.sheet.SheetRead.{SheetRead}
+use Rattle.sheet.specs.Cues.{maxFile}
 use Rattle.sheet.specs.Listing.Laws.{enough}
-use Rattle.sheet.specs.Sheet.{maxRules, kind, model, among, modelFault, lineFault, Placed, kindPlace, entryOf, noEntry, sheetWith, sheetBy}
+use Rattle.sheet.specs.Sheet.{maxRules, kind, model, among, modelFault, lineFault, Placed, kindPlace, entryOf, noEntry, sheetLines, sheetWith, sheetBy, sheetRead}
 
 -- what is wrong with a line, its model left aside
 abbrev pub lineChecked : List Text → Text → Checked
@@ -198,3 +200,47 @@ module _ (x : Text) (kinds : Names) (at end : ℕ) (r : LineRead) where
 
 pub third-model : (ks : List Text) (l : Text) (h : Heads) → h ≡ headsOf l → lineChecked ks l ≡ Good → model l ≡ part l (h .second + 1) (h .third)
 third-model ks l h e g = good-three ks l h e g .third-is
+
+-- a line in which nothing is wrong passed its check
+pub checked-line : (ks : List Text) (l : Text) → checkedBy (lineFault ks l) ≡ Good → lineChecked ks l ≡ Good
+checked-line ks l e = go (lineChecked ks l) refl
+  where
+    go : (c : Checked) → lineChecked ks l ≡ c → c ≡ Good
+    go Good q = refl
+    go (Bad f) q = let z = sym (line-bad ks l f q) ∙ e in let y : _≡_ {A = ℕ} 0 1 = cc z in absurd (omega arith)
+
+drop-taken : (a m : ℕ) (y : Text) → drop a (take m y) ≡ take (m - a) (drop a y)
+drop-taken zero m y = let e : m ≡ m - 0 = omega arith in ap (λ k. take k y) e
+drop-taken (suc a) zero y = let e : 0 - suc a ≡ 0 = omega arith in rw (e, drop-nil {A = ℕ} (suc a))
+drop-taken (suc a) (suc m) [] = rw (take-nil (suc m - suc a))
+drop-taken (suc a) (suc m) (b ∷ y) = let e : suc m - suc a ≡ m - a = omega arith in rw e (drop-taken a m y)
+
+-- a part of a part
+part-part : (x : Text) (at end a b : ℕ) → b ≤ end - at → part (part x at end) a b ≡ take (b - a) (drop (at + a) x)
+part-part x at end a b h =
+    ap (take (b - a)) (drop-taken a (end - at) (drop at x))
+    ∙ take-take (b - a) ((end - at) - a) (drop a (drop at x)) (omega arith)
+    ∙ ap (take (b - a)) (drop-drop a at x)
+
+-- the kind stands at its place
+pub line-kind-is : (x : Text) (at end : ℕ) → at ≤ end → end ≤ length x → (ks : List Text) → checkedBy (lineFault ks (part x at end)) ≡ Good
+    → partAt x (kindPlace (record { start = at; line = part x at end })) ≡ kind (part x at end)
+line-kind-is x at end o h ks e =
+    let l = part x at end in
+    let g = checked-line ks l e in
+    let s = line-sizes ks l (headsOf l) refl g in
+    let t = good-three ks l (headsOf l) refl g in
+    let z = part-size x at end h in
+    let k : length (kind l) ≡ headsOf l .second - (headsOf l .first + 1) = ap length (t .second-is) ∙ part-size l (headsOf l .first + 1) (headsOf l .second) (omega arith) in
+    let a : at + 5 ≡ at + (headsOf l .first + 1) = omega arith in
+    rw (k, a) (sym (t .second-is ∙ part-part x at end (headsOf l .first + 1) (headsOf l .second) (omega arith)))
+
+module _ (x : Text) where
+  pub sheet-long : maxFile < length x → sheetBy [] (Refused LongFile 0) ≡ sheetRead x
+  sheet-long h = rw (lt-ltb maxFile (length x) h)
+
+  pub sheet-unended : length x ≤ maxFile → sameText (behind x) [] ≡ false → sheetBy [] (Refused Unended 0) ≡ sheetRead x
+  sheet-unended h e = rw (le-ltb maxFile (length x) h, e)
+
+  pub sheet-begin : length x ≤ maxFile → sameText (behind x) [] ≡ true → sheetBy x (sheetLines 0 [] (lines x)) ≡ sheetRead x
+  sheet-begin h e = rw (le-ltb maxFile (length x) h, e)
