@@ -7,3 +7,4 @@ pub mod Sheet
 pub mod Number
 pub mod Put
 pub mod Listing
+pub mod Coded
