@@ -10,7 +10,7 @@ use native.Mathlib.Numerals.{add-one}
 use lib.Dec.{T, eqb, ltb, leb}
 use lib.ListN.{length, take, drop, getD, set, length-append, length-map, length-take, length-drop, drop-of-length-le}
 use lib.Seq.{take-at, drop-at, take-all, take-add, drop-cons, drop-drop, drop-length, take-length, getD-set-same, getD-set-other}
-use borrow.Author.Tests.{eqb-true, eqb-false, le-leb, lt-ltb, ltb-true, ltb-false}
+use borrow.Author.Tests.{eqb-true, eqb-false, le-leb, lt-leb, lt-ltb, ltb-true, ltb-false}
 use Rattle.judge.specs.Tests.{by-test}
 use Rattle.judge.specs.declared.text.NamePlace.{NamePlace}
 use Rattle.judge.specs.Bytes.{Text, sameText}
@@ -33,15 +33,20 @@ use Rattle.sheet.specs.declared.line.Said.{Said}
 use Rattle.sheet.specs.declared.line.Said.the-variants.{Complete, Open, Dead, NoSheet}
 use Rattle.sheet.specs.declared.sheet.Entry.{Entry}
 use Rattle.sheet.specs.declared.sheet.Sheet.{Sheet}
-use Rattle.sheet.specs.Cues.{children}
-use Rattle.sheet.specs.Sheet.{kind, model}
+use Rattle.sheet.specs.Cues.{children, cuesRead}
+use Rattle.sheet.specs.Sheet.{kind, model, sheetOutcome, sheetBy, sheetRead}
 use Rattle.sheet.specs.Sheet.Walk.{EntryGood, Loaded}
-use Rattle.sheet.specs.Listing.{listingLine, listingBy, saidBy, saidOf, said}
+use Rattle.sheet.specs.declared.sheet.SheetFault.{SheetFault}
+use Rattle.sheet.specs.declared.sheet.SheetOutcome.{SheetOutcome}
+use Rattle.sheet.specs.declared.sheet.SheetOutcome.the-variants.{Read, Refused as SheetIsRefused}
+use Rattle.sheet.specs.declared.cues.CuesRead.the-variants.{Count as CuesCount, Refused as CuesRefused}
+use Rattle.sheet.specs.declared.listing.Listed.the-variants.{Written, SheetRefused, CueRefused, TooLong}
+use Rattle.sheet.specs.Listing.{listingLine, listingBy, saidBy, saidOf, said, listing, listed, bufferAfter}
 use Rattle.sheet.specs.Put.{Put, Fits}
 use Rattle.sheet.specs.Listing.Laws.{enough, line-length, word-short}
 use Rattle.judge.specs.Bytes.Numeral.{digits-length}
 use borrow.Rule.Slice.PartMut.{putMid}
-use Rattle.sheet.specs.Coded.{codeOf, decoded, listingCoded, Ready}
+use Rattle.sheet.specs.Coded.{codeOf, decoded, listingCoded, Ready, Coded}
 
 -- what an entry says of a cue
 module _ (s : Text) (e : Entry) (l : Text) (row : Word) (r : Ready s e l row) (h : Heads) (i : h ≡ headsOf l) where
@@ -58,7 +63,7 @@ module _ (s : Text) (e : Entry) (l : Text) (row : Word) (r : Ready s e l row) (h
     children-are = ready-three .behind-is ∙ rw (lt-ltb (h .third) (length l) k, part-rest l (h .third + 1), add-one)
 
     module _ (m : Text) (y : m ≡ partAt s (e .model)) (o : Children) (n : ℕ) (new : Word) (c : o ≡ childrenOf (split tab (part l (h .third + 1) (length l)))) (d : o ≡ Count n)
-      (q : new ≡ rowAfter o (rowOf (partsOf m (e .names)) (split tab (part l (h .third + 1) (length l)))) row) where
+        (q : new ≡ rowAfter o (rowOf (partsOf m (e .names)) (split tab (part l (h .third + 1) (length l)))) row) where
       numbers : Word
       numbers = rowOf (partsOf m (e .names)) (split tab (part l (h .third + 1) (length l)))
 
@@ -177,7 +182,7 @@ number-bound j (k ∷ ks) x = by-test (sameText k x) (λ e. rw e (omega arith)) 
 
 -- what the sheet says of a cue line, by the number of its kind
 module _ (s : Text) (rules : Sheet) (w : Loaded s rules) (l : Text) (h : Heads) (t : Three l h) (k : ℕ)
-  (e : k ≡ numberIn (partsOf s (rules .kinds)) (part l (h .second + 1) (h .third))) where
+    (e : k ≡ numberIn (partsOf s (rules .kinds)) (part l (h .second + 1) (h .third))) where
   number-is : k ≡ numberIn (map kind (lines s)) (field 2 l)
   number-is = e ∙ ap₂ numberIn (w .kinds-are) (sym (t .third-is))
 
@@ -205,7 +210,7 @@ module _ (s : Text) (rules : Sheet) (w : Loaded s rules) (l : Text) (h : Heads) 
         names-are = g .names-are ∙ ap (λ m. reading m .names) (sym (g .model-is));
         fits = f;
         named = a;
-        room = r
+        room = r;
       }
 
 -- one byte more
@@ -215,3 +220,40 @@ coded-set f ls vs n v o h e i k =
     by-cases (decLt i n)
     (λ q. rw (getD-set-other vs n i v 0 (λ y. omega (arith, y))) (h i q))
     (λ q. let y : i ≡ n = omega arith in rw (y, getD-set-same vs n v 0 o) e)
+
+-- what the listing is answered
+module _ (s c : Text) (room : ℕ) where
+  outcome-is : sheetRead s .outcome ≡ sheetOutcome s
+  outcome-is = go (sheetOutcome s)
+    where
+      go : (o : SheetOutcome) → sheetBy s o .outcome ≡ o
+      go Read = refl
+      go (SheetIsRefused f n) = refl
+
+  pub listed-sheet : (f : SheetFault) (n : ℕ) → sheetRead s .outcome ≡ SheetIsRefused f n → SheetRefused f n ≡ listed s c room
+  listed-sheet f n e = let k : sheetOutcome s ≡ SheetIsRefused f n = sym outcome-is ∙ e in rw k
+
+  module _ (e : sheetRead s .outcome ≡ Read) where
+    sheet-good : sheetOutcome s ≡ Read
+    sheet-good = sym outcome-is ∙ e
+
+    pub listed-cues : (f : CueFault) (n : ℕ) → cuesRead c ≡ CuesRefused f n → CueRefused f n ≡ listed s c room
+    listed-cues f n k = rw (sheet-good, k)
+
+    module _ (m : ℕ) (k : cuesRead c ≡ CuesCount m) (codes : List ℕ) (v : Coded s c codes) (total : ℕ) (t : total ≡ length (listingCoded codes 0 (lines c))) where
+      pub coded-listing : listingCoded codes 0 (lines c) ≡ listing s c
+      coded-listing = coded-from (said (lines s)) codes 0 (lines c) (λ i h. let z : 0 + i ≡ i = omega arith in ap (λ j. getD codes j 0) z ∙ v i h)
+
+      total-is : total ≡ length (listing s c)
+      total-is = t ∙ ap length coded-listing
+
+      pub listed-long : room < total → TooLong ≡ listed s c room
+      listed-long h = rw (sheet-good, k, lt-leb (length (listing s c)) room (omega (arith, total-is)))
+
+      pub listed-written : total ≤ room → Written total ≡ listed s c room
+      listed-written h = rw (sheet-good, k, le-leb (length (listing s c)) room (omega (arith, total-is)), total-is)
+
+      pub buffer-written : (old new : Text) → Put old new 0 (listingCoded codes 0 (lines c)) (length (listingCoded codes 0 (lines c))) → new ≡ bufferAfter (Written total) (listing s c) old
+      buffer-written old new p =
+          let z : 0 + length (listingCoded codes 0 (lines c)) ≡ total = omega (arith, t) in
+          p .text-is ∙ ap₂ (λ w j. w ++ drop j old) coded-listing z

@@ -163,8 +163,8 @@ module _ (x : Text) (kinds : Names) (entries : List Entry) (n at : ℕ) (w : Gon
             entries-are = ap₂ (λ l k. set l n k) (w .entries-are) (i .entry-is g ∙ ap entryOf (sym at-n)) ∙ fill-turn entryOf noEntry ps 64 n (record { start = 0; line = [] }) o inside;
             ahead = rw (add-one n) (tail-eq-of-cons-eq (sym (drop-cons ps n (record { start = 0; line = [] }) inside) ∙ here));
             entries-good = λ k d h. by-cases (decLt k n)
-              (λ o′. rw (getD-set-other entries n k (r .entry) d (λ q. omega (arith, q))) (w .entries-good k d o′))
-              (λ o′. let q : k ≡ n = omega arith in rw (q, getD-set-same entries n (r .entry) d long, v .line-is, i .entry-is g) (entry-good x at end (b .0) (b .1) (partsOf x kinds) (sym (i .checked-is) ∙ g)));
+                (λ o′. rw (getD-set-other entries n k (r .entry) d (λ q. omega (arith, q))) (w .entries-good k d o′))
+                (λ o′. let q : k ≡ n = omega arith in rw (q, getD-set-same entries n (r .entry) d long, v .line-is, i .entry-is g) (entry-good x at end (b .0) (b .1) (partsOf x kinds) (sym (i .checked-is) ∙ g)));
             kinds-are = rw (one-more, map-append, map-append, line-more, w .kinds-are, q);
             answer = w .answer ∙ rw (drop-cons (lines x) n [] (v .counted), lt-leb maxRules n o, v .line-is, z, line-more, add-one);
           }
@@ -175,7 +175,7 @@ module _ (x : Text) (kinds : Names) (entries : List Entry) (n at : ℕ) (w : Gon
       record {
         few = omega (arith, w .few);
         kinds-are = parts-are ∙ ap (map kind) (take-all n (lines x) (omega arith));
-        entries-good = λ k d o. w .entries-good k d (omega arith)
+        entries-good = λ k d o. w .entries-good k d (omega arith);
       }
 
   pub gone-end : length x ≤ at → _≡_ {A = SheetRead} (record { outcome = Read; sheet = record { kinds = kinds; entries = entries } }) (sheetBy x (sheetLines 0 [] (lines x)))

@@ -145,10 +145,17 @@ loop-again c =
     let at-write-line = c .before .before .write-line in
     let at-decode = c .before .before .before .before .before .decode in
     let s = stand-next (at-args .cues .now) (at-loop .n) (at-loop .at) (at-loop .inv .0) (at-part-end .result) (c .before .before .before .before .before .before .before .before .loop-test .taken) (at-part-end .ensures) in
-    let end-is = at-write-line .ensures .end-is in
-    (s .stand, omega (arith, end-bounds (at-args .cues .now) lineFeed (at-loop .at) _ (omega arith) (at-part-end .ensures), at-loop .inv .1), at-loop .inv .2, at-loop .inv .3, at-loop .inv .4, omega (arith, line-fits (at-args .buffer .now) (at-loop .buffer) (listingCoded (at-args .codes .now) 0 (lines (at-args .cues .now))) (listingLine (part (at-args .cues .now) (at-loop .at) (at-part-end .result)) (at-decode .result)) (listingCoded (at-args .codes .now) (at-loop .n + 1) (drop (at-loop .n + 1) (lines (at-args .cues .now)))) (at-loop .written) (at-loop .inv .7) (at-loop .inv .5) (at-loop .inv .4) (at-loop .inv .6 ∙ coded-next (at-args .codes .now) (lines (at-args .cues .now)) (at-loop .n) (part (at-args .cues .now) (at-loop .at) (at-part-end .result)) (s .counted) (s .line-is) ∙ ap (λ v. listingLine (part (at-args .cues .now) (at-loop .at) (at-part-end .result)) v ++ (listingCoded (at-args .codes .now) (at-loop .n + 1) (drop (at-loop .n + 1) (lines (at-args .cues .now))))) (sym (at-decode .ensures))), end-is), ap (λ j. drop (at-loop .written + j) (listingCoded (at-args .codes .now) 0 (lines (at-args .cues .now)))) (end-is ∙ omega arith) ∙ lines-ahead (at-args .buffer .now) (at-loop .buffer) (listingCoded (at-args .codes .now) 0 (lines (at-args .cues .now))) (listingLine (part (at-args .cues .now) (at-loop .at) (at-part-end .result)) (at-decode .result)) (listingCoded (at-args .codes .now) (at-loop .n + 1) (drop (at-loop .n + 1) (lines (at-args .cues .now)))) (at-loop .written) (at-loop .inv .7) (at-loop .inv .5) (at-loop .inv .4) (at-loop .inv .6 ∙ coded-next (at-args .codes .now) (lines (at-args .cues .now)) (at-loop .n) (part (at-args .cues .now) (at-loop .at) (at-part-end .result)) (s .counted) (s .line-is) ∙ ap (λ v. listingLine (part (at-args .cues .now) (at-loop .at) (at-part-end .result)) v ++ (listingCoded (at-args .codes .now) (at-loop .n + 1) (drop (at-loop .n + 1) (lines (at-args .cues .now))))) (sym (at-decode .ensures))),
+    let end-is = at-write-line .ensures .end-is in (
+      s .stand,
+      omega (arith, end-bounds (at-args .cues .now) lineFeed (at-loop .at) _ (omega arith) (at-part-end .ensures), at-loop .inv .1),
+      at-loop .inv .2,
+      at-loop .inv .3,
+      at-loop .inv .4,
+      omega (arith, line-fits (at-args .buffer .now) (at-loop .buffer) (listingCoded (at-args .codes .now) 0 (lines (at-args .cues .now))) (listingLine (part (at-args .cues .now) (at-loop .at) (at-part-end .result)) (at-decode .result)) (listingCoded (at-args .codes .now) (at-loop .n + 1) (drop (at-loop .n + 1) (lines (at-args .cues .now)))) (at-loop .written) (at-loop .inv .7) (at-loop .inv .5) (at-loop .inv .4) (at-loop .inv .6 ∙ coded-next (at-args .codes .now) (lines (at-args .cues .now)) (at-loop .n) (part (at-args .cues .now) (at-loop .at) (at-part-end .result)) (s .counted) (s .line-is) ∙ ap (λ v. listingLine (part (at-args .cues .now) (at-loop .at) (at-part-end .result)) v ++ (listingCoded (at-args .codes .now) (at-loop .n + 1) (drop (at-loop .n + 1) (lines (at-args .cues .now))))) (sym (at-decode .ensures))), end-is),
+      ap (λ j. drop (at-loop .written + j) (listingCoded (at-args .codes .now) 0 (lines (at-args .cues .now)))) (end-is ∙ omega arith) ∙ lines-ahead (at-args .buffer .now) (at-loop .buffer) (listingCoded (at-args .codes .now) 0 (lines (at-args .cues .now))) (listingLine (part (at-args .cues .now) (at-loop .at) (at-part-end .result)) (at-decode .result)) (listingCoded (at-args .codes .now) (at-loop .n + 1) (drop (at-loop .n + 1) (lines (at-args .cues .now)))) (at-loop .written) (at-loop .inv .7) (at-loop .inv .5) (at-loop .inv .4) (at-loop .inv .6 ∙ coded-next (at-args .codes .now) (lines (at-args .cues .now)) (at-loop .n) (part (at-args .cues .now) (at-loop .at) (at-part-end .result)) (s .counted) (s .line-is) ∙ ap (λ v. listingLine (part (at-args .cues .now) (at-loop .at) (at-part-end .result)) v ++ (listingCoded (at-args .codes .now) (at-loop .n + 1) (drop (at-loop .n + 1) (lines (at-args .cues .now))))) (sym (at-decode .ensures))),
       line-put (at-args .buffer .now) (at-loop .buffer) (listingCoded (at-args .codes .now) 0 (lines (at-args .cues .now))) (listingLine (part (at-args .cues .now) (at-loop .at) (at-part-end .result)) (at-decode .result)) (listingCoded (at-args .codes .now) (at-loop .n + 1) (drop (at-loop .n + 1) (lines (at-args .cues .now)))) (at-loop .written) (at-loop .inv .7) (at-loop .inv .5) (at-loop .inv .4) (at-loop .inv .6 ∙ coded-next (at-args .codes .now) (lines (at-args .cues .now)) (at-loop .n) (part (at-args .cues .now) (at-loop .at) (at-part-end .result)) (s .counted) (s .line-is) ∙ ap (λ v. listingLine (part (at-args .cues .now) (at-loop .at) (at-part-end .result)) v ++ (listingCoded (at-args .codes .now) (at-loop .n + 1) (drop (at-loop .n + 1) (lines (at-args .cues .now))))) (sym (at-decode .ensures))) (at-write-line .last .0) (at-write-line .result) (at-write-line .ensures),
-      same-len-mid (at-loop .written) (length (at-loop .buffer) - at-loop .written) (at-loop .buffer) (at-write-line .last .0) (at-write-line .kept .0) ∙ at-loop .inv .8)
+      same-len-mid (at-loop .written) (length (at-loop .buffer) - at-loop .written) (at-loop .buffer) (at-write-line .last .0) (at-write-line .kept .0) ∙ at-loop .inv .8,
+    )
 
 same-length : tie.Need-same-length Inv-loop μ-loop
 same-length c = search needs
