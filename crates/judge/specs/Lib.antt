@@ -5,6 +5,7 @@
 --   Fault, Accept                  what is wrong with a text, the answer to it, and which trees are accepted
 --   Model, Rule                    models, the nodes of a rule, and the type that it means
 --   Judge                          what a row is answered
+--   Book, Session                  what a list of calls is answered, and what each method of a session does
 --   Reading                        what a model text reads into
 --   Starred, Examples              the starred rows of document 01, and texts at the limits
 -- Tests and Stack hold laws that belong to no definition: of tests, and of a stack that grows down in an array.
@@ -21,6 +22,8 @@ pub mod Accept
 pub mod Model
 pub mod Rule
 pub mod Judge
+pub mod Book
+pub mod Session
 pub mod Reading
 pub mod Starred
 pub mod Examples

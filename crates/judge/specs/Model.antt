@@ -4,7 +4,7 @@ pub mod Eval
 pub mod Laws
 pub mod Types
 use mathlib.Core.List.{List, [], _∷_, _++_}
-use Prim.Native.Nat.{ℕ, zero, suc, _+_, _≤_}
+use Prim.Native.Nat.{ℕ, zero, suc, _+_}
 use Rattle.judge.specs.declared.rule.Upper.{Upper}
 use Rattle.judge.specs.declared.rule.Upper.the-variants.{Number, Unbounded}
 use Rattle.judge.specs.declared.rule.Sign.{Sign}
@@ -15,7 +15,7 @@ use Rattle.judge.specs.declared.rule.Kind.the-variants.{Atom, Group}
 use Rattle.judge.specs.declared.rule.Node.{Node as RuleNode}
 use Rattle.judge.specs.Bytes.{value}
 use Rattle.judge.specs.Tree.{Node, leaf, group, Tree, marked, Members, none, _▹_, size, weight, mapTree}
-use Rattle.judge.specs.Syntax.{Count, unwritten, between, onward, Spelling, Syntax}
+use Rattle.judge.specs.Syntax.{Count, unwritten, between, onward, Syntax}
 use Rattle.judge.specs.Types.{Ty, ε, atom, join, Operator, sequence, choice, interleaving}
 
 pub record Counts : Type 0 where

@@ -1,4 +1,9 @@
--- What a model text reads into: the answer, the rule, and the names beside it as places in the text.
+-- What a model text reads into: the answer, the rule, and the names beside it as places in the text. Below it, from bytes up to the whole text:
+--   Lexeme, Count          numbers and counts at a place
+--   Packed, Filled, Buffer what the arrays of the reader hold
+--   Search                 names that were written before, and the look-up of a name
+--   At, Walk, Atom, Group  the automaton's state where the reader stands, and what each byte does to it
+--   Whole, Laws            the whole text; what is known of a reading
 pub mod Lexeme
 pub mod Packed
 pub mod Search
@@ -45,7 +50,7 @@ noPlace = record { start = 0; len = 0 }
 abbrev pub namesWith : List NamePlace → Names
 namesWith l = record { places = l ++ replicate (maxAtoms - length l) noPlace; len = length l }
 
--- the names of a text
+-- the names of a text, at the places (`Fault.Ties.places`) where they begin
 abbrev pub namesOf : Text → Names
 namesOf x = namesWith (map (namePlace x) (places x (length x)))
 
@@ -64,6 +69,6 @@ reading x = readingBy x (answer x)
 abbrev pub partAt : Text → NamePlace → Text
 partAt x p = take (p .len) (drop (p .start) x)
 
--- the parts of a text where names stand
+-- the parts of a text at the first n .len of the 64 places
 abbrev pub partsOf : Text → Names → List Text
 partsOf x n = map (partAt x) (take (n .len) (n .places))

@@ -1,9 +1,10 @@
 -- Rules: which model text reads into which rule, and the type that a rule means.
 pub mod Laws
 pub mod Test
-pub mod Decide
 pub mod Scan
 pub mod Names
+pub mod Decide
+pub mod Numbers
 use mathlib.Core.Path.{_≡_}
 use mathlib.Core.List.{List, [], _∷_, _++_}
 use Prim.Native.Nat.{ℕ, _+_, _-_}

@@ -153,38 +153,6 @@ fn rest_unused(rule: Rule) -> bool
     unused
 }
 
-// Nodes from the last to the first. The depths of the trees that are read stand on a stack that grows down, and a group takes its members from it.
-pub(crate) fn well_formed(rule: Rule) -> bool
-    ensures { λ r. ⌜ r ≡ wellFormed rule ⌝ }
-{
-    let len = rule.len;
-    if MAX_NODES < len {
-        return false;
-    }
-    let mut depths = [0u8; MAX_NODES];
-    let mut top = MAX_NODES;
-    let mut sound = true;
-    let mut atoms: usize = 0;
-    let mut i = len;
-    while 0 < i {
-        i -= 1;
-        let node = rule.nodes[i];
-        let kind = node.kind;
-        let members = members_of(kind);
-        let left = MAX_NODES - top;
-        let end = smaller(members, left) + top;
-        let depth = depth_of(kind, deepest(&depths[top..end]));
-        let fits = kind_fits(kind);
-        sound = (members <= left) & fits & sound;
-        atoms += atoms_of(kind);
-        top = end - 1;
-        depths[top] = depth;
-    }
-    let rest = rest_unused(rule);
-    let shallow = (top == MAX_NODES - 1) & (depths[MAX_NODES - 1] <= MAX_DEPTH);
-    rest & sound & shallow & (atoms <= MAX_ATOMS)
-}
-
 // How many names a rule has: one for each atom among its nodes.
 pub(crate) fn name_count(rule: Rule) -> usize
     ensures { λ r. ⌜ r ≡ names rule ⌝ }
@@ -199,4 +167,35 @@ pub(crate) fn name_count(rule: Rule) -> usize
         found += atoms_of(kind);
     }
     found
+}
+
+// Nodes from the last to the first. The depths of the trees that are read stand on a stack that grows down, and a group takes its members from it.
+pub(crate) fn well_formed(rule: Rule) -> bool
+    ensures { λ r. ⌜ r ≡ wellFormed rule ⌝ }
+{
+    let len = rule.len;
+    if MAX_NODES < len {
+        return false;
+    }
+    let mut depths = [0u8; MAX_NODES];
+    let mut top = MAX_NODES;
+    let mut sound = true;
+    let mut i = len;
+    while 0 < i {
+        i -= 1;
+        let node = rule.nodes[i];
+        let kind = node.kind;
+        let members = members_of(kind);
+        let left = MAX_NODES - top;
+        let end = smaller(members, left) + top;
+        let depth = depth_of(kind, deepest(&depths[top..end]));
+        let fits = kind_fits(kind);
+        sound = (members <= left) & fits & sound;
+        top = end - 1;
+        depths[top] = depth;
+    }
+    let rest = rest_unused(rule);
+    let shallow = (top == MAX_NODES - 1) & (depths[MAX_NODES - 1] <= MAX_DEPTH);
+    let names = name_count(rule);
+    rest & sound & shallow & (names <= MAX_ATOMS)
 }

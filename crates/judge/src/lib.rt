@@ -2,7 +2,9 @@
 
 mod check;
 pub mod fault;
+pub mod nodes;
 pub mod row;
 pub mod rule;
+pub mod session;
 pub mod text;
 pub mod verdict;

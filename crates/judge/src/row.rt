@@ -1,4 +1,4 @@
-// What two passes over a row compute: the first of each name, the second of each node.
+// Judging a row, in two passes: the first tells of each name what the row has of it, the second of each node.
 
 ghost use mathlib.Core.Path.{_≡_};
 ghost use mathlib.Core.Bool.{true, _&&_};
@@ -69,6 +69,7 @@ fn later(a: u16, b: u16) -> u16
     if a < b { b } else { a }
 }
 
+// Of a name that a row of this length lacks.
 fn nothing_seen(length: u16) -> Seen
     ensures { λ r. ⌜ r ≡ unseen length ⌝ }
 {
@@ -91,6 +92,7 @@ fn noted(seen: Seen, i: u16) -> Seen
     }
 }
 
+// The first pass. A number above the names is not counted.
 fn tally_row(row: &[u16], names: usize) -> Tally
     requires { ⌜ (length (now row) ≤ maxRow) × (names ≤ maxAtoms) ⌝ }
     ensures { λ r. ⌜ Tallied names (now (row .entry)) r ⌝ }
@@ -195,6 +197,7 @@ fn pair(sign: Sign, x: Attribute, y: Attribute) -> Attribute
     }
 }
 
+// a[0..n] is a[1..n]?
 fn counted(length: u16, min: u16, max: Upper, seen: Seen) -> Attribute
     ensures { λ r. ⌜ r ≡ countedAttribute length min max seen ⌝ }
 {
@@ -205,6 +208,7 @@ fn counted(length: u16, min: u16, max: Upper, seen: Seen) -> Attribute
     }
 }
 
+// A member with `?` is a choice of nothing and the member.
 fn marked(length: u16, mark: Mark, x: Attribute) -> Attribute
     ensures { λ r. ⌜ r ≡ markedAttribute length mark x ⌝ }
 {
@@ -237,8 +241,9 @@ fn grown(kind: Kind, first: bool, x: Attribute, y: Attribute) -> Attribute
     }
 }
 
-// The attribute of the first node, by what is seen of each name in a row of this length. Nodes from the last to the first: the attributes of the
-// trees that are read stand on a stack that grows down, and a group takes its members from it. Names are counted down with the atoms.
+// The second pass: the attribute of the first node, by what is seen of each name in a row of this length. Nodes from the last to the first: the
+// attributes of the trees that are read stand on a stack that grows down, and a group takes its members from it. Names are counted down with the
+// atoms.
 fn root(rule: Rule, length: u16, seen: [Seen; MAX_ATOMS + 1]) -> Attribute
     requires { ⌜ (rule .len ≤ maxNodes) × (names rule ≤ maxAtoms) ⌝ }
     ensures { λ r. ⌜ r ≡ rootAttribute rule length (λ k. getD seen k (unseen 0)) ⌝ }

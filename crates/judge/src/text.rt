@@ -21,6 +21,7 @@ ghost use Rattle.judge.specs.Reading.Atom.{NameRead, AtomRead};
 ghost use Rattle.judge.specs.Reading.Lexeme.{numeralAt, countAt, onwardAt, betweenAt};
 use crate::fault::ModelFault;
 use crate::rule::Kind;
+use crate::rule::MAX_ATOMS;
 use crate::rule::MAX_NODES;
 use crate::rule::Mark;
 use crate::rule::NameNumber;
@@ -36,8 +37,6 @@ pub const MAX_NAME: usize = 32;
 pub const MAX_COUNT: u32 = 60000;
 
 pub const MAX_DEPTH: usize = 16;
-
-pub const MAX_ATOMS: usize = 64;
 
 // Where a name stands in the text.
 pub struct NamePlace {
@@ -367,8 +366,9 @@ fn mark(text: &[u8], work: &mut [u64; MAX_NODES], c: Cursor, i: usize) -> Cursor
     let at = c.at;
     if stands(text, at, b'?') {
         work[i] = packed_optional(work[i]);
+        let behind = at + 1;
         return Cursor {
-            at: at + 1,
+            at: behind,
             nodes: c.nodes,
             names: c.names,
         };

@@ -2,24 +2,23 @@
 use mathlib.Core.Path.{_≡_, refl, sym, subst, _∙_}
 use mathlib.Core.Logic.{_⊎_, inl, inr, _↔_}
 use mathlib.Core.Bool.{false, _&&_, _||_, or-true, and-false}
-use mathlib.Core.List.{List, [], _∷_, _++_}
+use mathlib.Core.List.{List, [], _∷_}
 use mathlib.Core.Option.{none as nothing, some, Option·none-ne-some}
 use Prim.Native.Nat.{ℕ, suc, _+_, _≤_, _<_}
 use Prim.Native.Char.{code}
 use native.Mathlib.Decide.{ℕ-discrete, decLt}
 use native.Mathlib.Omega.{arith}
-use lib.ListN.{length, take, drop, getD}
-use lib.Seq.{take-add}
+use lib.ListN.{length, take, getD}
 use lib.Dec.{T, eqb, eqb→eq}
 use mir.Facts.{and-yes, yes-and}
 use Rattle.judge.specs.declared.fault.ModelFault.{ModelFault}
 use Rattle.judge.specs.declared.fault.ModelFault.the-variants.{Size, Spelling, LongName, WrongCount, TooDeep, ManyAtoms, ManyNodes, Repeated}
-use Rattle.judge.specs.Bytes.{Text, isLetter, isInner, front}
-use Rattle.judge.specs.Bytes.Laws.{cond-true, T-true, apart, front-take, front-all}
+use Rattle.judge.specs.Bytes.{Text, isLetter}
+use Rattle.judge.specs.Bytes.Laws.{cond-true, T-true, apart}
 use Rattle.judge.specs.Syntax.{Syntax}
 use Rattle.judge.specs.Syntax.Machine.{bare, Frame, opened, low, dot, dots, high, star, expect, naming, counting, after, State, dead, at, Alive, step, run, start, here, result}
-use Rattle.judge.specs.Syntax.Sound.{run-append, sound, alive-begins}
-use Rattle.judge.specs.Syntax.Complete.{name-run, after-parts, complete, begins-alive}
+use Rattle.judge.specs.Syntax.Sound.{sound, alive-begins}
+use Rattle.judge.specs.Syntax.Complete.{after-parts, complete, begins-alive}
 use Rattle.judge.specs.Syntax.Counters.{isExpect, run-take, alive-before, Even, even}
 use Rattle.judge.specs.Limits.{maxText, maxName, maxDepth, maxAtoms, maxNodes}
 use Rattle.judge.specs.Fault.{Misspelt, cannot, short, is, fresh, nameAt, nodeAt, nameFrom, tally, Twice, Fault, modelNumber, Before, refused, accepted, Answers}
@@ -276,10 +275,3 @@ wrong-answers x p z c i e w = found-by x p (OtherFault x p) (other-faults x p z 
     go ManyAtoms l h = h
     go ManyNodes l h = h
     go Repeated l h = h
-
--- over a name the automaton goes on as far as letters, digits and hyphens go
-pub name-on : (x : Text) (p : ℕ) (k : List Frame) (n : Text) → here x p ≡ at k (naming n)
-    → here x (p + length (front isInner (drop p x))) ≡ at k (naming (n ++ front isInner (drop p x)))
-name-on x p k n e =
-    rw (take-add p (length (front isInner (drop p x))) x, front-take isInner (drop p x), run-append start (take p x) (front isInner (drop p x)), e)
-    (name-run k n (front isInner (drop p x)) (front-all isInner (drop p x)))

@@ -1,23 +1,19 @@
 -- Every row has one answer, and `judged` computes it.
-use mathlib.Core.Path.{_≡_, refl, sym, ap, _∙_, subst}
-use mathlib.Core.Logic.{_↔_}
-use mathlib.Core.Bool.{Bool, true, false, cond, _&&_, true≢false, false≢true}
-use mathlib.Core.List.{List, [], _∷_}
-use Prim.Native.Nat.{ℕ, _≤_, _<_}
+use mathlib.Core.Path.{_≡_, refl, sym, ap}
+use mathlib.Core.Bool.{Bool, true, cond, _&&_}
+use mathlib.Core.List.{[], _∷_}
+use Prim.Native.Nat.{ℕ}
 use native.Mathlib.Omega.{arith}
-use lib.Dec.{leb, eqb}
+use lib.Dec.{leb}
 use lib.ListN.{length}
 use Rattle.judge.specs.declared.fault.JudgeFault.the-variants.{NoModel, LongRow, BadTrail, NoName, NoRoom, NoChildren}
 use Rattle.judge.specs.declared.rule.Rule.{Rule}
 use Rattle.judge.specs.declared.verdict.Judged.{Judged}
 use Rattle.judge.specs.declared.verdict.Judged.the-variants.{Verdict, Refused}
-use Rattle.judge.specs.Tests.{by-test, Tells, tells-le, tells-and}
+use Rattle.judge.specs.Tests.{by-test, Tells, untold, fails, tells-le, tells-and}
 use Rattle.judge.specs.Word.{Word}
-use Rattle.judge.specs.Types.{Ty, ε, ConflictFree}
-use Rattle.judge.specs.Verdict.{Says}
 use Rattle.judge.specs.Verdict.Laws.{verdict, verdict-says, verdict-is}
-use Rattle.judge.specs.Rule.{Readable, Means, names}
-use Rattle.judge.specs.Rule.Laws.{means-once}
+use Rattle.judge.specs.Rule.{names}
 use Rattle.judge.specs.Rule.Decide.{readable, readable-is, ruleType, type-means, means-type, means-conflict-free}
 use Rattle.judge.specs.Judge.{Upto, Judges}
 use Rattle.judge.specs.Limits.{maxRow}
@@ -35,13 +31,6 @@ judged r w =
     cond (readable r)
     (cond (leb (length w) maxRow) (cond (upto (names r) w) (Verdict (verdict (ruleType r) w)) (Refused NoName)) (Refused LongRow))
     (Refused NoModel)
-
--- a test that fails tells that P does not hold, and where P does not hold the test fails
-untold : (b : Bool) {P : Type 0} → Tells b P → b ≡ false → ¬ P
-untold b t e p = true≢false (sym (t .1 p) ∙ e)
-
-fails : (b : Bool) {P : Type 0} → Tells b P → ¬ P → b ≡ false
-fails b t n = by-test b (λ e. absurd (n (t .0 e))) (λ e. e)
 
 pub judges : (r : Rule) (w : Word) → Judges r w (judged r w)
 unfolding judged

@@ -15,10 +15,9 @@ use Rattle.judge.specs.declared.rule.Mark.{Mark}
 use Rattle.judge.specs.declared.rule.Node.{Node}
 use Rattle.judge.specs.declared.rule.Rule.{Rule}
 use Rattle.judge.specs.declared.row.Seen.{Seen}
-use Rattle.judge.specs.declared.row.Tally.{Tally}
 use Rattle.judge.specs.declared.row.Attribute.{Attribute}
 use Rattle.judge.specs.declared.verdict.Verdict.{Verdict}
-use Rattle.judge.specs.Limits.{maxAtoms, maxNodes}
+use Rattle.judge.specs.Limits.{maxNodes}
 use Rattle.judge.specs.Tests.{by-test}
 use Rattle.judge.specs.Word.{Word, Names, only}
 use Rattle.judge.specs.Word.Projection.{keep, count}
@@ -29,7 +28,6 @@ use Rattle.judge.specs.Verdict.Laws.{verdictOf, verdict}
 use Rattle.judge.specs.Tree.{Formed, atoms, nodes}
 use Rattle.judge.specs.Model.{Model, typeBy, typeOf}
 use Rattle.judge.specs.Model.Eval.{after, after-from, step, eval, eval-map, number, number-from, number-range}
-use Rattle.judge.specs.Model.Laws.{length-encode}
 use Rattle.judge.specs.Model.Types.{CountsFit, type-conflict-free, type-symbols}
 use Rattle.judge.specs.Rule.{ruleOf, names}
 use Rattle.judge.specs.Rule.Laws.{used, rule-eval}
@@ -37,7 +35,6 @@ use Rattle.judge.specs.Rule.Names.{names-number, names-model}
 use Rattle.judge.specs.Rule.Test.{WellFormed, wellFormed, well-formed-is}
 use Rattle.judge.specs.Rule.Decide.{readable, ruleType, rule-type}
 use Rattle.judge.specs.Judge.Laws.{upto}
-use Rattle.judge.specs.Judge.Tally.{unseen, Tallied}
 use Rattle.judge.specs.Judge.Root.{rootAttribute}
 
 -- by what is seen of each name in a row of n children, of foreign names under 0
@@ -52,7 +49,8 @@ module _ (n : ℕ) (s t : ℕ → Seen) where
   step-same (Atom lo hi) m k l e = rw (e (omega arith))
   step-same (Group g c) m k l e = refl
 
-  eval-same : (l : List Node) (k : ℕ) → ((j : ℕ) → k ≤ j → j < number l k → s j ≡ t j) → eval (attributeBy n s) l k ≡ eval (attributeBy n t) l k
+  eval-same : (l : List Node) (k : ℕ) → ((j : ℕ) → k ≤ j → j < number l k → s j ≡ t j)
+      → eval (attributeBy n s) l k ≡ eval (attributeBy n t) l k
   eval-same [] k h = refl
   eval-same (x ∷ l) k h =
       let a = number-range l (after (x .kind) k) in
@@ -60,7 +58,8 @@ module _ (n : ℕ) (s t : ℕ → Seen) where
       (step-same (x .kind) (x .mark) k (eval (attributeBy n t) l (after (x .kind) k)) (λ b. h k (omega arith) (omega arith)))
 
 -- no number is foreign just if 0 is none of them
-over-known : (p : Names) (m : ℕ) → ((x : ℕ) → (p x ≡ true) ↔ ((1 ≤ x) × (x ≤ m))) → (w : Word) → upto m w ≡ true → over? p w ≡ eqb (count 0 w) 0
+over-known : (p : Names) (m : ℕ) → ((x : ℕ) → (p x ≡ true) ↔ ((1 ≤ x) × (x ≤ m))) → (w : Word) → upto m w ≡ true
+    → over? p w ≡ eqb (count 0 w) 0
 unfolding over? keep only
 over-known p m f [] h = refl
 over-known p m f (x ∷ w) h =
@@ -74,18 +73,19 @@ over-known p m f (x ∷ w) h =
 module _ (t : Model) (f : Formed CountsFit t) (w : Word) where
   root-model : rootAttribute (ruleOf t) (length w) (seen w) ≡ attributeOf (typeOf t) w
   root-model =
-      let g = attributeBy (length w) (seen w) in
-      let e = eval-map typeBy g (attribute (length w) (seen w)) (attribute-atom (length w) (seen w)) (attribute-group (length w) (seen w)) (attribute-mark (length w) (seen w)) in
-      ap (λ l. getD l 0 (emptyAttribute (length w)))
-      (sym (e (used (ruleOf t)) 1) ∙ ap (map (attribute (length w) (seen w))) (rule-eval typeBy t 1))
+      let n = length w in
+      let s = seen w in
+      let e = eval-map typeBy (attributeBy n s) (attribute n s) (attribute-atom n s) (attribute-group n s) (attribute-mark n s) (used (ruleOf t)) 1 in
+      ap (λ l. getD l 0 (emptyAttribute n)) (sym e ∙ ap (map (attribute n s)) (rule-eval typeBy t 1))
       ∙ attribute-is (typeOf t) (type-conflict-free t f) w
 
   verdict-model : upto (names (ruleOf t)) w ≡ true → seenVerdict (ruleOf t) (length w) (seen w) ≡ verdict (typeOf t) w
   unfolding verdict holds? extends?
   verdict-model h =
-      rw (over-known (symbols (typeOf t)) (atoms t) (type-symbols t f) w (rw (names-model t) at h), root-model) (unfold seen attributeOf in refl)
+      rw (over-known (symbols (typeOf t)) (atoms t) (type-symbols t f) w (rw (names-model t) at h), root-model)
+      (unfold seen attributeOf in refl)
 
-readable-formed : (r : Rule) → readable r ≡ true → WellFormed r
+pub readable-formed : (r : Rule) → readable r ≡ true → WellFormed r
 unfolding readable
 readable-formed r e =
     let h = and-eq-true-iff (eqb (length (r .nodes)) maxNodes) (wellFormed r) .0 e in
@@ -96,27 +96,12 @@ pub verdict-seen : (r : Rule) → readable r ≡ true → (w : Word) → upto (n
 verdict-seen r e w h s g =
     let v = readable-formed r e in
     let t = v .model in
-    let a : rootAttribute r (length w) s ≡ rootAttribute r (length w) (seen w) =
-    ap (λ l. getD l 0 (emptyAttribute (length w)))
-    (eval-same (length w) s (seen w) (used r) 1 (λ j b c. g j (omega (arith, number-from (used r) 1, names-number (used r))))) in
+    let a = eval-same (length w) s (seen w) (used r) 1 (λ j b c. g j (omega (arith, number-from (used r) 1, names-number (used r)))) in
     let b : seenVerdict r (length w) (seen w) ≡ verdict (ruleType r) w =
     rw (v .rule-is, rule-type t) (verdict-model t (v .formed) w (rw (v .rule-is) at h)) in
     rw (a, g 0 (omega arith)) b
 
--- with what the first pass has counted, up to as many names as the rule has
-pub verdict-tallied : (r : Rule) → readable r ≡ true → (w : Word) → upto (names r) w ≡ true → (m : ℕ) → m ≡ names r → (t : Tally) → Tallied m w t
-    → seenVerdict r (length w) (λ k. getD (t .seen) k (unseen 0)) ≡ verdict (ruleType r) w
-verdict-tallied r e w h m f t g = verdict-seen r e w h (λ k. getD (t .seen) k (unseen 0)) (λ k l. g .seen-is k (omega arith))
-
--- what the code's test b says, whose array of nodes is as long as it should be
+-- what a test of the code says of a rule, whose array of nodes is as long as it should be
 pub readable-tested : (r : Rule) (b c : Bool) → length (r .nodes) ≡ maxNodes → b ≡ wellFormed r → b ≡ c → readable r ≡ c
 unfolding readable
 readable-tested r b c l e f = rw (eq-eqb (length (r .nodes)) maxNodes l) (sym e ∙ f)
-
--- the limits that the passes ask for
-pub readable-within : (r : Rule) → readable r ≡ true → (r .len ≤ maxNodes) × (names r ≤ maxAtoms)
-readable-within r e =
-    let w = readable-formed r e in
-    let l : r .len ≡ nodes (w .model) = ap (λ s. s .len) (w .rule-is) ∙ length-encode (w .model) in
-    let n : names r ≡ atoms (w .model) = ap names (w .rule-is) ∙ names-model (w .model) in
-    (omega (arith, w .few-nodes), omega (arith, w .few-atoms))

@@ -47,7 +47,7 @@ pub counted-from : (n m : ℕ) (k : Upper) (x : Seen) → ¬ (m ≡ 0) → count
 counted-from n zero k x h = absurd (h refl)
 counted-from n (suc m) k x h = refl
 
--- the loop over a group's members
+-- The loop over a group's members.
 joined-more : (o : Operator) (x : Attribute) (l : List Attribute) (y : Attribute)
     → joinedAttributeFrom o x (l ++ (y ∷ [])) ≡ pairAttribute o (joinedAttributeFrom o x l) y
 joined-more o x [] y = refl
@@ -80,12 +80,13 @@ part-turn n κ z stack top at d x r h k e f =
     let p : top + (at - top) ≡ at = omega arith in
     let q : at - top < length l = rw length-drop (omega arith) in
     let m : length (take (at - top) l) ≡ at - top = length-take-le (at - top) l (omega arith) in
-    rw (j, take-suc l (at - top) d q, getD-drop top stack (at - top) d, p, part-more n κ z (take (at - top) l) (getD stack at d), m, ← first-test top at h, ← f) e
+    rw (j, take-suc l (at - top) d q, getD-drop top stack (at - top) d, p)
+    (rw (part-more n κ z (take (at - top) l) (getD stack at d), m, ← first-test top at h, ← f) e)
 
--- the loop over the nodes
--- a node on the stack of what stands behind it, where k names stand before the node, and k + after κ 0 before what stands behind it
+-- The loop over the nodes. A node on the stack of what stands behind it, where k names stand before the node.
 attribute-step : (n : ℕ) (s : ℕ → Seen) (κ : Kind) (m : Mark) (k : ℕ) (l : List Attribute)
-    → markedAttribute n m (partAttribute n κ (s (after κ 0 + k)) (take (needed κ) l)) ∷ drop (needed κ) l ≡ step (attributeBy n s) κ m (k + 1) l
+    → markedAttribute n m (partAttribute n κ (s (after κ 0 + k)) (take (needed κ) l)) ∷ drop (needed κ) l
+    ≡ step (attributeBy n s) κ m (k + 1) l
 unfolding partAttribute
 attribute-step n s (Atom lo hi) m k l = rw (add-comm 1 k)
 attribute-step n s (Group g c) m k l = refl
@@ -96,7 +97,8 @@ module _ (nodes : List Node) (len i : ℕ) (d : Node) (name ones : ℕ) (a : 0 <
   name-before : name ≡ after (getD nodes (i - 1) d .kind) 0 + number (take (i - 1) (take len nodes)) 0
   name-before =
       let j : i - 1 + 1 ≡ i = omega arith in
-      m ∙ (rw j at (number-next nodes len (i - 1) 0 d (omega arith) c)) ∙ after-from (getD nodes (i - 1) d .kind) (number (take (i - 1) (take len nodes)) 0)
+      m ∙ (rw j at (number-next nodes len (i - 1) 0 d (omega arith) c))
+      ∙ after-from (getD nodes (i - 1) d .kind) (number (take (i - 1) (take len nodes)) 0)
 
   pub name-turn : ones ≤ name
   name-turn = omega (arith, name-before)
@@ -115,7 +117,8 @@ module _ (n : ℕ) (s : ℕ → Seen) (nodes : List Node) (len : ℕ) where
       record {
         long = e;
         name-is = rw t (f ∙ names-number (take len nodes));
-        stack-is = rw (drop-of-length-le stack {i = maxNodes} (omega arith), drop-of-length-le (take len nodes) {i = len} (rw length-take (omega arith)));
+        stack-is =
+            rw (drop-of-length-le stack {i = maxNodes} (omega arith), drop-of-length-le (take len nodes) {i = len} (rw length-take (omega arith)));
       }
 
   -- a turn, with what its calls gave
@@ -138,8 +141,9 @@ module _ (n : ℕ) (s : ℕ → Seen) (nodes : List Node) (len : ℕ) where
         name-is = v;
         stack-is =
             replaced stack maxNodes top (needed κ) (clipped + top) (t .long) h u y p
-            ∙ rw (v, slice-back nodes len i d a b c, w, ← t .stack-is, f, e, first-entries stack maxNodes top (needed κ) (clipped + top) (t .long) h u, g)
-            (attribute-step n s κ (getD nodes (i - 1) d .mark) k (drop top stack));
+            ∙ rw (v, slice-back nodes len i d a b c, w, ← t .stack-is, f, e)
+            (rw (first-entries stack maxNodes top (needed κ) (clipped + top) (t .long) h u, g)
+            (attribute-step n s κ (getD nodes (i - 1) d .mark) k (drop top stack)));
       }
 
 -- the end of the loop

@@ -75,7 +75,11 @@ pub record Tallied (m : ℕ) (w : Word) (t : Tally) : Type 0 where
 
 pub seeing-none : (m n size : ℕ) → m < size → Seeing m n [] (replicate size (unseen n)) true
 seeing-none m n size g =
-    record { room = rw length-replicate g; seen-is = λ k h. getD-replicate size k (unseen n) (unseen 0) (omega arith) ∙ sym (seen-none n k); named-is = refl }
+    record {
+      room = rw length-replicate g;
+      seen-is = λ k h. getD-replicate size k (unseen n) (unseen 0) (omega arith) ∙ sym (seen-none n k);
+      named-is = refl;
+    }
 
 keep-bound : (p : Names) (w : Word) → length (keep p w) ≤ length w
 unfolding keep
@@ -98,8 +102,8 @@ module _ (m : ℕ) (row : Word) (i : ℕ) (s : List Seen) (b : Bool) (h : i < le
   passed : length (take i row) ≡ i
   passed = length-take-le i row (omega arith)
 
-  seen-next : (k : ℕ)
-      → seenIn (length row) (take (i + 1) row) k ≡ cond (only k (getD row i 0)) (noting (seenIn (length row) (take i row) k) i) (seenIn (length row) (take i row) k)
+  seen-next : (k : ℕ) → seenIn (length row) (take (i + 1) row) k
+      ≡ cond (only k (getD row i 0)) (noting (seenIn (length row) (take i row) k) i) (seenIn (length row) (take i row) k)
   seen-next k = rw (one-more, seen-more (length row) (take i row) (getD row i 0) k (omega (arith, passed)), passed)
 
   pub seeing-more : getD row i 0 ≤ m
@@ -120,7 +124,8 @@ module _ (m : ℕ) (row : Word) (i : ℕ) (s : List Seen) (b : Bool) (h : i < le
   pub seeing-less : m < getD row i 0 → Seeing m (length row) (take (i + 1) row) s false
   seeing-less g = record {
     room = t .room;
-    seen-is = λ k l. rw (seen-next k) (by-test (only k (getD row i 0)) (λ f. absurd (omega (arith, only-is k (getD row i 0) f))) (λ f. rw f (t .seen-is k l)));
+    seen-is = λ k l. rw (seen-next k)
+        (by-test (only k (getD row i 0)) (λ f. absurd (omega (arith, only-is k (getD row i 0) f))) (λ f. rw f (t .seen-is k l)));
     named-is = rw (one-more, upto-more, lt-leb (getD row i 0) m g, and-false);
   }
 

@@ -7,7 +7,7 @@ use native.Mathlib.Nat.{zero-add, add-zero, add-assoc, min-eq-left}
 use native.Mathlib.Numerals.{add-one}
 use native.Mathlib.Omega.{arith}
 use lib.ListN.{length, take, drop, getD, length-take, length-drop}
-use lib.Seq.{take-at, drop-at, slice-cons, take-suc, getD-take}
+use lib.Seq.{take-at, drop-at, take-suc, getD-take}
 use Rattle.judge.specs.declared.rule.Upper.{Upper}
 use Rattle.judge.specs.declared.rule.Sign.{Sign}
 use Rattle.judge.specs.declared.rule.Mark.{Mark}
@@ -74,20 +74,6 @@ module _ {A : Type 0} (g : Algebra A) where
   length-eval [] k = refl
   length-eval (x ∷ l) k =
       length-step (x .kind) (x .mark) k (eval l (after (x .kind) k)) ∙ rw (length-eval l (after (x .kind) k))
-
-  pub eval-next : (nodes : List RuleNode) (len i k : ℕ) (d : RuleNode) → i < len → len ≤ length nodes
-      → eval (drop i (take len nodes)) k
-      ≡ step (getD nodes i d .kind) (getD nodes i d .mark) k (eval (drop (i + 1) (take len nodes)) (after (getD nodes i d .kind) k))
-  eval-next nodes len i k d h e = rw (slice-cons i len nodes d h e, add-one)
-
-  -- a turn of a loop from the last node to the first: S is the stack before it, R the stack behind it
-  pub eval-turn : (nodes : List RuleNode) (len i k : ℕ) (d : RuleNode) (S R : List A) → 0 < i → i ≤ len → len ≤ length nodes
-      → R ≡ step (getD nodes (i - 1) d .kind) (getD nodes (i - 1) d .mark) k S
-      → S ≡ eval (drop i (take len nodes)) (after (getD nodes (i - 1) d .kind) k)
-      → R ≡ eval (drop (i - 1) (take len nodes)) k
-  eval-turn nodes len i k d S R h p q e f =
-      let j : i - 1 + 1 ≡ i = omega arith in
-      rw (eval-next nodes len (i - 1) k d (omega arith) q, j, ← f) e
 
 -- f carries the algebra g into h
 module _ {A B : Type 0} (g : Algebra A) (h : Algebra B) (f : A → B)
@@ -163,23 +149,3 @@ pub number-next : (nodes : List RuleNode) (len i k : ℕ) (d : RuleNode) → i <
 number-next nodes len i k d h e =
     let l : i < length (take len nodes) = rw (length-take, min-eq-left e) h in
     rw (add-one, take-suc (take len nodes) i d l, getD-take len nodes i d h, number-append)
-
--- a turn of a loop from the first node to the last
-pub number-turn : (nodes : List RuleNode) (len i k : ℕ) (d : RuleNode) (a r : ℕ) → i < len → len ≤ length nodes
-    → r ≡ after (getD nodes i d .kind) a → a ≡ number (take i (take len nodes)) k → r ≡ number (take (i + 1) (take len nodes)) k
-number-turn nodes len i k d a r h e p q = rw (number-next nodes len i k d h e, ← q) p
-
--- a turn of a loop from the last node to the first
-pub number-back : (nodes : List RuleNode) (len i k : ℕ) (d : RuleNode) (a r : ℕ) → 0 < i → i ≤ len → len ≤ length nodes
-    → after (getD nodes (i - 1) d .kind) r ≡ a → a ≡ number (take i (take len nodes)) k → r ≡ number (take (i - 1) (take len nodes)) k
-number-back nodes len i k d a r h p e q s =
-    let j : i - 1 + 1 ≡ i = omega arith in
-    after-injective (getD nodes (i - 1) d .kind) r (number (take (i - 1) (take len nodes)) k)
-    (q ∙ s ∙ (rw j at (number-next nodes len (i - 1) k d (omega arith) e)))
-
--- the numbers go no further than the nodes
-pub number-bound : (nodes : List RuleNode) (len i k : ℕ) → len ≤ length nodes → i ≤ len → number (take i (take len nodes)) k ≤ k + i
-number-bound nodes len i k e h =
-    let t : length (take len nodes) ≡ len = length-take len nodes ∙ min-eq-left e in
-    let u : i ≤ length (take len nodes) = omega arith in
-    omega (arith, number-range (take i (take len nodes)) k .1, length-take i (take len nodes) ∙ min-eq-left u)

@@ -106,9 +106,6 @@ mutual
   enough-encodeAll (t ▹ ts) rest h =
       rw append-assoc (enough-encode t (encodeAll ts ++ rest) (enough-encodeAll ts rest h))
 
-pub encoded : (t : Model) → Enough (encode t) × (count (encode t) ≡ 1)
-encoded t = (rw append-nil at (enough-encode t [] tt), rw append-nil at (count-encode t []))
-
 -- a model comes back from its nodes
 mutual
   rebuiltNode : (n : Node Counts) (m : Mark) (k : ℕ) → remarked m (foldNode trees n k) ≡ marked m n

@@ -32,14 +32,14 @@ pub record At (x : Text) (l : List ℕ) (p : ℕ) (s : State) : Type 0 where
 abbrev pub Quiet : State → Type 0
 Quiet s = Alive s × ((isExpect s ≡ false) × (endsWrong s ≡ false))
 
-module _ (x : Text) (l : List ℕ) (p : ℕ) (s : State) (a : At x l p s) where
+module _ {x : Text} {l : List ℕ} {p : ℕ} {s : State} (a : At x l p s) where
   pub next : p < length x → here x (suc p) ≡ step s (getD x p 0)
   next h = run-take x p h ∙ ap (λ (r : State). step r (getD x p 0)) (a .is)
 
   -- past a byte where no member begins
-  pub step-on : (r : State) → p < length x → step s (getD x p 0) ≡ r → isExpect s ≡ false → Alive r → endsWrong r ≡ false → At x l (p + 1) r
+  pub step-on : {r : State} → p < length x → step s (getD x p 0) ≡ r → isExpect s ≡ false → Alive r → endsWrong r ≡ false → At x l (p + 1) r
   unfolding next
-  step-on r h e w v n =
+  step-on {r} h e w v n =
       let g : here x (suc p) ≡ r = next h ∙ e in
       let i : isExpect (here x p) ≡ false = ap isExpect (a .is) ∙ w in
       let z : Alive (here x (suc p)) = rw g v in
@@ -78,16 +78,18 @@ left-head (c ∷ x) zero b y e = (omega arith, (head-eq-of-cons-eq e, tail-eq-of
 left-head (c ∷ x) (suc p) b y e = let r = left-head x p b y e in (omega (arith, r .0), (r .1 .0, rw add-one (rw add-one at (r .1 .1))))
 
 -- over bytes that pass a test, each of which the state takes in
-module _ (f : ℕ → Bool) (s : Text → State) (grow : (ds : Text) (d : ℕ) → T (f d) → step (s ds) d ≡ s (ds ++ (d ∷ []))) (quiet : (ds : Text) → Quiet (s ds)) (x : Text) (l : List ℕ) where
+module _ (f : ℕ → Bool) (s : Text → State) (grow : (ds : Text) (d : ℕ) → T (f d) → step (s ds) d ≡ s (ds ++ (d ∷ []))) (quiet : (ds : Text) → Quiet (s ds))
+    (x : Text) (l : List ℕ) where
   pub run-front : (y : Text) (p : ℕ) (ds : Text) → drop p x ≡ y → At x l p (s ds) → At x l (p + length (front f y)) (s (ds ++ front f y))
   run-front [] p ds e a = rw (add-zero, append-nil) a
   run-front (b ∷ y) p ds e a = by-test (f b) (λ t. passes t (λ n. run-front y (p + 1) (ds ++ (b ∷ [])) (left-head x p b y e .1 .1) n)) (λ n. rw (n, add-zero, append-nil) a)
     where
-      passes : f b ≡ true → (At x l (p + 1) (s (ds ++ (b ∷ []))) → At x l (p + 1 + length (front f y)) (s ((ds ++ (b ∷ [])) ++ front f y))) → At x l (p + length (front f (b ∷ y))) (s (ds ++ front f (b ∷ y)))
+      passes : f b ≡ true → (At x l (p + 1) (s (ds ++ (b ∷ []))) → At x l (p + 1 + length (front f y)) (s ((ds ++ (b ∷ [])) ++ front f y)))
+          → At x l (p + length (front f (b ∷ y))) (s (ds ++ front f (b ∷ y)))
       passes t more =
           let h : (p < length x) × ((getD x p 0 ≡ b) × (drop (p + 1) x ≡ y)) = left-head x p b y e in
           let g : step (s ds) (getD x p 0) ≡ s (ds ++ (b ∷ [])) = rw (h .1 .0) (grow ds b (rw t tt)) in
-          let n : At x l (p + 1) (s (ds ++ (b ∷ []))) = step-on x l p (s ds) a (s (ds ++ (b ∷ []))) (h .0) g (quiet ds .1 .0) (quiet (ds ++ (b ∷ [])) .0) (quiet (ds ++ (b ∷ [])) .1 .1) in
+          let n : At x l (p + 1) (s (ds ++ (b ∷ []))) = step-on a (h .0) g (quiet ds .1 .0) (quiet (ds ++ (b ∷ [])) .0) (quiet (ds ++ (b ∷ [])) .1 .1) in
           let q : p + length (b ∷ front f y) ≡ p + 1 + length (front f y) = omega arith in
           rw (t, q) (rw append-assoc at (more n))
 

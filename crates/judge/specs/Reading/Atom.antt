@@ -69,34 +69,37 @@ AtomRead x work c end k (Faulty f q) = Answers x (refused f q)
 abbrev pub past : Cursor → ℕ → Cursor
 past c p = record { at = p; nodes = c .nodes + 1; names = c .names + 1 }
 
-module _ (x : Text) (work : List ℕ) (c : Cursor) (end : ℕ) (k : List Frame) (r : NameRead x work c end k) where
+module _ {x : Text} {work : List ℕ} {c : Cursor} {end : ℕ} {k : List Frame} (r : NameRead x work c end k) where
   -- a node more
-  one-node : (w : ℕ) (y : Count) (m : ℕ) (u : Upper) → countsOf y ≡ record { min = m; max = u } → nodeOf w ≡ plain (Atom m u) → NodesHeld (set work (c .nodes) w) (c .nodes + 1) (stackNodes k ++ treeNodes (marked Plain (atom (r .name) y)))
+  one-node : (w : ℕ) (y : Count) (m : ℕ) (u : Upper) → countsOf y ≡ record { min = m; max = u } → nodeOf w ≡ plain (Atom m u)
+      → NodesHeld (set work (c .nodes) w) (c .nodes + 1) (stackNodes k ++ treeNodes (marked Plain (atom (r .name) y)))
   one-node w y m u e q = rw e (holds-more nodeOf 128 work (c .nodes) (stackNodes k) (r .held) w (plain (Atom m u)) (r .few) q)
 
   node-is : c .nodes ≡ length (stackNodes k)
   node-is = sym (holds-count nodeOf 128 work (c .nodes) (stackNodes k) (r .held))
 
   -- no count: `a` is `a[1..1]`
-  pub atom-bare : is x (code "[") end ≡ false → (w : ℕ) → nodeOf w ≡ plain (Atom 1 (Number 1)) → (work′ : List ℕ) (d : Cursor) → Marking x (set work (c .nodes) w) work′ (past c end) (c .nodes) d → AtomRead x work′ c end k (Past d)
+  pub atom-bare : is x (code "[") end ≡ false → (w : ℕ) → nodeOf w ≡ plain (Atom 1 (Number 1)) → {work′ : List ℕ} {d : Cursor}
+      → Marking x (set work (c .nodes) w) work′ (past c end) (c .nodes) d → AtomRead x work′ c end k (Past d)
   unfolding one-node node-is
-  atom-bare e w q work′ d m =
+  atom-bare e w q {work′} {d} m =
       let h = one-node w unwritten 1 (Number 1) refl q in
       let s = node-step k (atom (r .name) unwritten) (getD x end 0) (r .over) e in
       record {
         spots = r .spots;
         same = r .at-is .names;
-        read = mark-read x (set work (c .nodes) w) (r .spots) (c .at) (c .nodes) k (atom (r .name) unwritten) (past c end) (r .on) (r .at-is) s h node-is work′ d m;
-        one-more = mark-names x (set work (c .nodes) w) (r .spots) (c .at) (c .nodes) k (atom (r .name) unwritten) (past c end) (r .on) (r .at-is) s h node-is work′ d m;
+        read = mark-read x (set work (c .nodes) w) (r .spots) (c .at) (c .nodes) k (atom (r .name) unwritten) (past c end) (r .on) (r .at-is) s h node-is m;
+        one-more = mark-names x (set work (c .nodes) w) (r .spots) (c .at) (c .nodes) k (atom (r .name) unwritten) (past c end) (r .on) (r .at-is) s h node-is m;
       }
 
   counted : is x (code "[") end ≡ true → (o : Counted) → o ≡ countAt x end → CountRead x (r .spots) k (r .name) end (r .at-is) o
   counted e o q = rw q (count-read x (r .spots) k (r .name) end (r .at-is) e)
 
-  module _ (e : is x (code "[") end ≡ true) (o : Counted) (q : o ≡ countAt x end) where
-    pub atom-counted : (m : ℕ) (u : Upper) (p : ℕ) → o ≡ Counts m u p → (w : ℕ) → nodeOf w ≡ plain (Atom m u) → (work′ : List ℕ) (d : Cursor) → Marking x (set work (c .nodes) w) work′ (past c p) (c .nodes) d → AtomRead x work′ c end k (Past d)
+  module _ (e : is x (code "[") end ≡ true) {o : Counted} (q : o ≡ countAt x end) where
+    pub atom-counted : {m : ℕ} {u : Upper} {p : ℕ} → o ≡ Counts m u p → (w : ℕ) → nodeOf w ≡ plain (Atom m u) → {work′ : List ℕ} {d : Cursor}
+        → Marking x (set work (c .nodes) w) work′ (past c p) (c .nodes) d → AtomRead x work′ c end k (Past d)
     unfolding counted one-node node-is
-    atom-counted m u p f w g work′ d j =
+    atom-counted {m} {u} {p} f w g {work′} {d} j =
         let t : CountDone x (r .spots) k (r .name) end (r .at-is) m u p = counted e (Counts m u p) (sym f ∙ q) in
         let h = one-node w (t .count) m u (t .counts-are) g in
         let a : At x (r .spots) p (at k (behindAtom (r .name) (t .count))) = rw (t .written) (t .at-is) in
@@ -105,21 +108,21 @@ module _ (x : Text) (work : List ℕ) (c : Cursor) (end : ℕ) (k : List Frame) 
         record {
           spots = r .spots;
           same = r .at-is .names;
-          read = mark-read x (set work (c .nodes) w) (r .spots) (c .at) (c .nodes) k (atom (r .name) (t .count)) (past c p) b a s h node-is work′ d j;
-          one-more = mark-names x (set work (c .nodes) w) (r .spots) (c .at) (c .nodes) k (atom (r .name) (t .count)) (past c p) b a s h node-is work′ d j;
+          read = mark-read x (set work (c .nodes) w) (r .spots) (c .at) (c .nodes) k (atom (r .name) (t .count)) (past c p) b a s h node-is j;
+          one-more = mark-names x (set work (c .nodes) w) (r .spots) (c .at) (c .nodes) k (atom (r .name) (t .count)) (past c p) b a s h node-is j;
         }
 
-    pub count-fits : (m : ℕ) (u : Upper) (p : ℕ) → o ≡ Counts m u p → p ≤ length x
+    pub count-fits : {m : ℕ} {u : Upper} {p : ℕ} → o ≡ Counts m u p → p ≤ length x
     unfolding counted
-    count-fits m u p f = counted e (Counts m u p) (sym f ∙ q) .at-is .within
+    count-fits {m} {u} {p} f = counted e (Counts m u p) (sym f ∙ q) .at-is .within
 
-    pub atom-misspelt : (p : ℕ) → o ≡ Bad p → Answers x (refused Misspelling p)
+    pub atom-misspelt : {p : ℕ} → o ≡ Bad p → Answers x (refused Misspelling p)
     unfolding counted
-    atom-misspelt p f = counted e (Bad p) (sym f ∙ q)
+    atom-misspelt {p} f = counted e (Bad p) (sym f ∙ q)
 
-    pub atom-wrong : (p : ℕ) → o ≡ Wrong p → Answers x (refused WrongCount p)
+    pub atom-wrong : {p : ℕ} → o ≡ Wrong p → Answers x (refused WrongCount p)
     unfolding counted
-    atom-wrong p f = counted e (Wrong p) (sym f ∙ q)
+    atom-wrong {p} f = counted e (Wrong p) (sym f ∙ q)
 
 -- the nodes of the open groups are as many as the automaton's state counts
 frame-count : (f : Frame) → length (frameNodes f) ≡ frameWeight 1 1 f
@@ -131,7 +134,7 @@ stack-count [] = refl
 stack-count (f ∷ k) = rw (length-append, stack-count k, frame-count f)
 
 -- where a member is to begin: how many names and nodes there are
-module _ (x : Text) (work names : List ℕ) (c : Cursor) (k : List Frame) (r : Expecting x work names c k) where
+module _ {x : Text} {work names : List ℕ} {c : Cursor} {k : List Frame} (r : Expecting x work names c k) where
   pub level : Even x (c .at)
   level = even x (c .at) (r .at-is .within) (rw (r .at-is .is) tt)
 
@@ -155,7 +158,8 @@ module _ (x : Text) (work names : List ℕ) (c : Cursor) (k : List Frame) (r : E
     unfolding letter-inside
     faults = letter-faults x (c .at) (r .at-is .sized) letter-inside k (r .at-is .is) (rw l tt)
 
-    lesser : (f : ModelFault) → (modelNumber LongName < modelNumber f → LetterFault x (c .at) LongName → ⊥) → (modelNumber ManyAtoms < modelNumber f → LetterFault x (c .at) ManyAtoms → ⊥)
+    lesser : (f : ModelFault) → (modelNumber LongName < modelNumber f → LetterFault x (c .at) LongName → ⊥)
+        → (modelNumber ManyAtoms < modelNumber f → LetterFault x (c .at) ManyAtoms → ⊥)
         → (modelNumber ManyNodes < modelNumber f → LetterFault x (c .at) ManyNodes → ⊥) → (modelNumber Repeated < modelNumber f → LetterFault x (c .at) Repeated → ⊥) → (g : ModelFault) → modelNumber g < modelNumber f → LetterFault x (c .at) g → ⊥
     lesser f n₁ n₂ n₃ n₄ Size i h = h
     lesser f n₁ n₂ n₃ n₄ Misspelling i h = h
@@ -170,35 +174,40 @@ module _ (x : Text) (work names : List ℕ) (c : Cursor) (k : List Frame) (r : E
     unfolding faults
     answer-by f d n = found-by x (c .at) (LetterFault x (c .at)) faults (r .at-is .clean) f d n
 
-    never : {P : Type 0} (m n : ℕ) → n ≤ m → m < n → P → ⊥
-    never m n h i p = omega arith
-
     pub name-length : length (nameFrom x (c .at)) ≡ suc (length (nameFrom x (c .at + 1)))
     unfolding letter-inside
     name-length = ap length (front-step isInner x (c .at) letter-inside (T-true (isInner (getD x (c .at) 0)) (letter-inner (getD x (c .at) 0) (rw l tt))))
 
-    module _ (end : ℕ) (e : end ≡ c .at + 1 + length (nameFrom x (c .at + 1))) where
+    module _ {end : ℕ} (e : end ≡ c .at + 1 + length (nameFrom x (c .at + 1))) where
       long : end - c .at ≡ length (nameFrom x (c .at))
       unfolding name-length
       long = omega (arith, name-length)
 
       pub long-name : maxName < end - c .at → Answers x (refused LongName (c .at))
-      unfolding long answer-by lesser never
-      long-name h = answer-by LongName (omega (arith, long)) (lesser LongName (never 12 12 (omega arith)) (never 15 12 (omega arith)) (never 16 12 (omega arith)) (never 17 12 (omega arith)))
+      unfolding long answer-by lesser
+      long-name h =
+          answer-by LongName (omega (arith, long))
+          (lesser LongName (λ i _. omega (arith, i)) (λ i _. omega (arith, i)) (λ i _. omega (arith, i)) (λ i _. omega (arith, i)))
 
       module _ (s : end - c .at ≤ maxName) where
         pub many-atoms : c .names ≡ maxAtoms → Answers x (refused ManyAtoms (c .at))
-        unfolding long answer-by lesser never names-many
-        many-atoms h = answer-by ManyAtoms (omega (arith, names-many)) (lesser ManyAtoms (λ _ k. omega (arith, k, long)) (never 15 15 (omega arith)) (never 16 15 (omega arith)) (never 17 15 (omega arith)))
+        unfolding long answer-by lesser names-many
+        many-atoms h =
+            answer-by ManyAtoms (omega (arith, names-many))
+            (lesser ManyAtoms (λ _ k. omega (arith, k, long)) (λ i _. omega (arith, i)) (λ i _. omega (arith, i)) (λ i _. omega (arith, i)))
 
         module _ (a : c .names < maxAtoms) where
           pub many-nodes : c .nodes ≡ maxNodes → Answers x (refused ManyNodes (c .at))
-          unfolding long answer-by lesser never names-many nodes-many
-          many-nodes h = answer-by ManyNodes (omega (arith, nodes-many)) (lesser ManyNodes (λ _ k. omega (arith, k, long)) (λ _ k. omega (arith, k, names-many)) (never 16 16 (omega arith)) (never 17 16 (omega arith)))
+          unfolding long answer-by lesser names-many nodes-many
+          many-nodes h =
+              answer-by ManyNodes (omega (arith, nodes-many))
+              (lesser ManyNodes (λ _ k. omega (arith, k, long)) (λ _ k. omega (arith, k, names-many)) (λ i _. omega (arith, i)) (λ i _. omega (arith, i)))
 
           pub comparable : Comparable x names (c .names) (c .at) end
           unfolding letter-inside name-length
-          comparable = record { whole = r .named .whole; few = r .named .few; held = rw (r .at-is .names) (r .named .held); begins = letter-inside; ends = omega (arith, name-length) }
+          comparable =
+              record
+              { whole = r .named .whole; few = r .named .few; held = rw (r .at-is .names) (r .named .held); begins = letter-inside; ends = omega (arith, name-length) }
 
           module _ (b : c .nodes < maxNodes) where
             named-here : nameAt x (c .at) ≡ true
@@ -206,10 +215,10 @@ module _ (x : Text) (work names : List ℕ) (c : Cursor) (k : List Frame) (r : E
             named-here = rw (← level .fresh-here, r .at-is .is, l)
 
             pub repeated-name : among x (places x (c .at)) (c .at) ≡ true → Answers x (refused Repeated (c .at))
-            unfolding long answer-by lesser never names-many nodes-many named-here
+            unfolding long answer-by lesser names-many nodes-many named-here
             repeated-name h =
                 answer-by Repeated (twice-found x (c .at) (rw named-here tt) h)
-                (lesser Repeated (λ _ k. omega (arith, k, long)) (λ _ k. omega (arith, k, names-many)) (λ _ k. omega (arith, k, nodes-many)) (never 17 17 (omega arith)))
+                (lesser Repeated (λ _ k. omega (arith, k, long)) (λ _ k. omega (arith, k, names-many)) (λ _ k. omega (arith, k, nodes-many)) (λ i _. omega (arith, i)))
 
             module _ (n : among x (places x (c .at)) (c .at) ≡ false) where
               letter-read : At x (r .spots ++ (c .at ∷ [])) (c .at + 1) (at k (naming (getD x (c .at) 0 ∷ [])))
@@ -219,7 +228,9 @@ module _ (x : Text) (work names : List ℕ) (c : Cursor) (k : List Frame) (r : E
                     sized = r .at-is .sized;
                     within = omega (arith, letter-inside);
                     is = rw add-one (letter-next x (c .at) (r .at-is .sized) letter-inside k (r .at-is .is) (rw l tt));
-                    clean = clean-more x (c .at) (r .at-is .clean) (letter-faultless x (c .at) faults (omega (arith, long)) (omega (arith, names-many)) (omega (arith, nodes-many)) (twice-missed x (c .at) n));
+                    clean =
+                        clean-more x (c .at) (r .at-is .clean)
+                        (letter-faultless x (c .at) faults (omega (arith, long)) (omega (arith, names-many)) (omega (arith, nodes-many)) (twice-missed x (c .at) n));
                     names = rw (add-one, named-here, r .at-is .names);
                   }
 
@@ -230,7 +241,9 @@ module _ (x : Text) (work names : List ℕ) (c : Cursor) (k : List Frame) (r : E
                     on = omega arith;
                     name = getD x (c .at) 0 ∷ nameFrom x (c .at + 1);
                     spots = r .spots ++ (c .at ∷ []);
-                    at-is = rw e (run-front isInner (λ ds. at k (naming ds)) (λ ds d i. cond-true (isInner d) _ _ i) (λ ds. (tt, (refl, refl))) x (r .spots ++ (c .at ∷ [])) (drop (c .at + 1) x) (c .at + 1) (getD x (c .at) 0 ∷ []) refl letter-read);
+                    at-is =
+                        rw e
+                        (run-front isInner (λ ds. at k (naming ds)) (λ ds d i. cond-true (isInner d) _ _ i) (λ ds. (tt, (refl, refl))) x (r .spots ++ (c .at ∷ [])) (drop (c .at + 1) x) (c .at + 1) (getD x (c .at) 0 ∷ []) refl letter-read);
                     over = rw e (front-over isInner x (c .at + 1) refl);
                     few = b;
                     few-names = a;
@@ -250,7 +263,8 @@ module _ (x : Text) (work names : List ℕ) (c : Cursor) (k : List Frame) (r : E
                   rw (u, v)
 
               -- the whole atom
-              pub atom-member : (work′ : List ℕ) (g : Got) → AtomRead x work′ c end (stackOf (here x end)) g → Member x work′ (set names (c .names) (c .at * 256 + (end - c .at))) (c .at) k g
+              pub atom-member : (work′ : List ℕ) (g : Got) → AtomRead x work′ c end (stackOf (here x end)) g
+                  → Member x work′ (set names (c .names) (c .at * 256 + (end - c .at))) (c .at) k g
               unfolding word-is name-read name-stack
               atom-member work′ (Faulty f q) t = t
               atom-member work′ (Past d) t′ =

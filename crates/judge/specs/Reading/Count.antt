@@ -39,9 +39,27 @@ use Rattle.judge.specs.Reading.Lexeme.{digits, numeralAt, onwardAt, betw
 use Rattle.judge.specs.Reading.Lexeme.Laws.{stands-inside, above-of}
 use Rattle.judge.specs.Reading.At.{At, Quiet, next, step-on, bad, run-front, front-over}
 
--- a number, from a state r whose followers s hold the digits
-module _ (r : State) (s : Text → State) (first : (d : ℕ) → T (isDigit d) → step r d ≡ s (d ∷ []))
-    (grow : (ds : Text) (d : ℕ) → T (isDigit d && grows ds) → step (s ds) d ≡ s (ds ++ (d ∷ []))) (waits : isExpect r ≡ false) (quiet : (ds : Text) → Quiet (s ds)) (x : Text) (l : List ℕ) (p : ℕ) (a : At x l p r) where
+-- the state r takes a first digit, and the states s that hold digits take more, as numerals go
+pub record Takes (r : State) (s : Text → State) : Type 0 where
+  pub first : (d : ℕ) → T (isDigit d) → step r d ≡ s (d ∷ [])
+  pub grow : (ds : Text) (d : ℕ) → T (isDigit d && grows ds) → step (s ds) d ≡ s (ds ++ (d ∷ []))
+  pub waits : isExpect r ≡ false
+  pub quiet : (ds : Text) → Quiet (s ds)
+
+low-takes : (k : List Frame) (n : Text) → Takes (at k (counting n (low []))) (λ ds. at k (counting n (low ds)))
+low-takes k n =
+    record {
+      first = λ d i. cond-true (isDigit d && true) _ _ (yes-and (isDigit d) true i tt);
+      grow = λ ds d i. cond-true (isDigit d && grows ds) _ _ i;
+      waits = refl;
+      quiet = λ ds. (tt, (refl, refl));
+    }
+
+high-takes : (k : List Frame) (n t : Text) → Takes (at k (counting n (dots t))) (λ ds. at k (counting n (high t ds)))
+high-takes k n t =
+    record { first = λ d i. cond-true (isDigit d) _ _ i; grow = λ ds d i. cond-true (isDigit d && grows ds) _ _ i; waits = refl; quiet = λ ds. (tt, (refl, refl)) }
+
+module _ {r : State} {s : Text → State} (k : Takes r s) {x : Text} {l : List ℕ} {p : ℕ} (a : At x l p r) where
   -- the digits are read, and the byte behind them is none of theirs
   pub record Digits (v q : ℕ) : Type 0 where
     pub text : Text
@@ -59,17 +77,19 @@ module _ (r : State) (s : Text → State) (first : (d : ℕ) → T (isDigit d) �
   unfolding numeralAt
   numeral-read = by-test (isDigit (getD x p 0)) (λ t. digit t (byte-inside isDigit x p tt (rw t tt))) (λ n. rw n (refl, n))
     where
-      made : (y : Text) → isDigit (getD x p 0) ≡ true → digits (drop p x) ≡ y → Digits (capped (value y)) (p + length y) → NumeralRead (cond (isDigit (getD x p 0)) (Value (capped (value (digits (drop p x)))) (p + length (digits (drop p x)))) (NoNumeral p))
+      made : (y : Text) → isDigit (getD x p 0) ≡ true → digits (drop p x) ≡ y → Digits (capped (value y)) (p + length y)
+          → NumeralRead (cond (isDigit (getD x p 0)) (Value (capped (value (digits (drop p x)))) (p + length (digits (drop p x)))) (NoNumeral p))
       made y t e d = rw (t, e) d
 
-      digit : isDigit (getD x p 0) ≡ true → p < length x → NumeralRead (cond (isDigit (getD x p 0)) (Value (capped (value (digits (drop p x)))) (p + length (digits (drop p x)))) (NoNumeral p))
+      digit : isDigit (getD x p 0) ≡ true → p < length x
+          → NumeralRead (cond (isDigit (getD x p 0)) (Value (capped (value (digits (drop p x)))) (p + length (digits (drop p x)))) (NoNumeral p))
       digit t h =
-          let b : At x l (p + 1) (s (getD x p 0 ∷ [])) = step-on x l p r a (s (getD x p 0 ∷ [])) h (first (getD x p 0) (rw t tt)) waits (quiet (getD x p 0 ∷ []) .0) (quiet (getD x p 0 ∷ []) .1 .1) in
+          let b : At x l (p + 1) (s (getD x p 0 ∷ [])) = step-on a h (k .first (getD x p 0) (rw t tt)) (k .waits) (k .quiet (getD x p 0 ∷ []) .0) (k .quiet (getD x p 0 ∷ []) .1 .1) in
           by-test (eqb (getD x p 0) (code "0"))
           (λ z. made (getD x p 0 ∷ []) t (rw (drop-cons x p 0 h, t, z)) (record { text = getD x p 0 ∷ []; on = omega arith; number = refl; some = (getD x p 0, [], refl); at-is = b; over = rw (z, and-false) }))
           (λ z.
           let g : At x l (p + 1 + length (front isDigit (drop (p + 1) x))) (s (getD x p 0 ∷ front isDigit (drop (p + 1) x))) =
-          run-front isDigit (λ ds. s (getD x p 0 ∷ ds)) (λ ds d i. grow (getD x p 0 ∷ ds) d (rw (T-true (isDigit d) i, z) tt)) (λ ds. quiet (getD x p 0 ∷ ds)) x l (drop (p + 1) x) (p + 1) [] refl b
+          run-front isDigit (λ ds. s (getD x p 0 ∷ ds)) (λ ds d i. k .grow (getD x p 0 ∷ ds) d (rw (T-true (isDigit d) i, z) tt)) (λ ds. k .quiet (getD x p 0 ∷ ds)) x l (drop (p + 1) x) (p + 1) [] refl b
           in
           let o : isDigit (getD x (p + 1 + length (front isDigit (drop (p + 1) x))) 0) ≡ false = front-over isDigit x (p + 1) refl in
           let q : p + length (getD x p 0 ∷ front isDigit (drop (p + 1) x)) ≡ p + 1 + length (front isDigit (drop (p + 1) x)) = omega arith in
@@ -104,17 +124,18 @@ module _ (x : Text) (l : List ℕ) (k : List Frame) (n : Text) (p : ℕ) (a : At
   CountRead (Wrong q) = Answers x (refused WrongCount q)
 
   -- at the `]`
-  module _ (c : Count) (w : behindAtom n c ≡ after (marked Plain (atom n c))) (q : ℕ) (s : State) (b : At x l q s) (o : p < q) (e : isExpect s ≡ false) (h : q < length x) (g : step s (getD x q 0) ≡ at k (after (marked Plain (atom n c)))) where
+  module _ (c : Count) (w : behindAtom n c ≡ after (marked Plain (atom n c))) (q : ℕ) (s : State) (b : At x l q s) (o : p < q) (e : isExpect s ≡ false)
+      (h : q < length x) (g : step s (getD x q 0) ≡ at k (after (marked Plain (atom n c)))) where
     wrong-count : wrong c ≡ true → Answers x (refused WrongCount q)
-    wrong-count t = wrong-answers x q (b .sized) (b .clean) h (ap isExpect (b .is) ∙ e) (rw (next x l q s b h ∙ g, t) tt)
+    wrong-count t = wrong-answers x q (b .sized) (b .clean) h (ap isExpect (b .is) ∙ e) (rw (next b h ∙ g, t) tt)
 
     right-count : (m : ℕ) (u : Upper) → countsOf c ≡ record { min = m; max = u } → wrong c ≡ false → CountDone m u (q + 1)
-    right-count m u i f = record { count = c; counts-are = i; written = w; on = omega arith; at-is = step-on x l q s b (at k (after (marked Plain (atom n c)))) h g e tt f }
+    right-count m u i f = record { count = c; counts-are = i; written = w; on = omega arith; at-is = step-on b h g e tt f }
 
   -- behind [m..*
   onward-read : (t : Text) (m q : ℕ) → m ≡ capped (value t) → p < q → At x l q (at k (counting n (star t))) → CountRead (onwardAt x q m)
   unfolding onwardAt
-  onward-read t m q i o b = by-test (is x (code "]") q) closed (λ f. rw f (bad x l q (at k (counting n (star t))) b tt (rw f) (in-count k n (star t))))
+  onward-read t m q i o b = by-test (is x (code "]") q) closed (λ f. rw f (bad b tt (rw f) (in-count k n (star t))))
     where
       closed : is x (code "]") q ≡ true → CountRead (cond (is x (code "]") q) (cond (ltb maxCount m) (Wrong q) (Counts m Unbounded (q + 1))) (Bad q))
       closed e =
@@ -129,10 +150,12 @@ module _ (x : Text) (l : List ℕ) (k : List Frame) (n : Text) (p : ℕ) (a : At
 
   -- behind [m..n
   between-read : (t : Text) (m q : ℕ) → m ≡ capped (value t) → p < q → (b : At x l q (at k (counting n (dots t)))) → (is x (code "*") q ≡ false)
-      → (o : Numeral) → NumeralRead (at k (counting n (dots t))) (λ ds. at k (counting n (high t ds))) (λ d i. cond-true (isDigit d) _ _ i) (λ ds d i. cond-true (isDigit d && grows ds) _ _ i) refl (λ ds. (tt, (refl, refl))) x l q b o → CountRead (betweenAt x o m)
+      → (o : Numeral) → NumeralRead (high-takes k n t) b o → CountRead (betweenAt x o m)
   unfolding betweenAt
-  between-read t m q i o b z (NoNumeral r) (e, f) = rw e (bad x l q (at k (counting n (dots t))) b tt (rw (f, z)) (in-count k n (dots t)))
-  between-read t m q i o b z (Value v r) d = by-test (is x (code "]") r) closed (λ f. rw f (bad x l r (at k (counting n (high t (d .text)))) (d .at-is) tt (rw (d .over, f)) (in-count k n (high t (d .text)))))
+  between-read t m q i o b z (NoNumeral r) (e, f) = rw e (bad b tt (rw (f, z)) (in-count k n (dots t)))
+  between-read t m q i o b z (Value v r) d =
+      by-test (is x (code "]") r) closed
+      (λ f. rw f (bad (d .at-is) tt (rw (d .over, f)) (in-count k n (high t (d .text)))))
     where
       closed : is x (code "]") r ≡ true → CountRead (cond (is x (code "]") r) (cond (eqb v 0 || ltb v m || ltb maxCount v) (Wrong r) (Counts m (Number v) (r + 1))) (Bad r))
       closed e =
@@ -149,10 +172,11 @@ module _ (x : Text) (l : List ℕ) (k : List Frame) (n : Text) (p : ℕ) (a : At
 
   -- behind [m
   bounded-read : (b : At x l (p + 1) (at k (counting n (low []))))
-      → (o : Numeral) → NumeralRead (at k (counting n (low []))) (λ ds. at k (counting n (low ds))) (λ d i. cond-true (isDigit d && true) _ _ (yes-and (isDigit d) true i tt)) (λ ds d i. cond-true (isDigit d && grows ds) _ _ i) refl (λ ds. (tt, (refl, refl))) x l (p + 1) b o → CountRead (boundedAt x o)
+      → (o : Numeral) → NumeralRead (low-takes k n) b o → CountRead (boundedAt x o)
   unfolding boundedAt
-  bounded-read b (NoNumeral q) (e, f) = rw e (bad x l (p + 1) (at k (counting n (low []))) b tt (rw (f, and-false)) (in-count k n (low [])))
-  bounded-read b (Value m q) d = by-test (is x (code ".") q) one (λ f. rw f (bad x l q (at k (counting n (low (d .text)))) (d .at-is) tt (rw (d .over, f)) (in-count k n (low (d .text)))))
+  bounded-read b (NoNumeral q) (e, f) = rw e (bad b tt (rw (f, and-false)) (in-count k n (low [])))
+  bounded-read b (Value m q) d =
+      by-test (is x (code ".") q) one (λ f. rw f (bad (d .at-is) tt (rw (d .over, f)) (in-count k n (low (d .text)))))
     where
       o : p < q
       o = omega (arith, d .on)
@@ -160,21 +184,22 @@ module _ (x : Text) (l : List ℕ) (k : List Frame) (n : Text) (p : ℕ) (a : At
       some : some-digit (d .text) ≡ true
       some = rw (d .some .2)
 
-      one : is x (code ".") q ≡ true → CountRead (cond (is x (code ".") q) (cond (is x (code ".") (q + 1)) (cond (is x (code "*") (q + 2)) (onwardAt x (q + 3) m) (betweenAt x (numeralAt x (q + 2)) m)) (Bad (q + 1))) (Bad q))
+      one : is x (code ".") q ≡ true
+          → CountRead (cond (is x (code ".") q) (cond (is x (code ".") (q + 1)) (cond (is x (code "*") (q + 2)) (onwardAt x (q + 3) m) (betweenAt x (numeralAt x (q + 2)) m)) (Bad (q + 1))) (Bad q))
       one e =
-          let b₁ : At x l (q + 1) (at k (counting n (dot (d .text)))) = step-on x l q _ (d .at-is) (at k (counting n (dot (d .text)))) (stands-inside x (code ".") q (omega arith) e) (rw (d .over, e, some)) refl tt refl in
+          let b₁ : At x l (q + 1) (at k (counting n (dot (d .text)))) = step-on (d .at-is) (stands-inside x (code ".") q (omega arith) e) (rw (d .over, e, some)) refl tt refl in
           by-test (is x (code ".") (q + 1))
           (λ f.
-          let b₂ : At x l (q + 2) (at k (counting n (dots (d .text)))) = subst (λ (r : ℕ). At x l r (at k (counting n (dots (d .text))))) (omega arith) (step-on x l (q + 1) _ b₁ (at k (counting n (dots (d .text)))) (stands-inside x (code ".") (q + 1) (omega arith) f) (rw f) refl tt refl) in
+          let b₂ : At x l (q + 2) (at k (counting n (dots (d .text)))) = subst (λ (r : ℕ). At x l r (at k (counting n (dots (d .text))))) (omega arith) (step-on b₁ (stands-inside x (code ".") (q + 1) (omega arith) f) (rw f) refl tt refl) in
           by-test (is x (code "*") (q + 2))
           (λ g.
-          let b₃ : At x l (q + 3) (at k (counting n (star (d .text)))) = subst (λ (r : ℕ). At x l r (at k (counting n (star (d .text))))) (omega arith) (step-on x l (q + 2) _ b₂ (at k (counting n (star (d .text)))) (stands-inside x (code "*") (q + 2) (omega arith) g) (rw (eqb-true (getD x (q + 2) 0) (code "*") g)) refl tt refl) in
+          let b₃ : At x l (q + 3) (at k (counting n (star (d .text)))) = subst (λ (r : ℕ). At x l r (at k (counting n (star (d .text))))) (omega arith) (step-on b₂ (stands-inside x (code "*") (q + 2) (omega arith) g) (rw (eqb-true (getD x (q + 2) 0) (code "*") g)) refl tt refl) in
           rw (e, f, g) (onward-read (d .text) m (q + 3) (d .number) (omega arith) b₃))
-          (λ g. rw (e, f, g) (between-read (d .text) m (q + 2) (d .number) (omega arith) b₂ g (numeralAt x (q + 2)) (numeral-read _ (λ ds. at k (counting n (high (d .text) ds))) (λ d i. cond-true (isDigit d) _ _ i) (λ ds d i. cond-true (isDigit d && grows ds) _ _ i) refl (λ ds. (tt, (refl, refl))) x l (q + 2) b₂))))
-          (λ f. rw (e, f) (bad x l (q + 1) (at k (counting n (dot (d .text)))) b₁ tt (rw f) (in-count k n (dot (d .text)))))
+          (λ g. rw (e, f, g) (between-read (d .text) m (q + 2) (d .number) (omega arith) b₂ g (numeralAt x (q + 2)) (numeral-read (high-takes k n (d .text)) b₂))))
+          (λ f. rw (e, f) (bad b₁ tt (rw f) (in-count k n (dot (d .text)))))
 
   pub count-read : is x (code "[") p ≡ true → CountRead (countAt x p)
   unfolding countAt
   count-read e =
-      let b : At x l (p + 1) (at k (counting n (low []))) = step-on x l p _ a (at k (counting n (low []))) (stands-inside x (code "[") p (omega arith) e) (rw (eqb-true (getD x p 0) (code "[") e)) refl tt refl in
-      bounded-read b (numeralAt x (p + 1)) (numeral-read _ (λ ds. at k (counting n (low ds))) (λ d i. cond-true (isDigit d && true) _ _ (yes-and (isDigit d) true i tt)) (λ ds d i. cond-true (isDigit d && grows ds) _ _ i) refl (λ ds. (tt, (refl, refl))) x l (p + 1) b)
+      let b : At x l (p + 1) (at k (counting n (low []))) = step-on a (stands-inside x (code "[") p (omega arith) e) (rw (eqb-true (getD x p 0) (code "[") e)) refl tt refl in
+      bounded-read b (numeralAt x (p + 1)) (numeral-read (low-takes k n) b)

@@ -50,13 +50,13 @@ expecting (f ∷ k) = refl
 abbrev pub inside : Cursor → Cursor
 inside c = record { at = c .at + 1; nodes = c .nodes + 1; names = c .names }
 
-module _ (x : Text) (work names : List ℕ) (c : Cursor) (left : ℕ) (k : List Frame) (r : Ready x work names c left k) where
+module _ {x : Text} {work names : List ℕ} {c : Cursor} {left : ℕ} {k : List Frame} (r : Ready x work names c left k) where
   pub member-stops : c .at ≡ length x → Answers x (refused Misspelling (c .at))
-  member-stops e = bad x (r .expecting .spots) (c .at) (at k expect) (r .expecting .at-is) tt (rw (List·getD-eq-default x 0 {n = c .at} (omega arith))) (expecting k)
+  member-stops e = bad (r .expecting .at-is) tt (rw (List·getD-eq-default x 0 {n = c .at} (omega arith))) (expecting k)
 
   -- no letter and no bracket
   pub member-bad : isLetter (getD x (c .at) 0) ≡ false → (getD x (c .at) 0 ≡ code "(" → ⊥) → Answers x (refused Misspelling (c .at))
-  member-bad l o = bad x (r .expecting .spots) (c .at) (at k expect) (r .expecting .at-is) tt dies (expecting k)
+  member-bad l o = bad (r .expecting .at-is) tt dies (expecting k)
     where
       dies : step (at k expect) (getD x (c .at) 0) ≡ dead
       dies = by-test (is x (code ")") (c .at)) (λ e. rw (l, ne-eqb (getD x (c .at) 0) (code "(") o, e) (r .no-end e)) (λ e. rw (l, ne-eqb (getD x (c .at) 0) (code "(") o, e))
@@ -83,7 +83,7 @@ module _ (x : Text) (work names : List ℕ) (c : Cursor) (left : ℕ) (k : List 
     module _ (z : left ≡ 0 → ⊥) where
       pub many-groups : c .nodes ≡ maxNodes → Answers x (refused ManyNodes (c .at))
       unfolding faults
-      many-groups e = found-by x (c .at) (BracketFault x (c .at) (length k)) faults (r .expecting .at-is .clean) ManyNodes (omega (arith, nodes-many x work names c k (r .expecting))) go
+      many-groups e = found-by x (c .at) (BracketFault x (c .at) (length k)) faults (r .expecting .at-is .clean) ManyNodes (omega (arith, nodes-many (r .expecting))) go
         where
           go : (g : ModelFault) → modelNumber g < modelNumber ManyNodes → BracketFault x (c .at) (length k) g → ⊥
           go Size i f = f
@@ -103,7 +103,9 @@ module _ (x : Text) (work names : List ℕ) (c : Cursor) (left : ℕ) (k : List 
               sized = r .expecting .at-is .sized;
               within = omega arith;
               is = rw add-one (bracket-next x (c .at) (r .expecting .at-is .sized) h k (r .expecting .at-is .is) o);
-              clean = clean-more x (c .at) (r .expecting .at-is .clean) (bracket-faultless x (c .at) (length k) faults (omega (arith, r .room)) (omega (arith, nodes-many x work names c k (r .expecting))));
+              clean =
+                  clean-more x (c .at) (r .expecting .at-is .clean)
+                  (bracket-faultless x (c .at) (length k) faults (omega (arith, r .room)) (omega (arith, nodes-many (r .expecting))));
               names = rw (add-one, o, and-false) (r .expecting .at-is .names);
             }
 
@@ -117,7 +119,9 @@ module _ (x : Text) (work names : List ℕ) (c : Cursor) (left : ℕ) (k : List 
             rw inside-stack
             (record {
               top = opened;
-              expecting = record { spots = r .expecting .spots; at-is = opens; held = holds-more nodeOf 128 work (c .nodes) (stackNodes k) (r .expecting .held) 0 unused m refl; named = r .expecting .named };
+              expecting =
+                  record
+                  { spots = r .expecting .spots; at-is = opens; held = holds-more nodeOf 128 work (c .nodes) (stackNodes k) (r .expecting .held) 0 unused m refl; named = r .expecting .named };
               signs = refl;
               sizes = refl;
               node-is = sym (holds-count nodeOf 128 work (c .nodes) (stackNodes k) (r .expecting .held));
@@ -125,7 +129,7 @@ module _ (x : Text) (work names : List ℕ) (c : Cursor) (left : ℕ) (k : List 
             })
 
         -- the group was read: its mark is left
-        module _ (work₁ names′ : List ℕ) (g : Got) (y : GroupRead x work₁ names′ (c .at + 1) (tail (stackOf (here x (c .at + 1)))) g) (d : Cursor) (u : g ≡ Past d) where
+        module _ (work₁ names′ : List ℕ) {g : Got} {d : Cursor} (y : GroupRead x work₁ names′ (c .at + 1) (tail (stackOf (here x (c .at + 1)))) g) (u : g ≡ Past d) where
           closed : Closed x work₁ names′ (c .at + 1) k d
           unfolding inside-stack
           closed = let v : Closed x work₁ names′ (c .at + 1) (tail (stackOf (here x (c .at + 1)))) d = rw u at y in rw inside-stack at v
@@ -134,15 +138,18 @@ module _ (x : Text) (work names : List ℕ) (c : Cursor) (left : ℕ) (k : List 
           unfolding closed
           closed-fits = closed .at-is .within
 
-          pub group-member : (work₂ : List ℕ) (e : Cursor) → Marking x work₁ work₂ d (c .nodes) e → Member x work₂ names′ (c .at) k (Past e)
+          pub group-member : {work₂ : List ℕ} {e : Cursor} → Marking x work₁ work₂ d (c .nodes) e → Member x work₂ names′ (c .at) k (Past e)
           unfolding closed
-          group-member work₂ e q =
+          group-member q =
               let n : c .nodes ≡ length (stackNodes k) = sym (holds-count nodeOf 128 work (c .nodes) (stackNodes k) (r .expecting .held)) in
               let b : c .at < d .at = omega (arith, closed .on) in
               record {
                 spots = closed .spots;
-                read = mark-read x work₁ (closed .spots) (c .at) (c .nodes) k (group (closed .sign) (closed .members)) d b (closed .at-is) refl (closed .held) n work₂ e q;
-                named = rw (mark-names x work₁ (closed .spots) (c .at) (c .nodes) k (group (closed .sign) (closed .members)) d b (closed .at-is) refl (closed .held) n work₂ e q) (closed .named);
+                read = mark-read x work₁ (closed .spots) (c .at) (c .nodes) k (group (closed .sign) (closed .members)) d b (closed .at-is) refl (closed .held) n q;
+                named =
+                    rw
+                    (mark-names x work₁ (closed .spots) (c .at) (c .nodes) k (group (closed .sign) (closed .members)) d b (closed .at-is) refl (closed .held) n q)
+                    (closed .named);
               }
 
 -- signs and their bytes
@@ -206,7 +213,8 @@ unfolding closedMembers
 close-ends opened k t = refl
 close-ends (signed o u ts) k t = rw (sign-by o)
 
-closed-nodes : (f : Frame) (t : Syntax) → treeNodes (marked Plain (group (signBy (frameSign f)) (closedMembers f t))) ≡ plain (Group (signBy (frameSign f)) (frameSize f + 1)) ∷ (behindBracket f ++ treeNodes t)
+closed-nodes : (f : Frame) (t : Syntax)
+    → treeNodes (marked Plain (group (signBy (frameSign f)) (closedMembers f t))) ≡ plain (Group (signBy (frameSign f)) (frameSize f + 1)) ∷ (behindBracket f ++ treeNodes t)
 unfolding closedMembers
 closed-nodes opened t = rw (append-nil (treeNodes t))
 closed-nodes (signed o u ts) t =
@@ -255,8 +263,8 @@ close-bad opened k t b e j =
     no-true false h = refl
 close-bad (signed o u ts) k t b e j = rw (e, sym (joins-by o b) ∙ j)
 
--- READING ON IN A GROUP
-module _ (x : Text) (work names : List ℕ) (c : Cursor) (left node sign members : ℕ) (i : Inside x work names c left node sign members (tail (stackOf (here x (c .at))))) where
+-- reading on in a group
+module _ {x : Text} {work names : List ℕ} {c : Cursor} {left node sign members : ℕ} (i : Inside x work names c left node sign members (tail (stackOf (here x (c .at))))) where
   abbrev below : List Frame
   below = tail (stackOf (here x (c .at)))
 
@@ -291,7 +299,7 @@ module _ (x : Text) (work names : List ℕ) (c : Cursor) (left node sign members
       go opened r q =
           let h : c .at < length x = stands-inside x (code ")") (c .at) (omega arith) e in
           let b : getD x (c .at) 0 ≡ code ")" = eqb-true (getD x (c .at) 0) (code ")") e in
-          let s : here x (suc (c .at)) ≡ at below (after (marked Plain (group None none))) = next x (r .spots) (c .at) (at (opened ∷ below) expect) (r .at-is) h ∙ rw b in
+          let s : here x (suc (c .at)) ≡ at below (after (marked Plain (group None none))) = next (r .at-is) h ∙ rw b in
           record {
             spots = r .spots;
             on = omega arith;
@@ -317,7 +325,7 @@ module _ (x : Text) (work names : List ℕ) (c : Cursor) (left node sign members
       shuts (signed o u ts) q e = refl
 
   -- behind a member
-  module _ (work′ names′ : List ℕ) (g : Got) (y : Member x work′ names′ (c .at) (stackOf (here x (c .at))) g) (d : Cursor) (u : g ≡ Past d) where
+  module _ (work′ names′ : List ℕ) {g : Got} {d : Cursor} (y : Member x work′ names′ (c .at) (stackOf (here x (c .at))) g) (u : g ≡ Past d) where
     m : Behind x work′ names′ (c .at) (stackOf (here x (c .at))) d
     m = rw u at y
 
@@ -333,7 +341,7 @@ module _ (x : Text) (work names : List ℕ) (c : Cursor) (left node sign members
     unfolding read
     group-stops e =
         let z : getD x (d .at) 0 ≡ 0 = List·getD-eq-default x 0 {n = d .at} (omega arith) in
-        bad x (m .spots) (d .at) (at (i .top ∷ below) (behind (read .tree))) (read .at-is) tt (read .settled ∙ rw z (close-bad (i .top) below (read .tree) 0 refl (none-joins (i .top)))) refl
+        bad (read .at-is) tt (read .settled ∙ rw z (close-bad (i .top) below (read .tree) 0 refl (none-joins (i .top)))) refl
       where
         none-joins : (f : Frame) → joins (frameSign f) 0 ≡ false
         none-joins opened = refl
@@ -350,7 +358,8 @@ module _ (x : Text) (work names : List ℕ) (c : Cursor) (left node sign members
       unfolding read
       past-inside = omega (arith, read .at-is .within)
 
-      pub group-ends : getD x (d .at) 0 ≡ code ")" → (w : ℕ) → nodeOf w ≡ plain (Group (signBy sign) (members + 1)) → Closed x (set work′ node w) names′ (c .at) below (record { at = d .at + 1; nodes = d .nodes; names = d .names })
+      pub group-ends : getD x (d .at) 0 ≡ code ")" → (w : ℕ) → nodeOf w ≡ plain (Group (signBy sign) (members + 1))
+          → Closed x (set work′ node w) names′ (c .at) below (record { at = d .at + 1; nodes = d .nodes; names = d .names })
       unfolding read nodes-held past-inside m
       group-ends b w q =
           let s : step (at (i .top ∷ below) (behind (read .tree))) (getD x (d .at) 0) ≡ at below (after (marked Plain (group (signBy (frameSign (i .top))) (closedMembers (i .top) (read .tree))))) = read .settled ∙ rw b (close-ends (i .top) below (read .tree)) in
@@ -359,15 +368,19 @@ module _ (x : Text) (work names : List ℕ) (c : Cursor) (left node sign members
             on = omega (arith, read .on);
             sign = signBy (frameSign (i .top));
             members = closedMembers (i .top) (read .tree);
-            at-is = step-on x (m .spots) (d .at) _ (read .at-is) _ past-inside s (not-expecting (i .top ∷ below) (read .tree)) tt refl;
-            held = rw (closed-nodes (i .top) (read .tree)) (holds-set nodeOf 128 work′ (d .nodes) (stackNodes below) (behindBracket (i .top) ++ treeNodes (read .tree)) unused nodes-held node (i .node-is) w (plain (Group (signBy (frameSign (i .top))) (frameSize (i .top) + 1))) (rw (i .signs, i .sizes) q));
+            at-is = step-on (read .at-is) past-inside s (not-expecting (i .top ∷ below) (read .tree)) tt refl;
+            held =
+                rw (closed-nodes (i .top) (read .tree))
+                (holds-set nodeOf 128 work′ (d .nodes) (stackNodes below) (behindBracket (i .top) ++ treeNodes (read .tree)) unused nodes-held node (i .node-is) w (plain (Group (signBy (frameSign (i .top))) (frameSize (i .top) + 1))) (rw (i .signs, i .sizes) q));
             named = m .named;
           }
 
       module _ (b : getD x (d .at) 0 ≡ code ")" → ⊥) where
         pub group-bad : joins sign (getD x (d .at) 0) ≡ false → Answers x (refused Misspelling (d .at))
         unfolding read
-        group-bad j = bad x (m .spots) (d .at) (at (i .top ∷ below) (behind (read .tree))) (read .at-is) tt (read .settled ∙ close-bad (i .top) below (read .tree) (getD x (d .at) 0) (ne-eqb (getD x (d .at) 0) (code ")") b) (rw (i .signs) j)) refl
+        group-bad j =
+            bad (read .at-is) tt
+            (read .settled ∙ close-bad (i .top) below (read .tree) (getD x (d .at) 0) (ne-eqb (getD x (d .at) 0) (code ")") b) (rw (i .signs) j)) refl
 
         module _ (j : joins sign (getD x (d .at) 0) ≡ true) where
           grown : Grown (i .top) below (read .tree) (getD x (d .at) 0)
@@ -375,7 +388,9 @@ module _ (x : Text) (work names : List ℕ) (c : Cursor) (left node sign members
 
           parts : At x (m .spots) (d .at + 1) (at (grown .top ∷ below) expect)
           unfolding read grown past-inside m
-          parts = step-on x (m .spots) (d .at) _ (read .at-is) (at (grown .top ∷ below) expect) past-inside (read .settled ∙ grown .is) (not-expecting (i .top ∷ below) (read .tree)) tt refl
+          parts =
+              step-on (read .at-is) past-inside (read .settled ∙ grown .is)
+              (not-expecting (i .top ∷ below) (read .tree)) tt refl
 
           pub same-group : tail (stackOf (here x (d .at + 1))) ≡ below
           unfolding parts

@@ -50,7 +50,8 @@ module _ (t : Syntax) (f : Formed SpellingFormed t) where
   first-names zero = refl
   first-names (suc p) = by-test (nameAt (text t) p) (λ e. one e (first-names p)) (λ e. rw e (first-names p))
     where
-      one : nameAt (text t) p ≡ true → map (nameFrom (text t)) (places (text t) p) ≡ take (tally (nameAt (text t)) p) (names t) → map (nameFrom (text t)) (places (text t) (suc p)) ≡ take (tally (nameAt (text t)) (suc p)) (names t)
+      one : nameAt (text t) p ≡ true → map (nameFrom (text t)) (places (text t) p) ≡ take (tally (nameAt (text t)) p) (names t)
+          → map (nameFrom (text t)) (places (text t) (suc p)) ≡ take (tally (nameAt (text t)) (suc p)) (names t)
       one e h =
           let n = name-at t f p (rw e tt) in
           rw (e, map-append, h, take-suc (names t) (tally (nameAt (text t)) p) [] (n .0), n .1)
@@ -110,7 +111,9 @@ module _ (x : Text) (e : reading x .outcome ≡ Read) where
 
   pub read-distinct : (i j : ℕ) → i < j → j < reading x .names .len → getD (partsOf x (reading x .names)) i [] ≡ getD (partsOf x (reading x .names)) j [] → ⊥
   unfolding tree answers
-  read-distinct = subst Distinct (sym (accepted-reading x tree answers)) (λ i j h k q. accepted-within x tree answers .apart i j h (rw many at k) (rw (names-are x tree answers) at q))
+  read-distinct =
+      subst Distinct (sym (accepted-reading x tree answers))
+      (λ i j h k q. accepted-within x tree answers .apart i j h (rw many at k) (rw (names-are x tree answers) at q))
     where
       Distinct : Reading → Type 0
       Distinct r = (i j : ℕ) → i < j → j < r .names .len → getD (partsOf x (r .names)) i [] ≡ getD (partsOf x (r .names)) j [] → ⊥

@@ -80,7 +80,7 @@ pub name-part : (x : Text) (p n : ℕ) → n ≡ length (nameFrom x p) → take 
 name-part x p n e = rw e (front-take isInner (drop p x))
 
 -- a turn of the search
-module _ (x : Text) (names : List ℕ) (n start end : ℕ) (c : Comparable x names n start end) where
+module _ {x : Text} {names : List ℕ} {n start end : ℕ} (c : Comparable x names n start end) where
   pub many : length (places x start) ≡ n
   many = sym (images-long placeOf (namePlace x) (take n names) (places x start) (c .held)) ∙ length-take n names ∙ omega (arith, c .few, c .whole)
 
@@ -90,7 +90,9 @@ module _ (x : Text) (names : List ℕ) (n start end : ℕ) (c : Comparable x nam
 
     place-is : placeOf (getD names i 0) ≡ namePlace x earlier
     unfolding earlier
-    place-is = subst (λ (w : ℕ). placeOf w ≡ namePlace x (getD (places x start) i 0)) (getD-take n names i 0 h) (images placeOf (namePlace x) (take n names) (places x start) (c .held) i 0 0 (rw length-take (omega (arith, c .few, c .whole))))
+    place-is =
+        subst (λ (w : ℕ). placeOf w ≡ namePlace x (getD (places x start) i 0)) (getD-take n names i 0 h)
+        (images placeOf (namePlace x) (take n names) (places x start) (c .held) i 0 0 (rw length-take (omega (arith, c .few, c .whole))))
 
     pub from-is : getD names i 0 / 256 % 65536 ≡ earlier
     unfolding placeOf place-is

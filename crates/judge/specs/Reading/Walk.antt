@@ -39,7 +39,8 @@ joins sign b = cond (eqb sign 0) (eqb b (code ",") || eqb b (code "|") || eqb b 
 
 -- what the mark behind node i makes of the cursor and of the numbers of nodes
 pub data Marking (x : Text) (work work′ : List ℕ) (c : Cursor) (i : ℕ) (r : Cursor) : Type 0 where
-  with-mark : (w : ℕ) → is x (code "?") (c .at) ≡ true → r ≡ record { at = c .at + 1; nodes = c .nodes; names = c .names } → nodeOf w ≡ optional (nodeOf (getD work i 0)) → work′ ≡ set work i w → Marking x work work′ c i r
+  with-mark : (w : ℕ) → is x (code "?") (c .at) ≡ true → r ≡ record { at = c .at + 1; nodes = c .nodes; names = c .names }
+      → nodeOf w ≡ optional (nodeOf (getD work i 0)) → work′ ≡ set work i w → Marking x work work′ c i r
   without : is x (code "?") (c .at) ≡ false → r ≡ c → work′ ≡ work → Marking x work work′ c i r
 
 -- the nodes of a tree, and of the groups that are open: each is written as `()` until it closes
@@ -130,11 +131,13 @@ pub record Inside (x : Text) (work names : List ℕ) (c : Cursor) (left node sig
   pub room : length k + 1 + left ≡ 16
 
 -- a fault goes through
-pub member-fault : (x : Text) (work names : List ℕ) (p : ℕ) (k : List Frame) (g : Got) (f : ModelFault) (q : ℕ) → Member x work names p k g → g ≡ Faulty f q → Answers x (refused f q)
-member-fault x work names p k g f q m e = rw e at m
+pub member-fault : (x : Text) (work names : List ℕ) (p : ℕ) (k : List Frame) {g : Got} {f : ModelFault} {q : ℕ} → Member x work names p k g → g ≡ Faulty f q
+    → Answers x (refused f q)
+member-fault x work names p k m e = rw e at m
 
-pub group-fault : (x : Text) (work names : List ℕ) (p : ℕ) (k : List Frame) (g : Got) (f : ModelFault) (q : ℕ) → GroupRead x work names p k g → g ≡ Faulty f q → Answers x (refused f q)
-group-fault x work names p k g f q m e = rw e at m
+pub group-fault : (x : Text) (work names : List ℕ) (p : ℕ) (k : List Frame) {g : Got} {f : ModelFault} {q : ℕ} → GroupRead x work names p k g → g ≡ Faulty f q
+    → Answers x (refused f q)
+group-fault x work names p k m e = rw e at m
 
 -- the mark
 abbrev headKind : Node Spelling → Kind
@@ -162,8 +165,8 @@ not-expecting k (marked Plain (leaf a)) = go (a .name) (a .count)
 module _ (x : Text) (work : List ℕ) (l : List ℕ) (p i : ℕ) (k : List Frame) (n : Node Spelling) (c : Cursor)
     (o : p < c .at) (a : At x l (c .at) (at k (behindNode n))) (f : step (at k (behindNode n)) (getD x (c .at) 0) ≡ stepAfter k (marked Plain n) (getD x (c .at) 0))
     (h : NodesHeld work (c .nodes) (stackNodes k ++ treeNodes (marked Plain n))) (e : i ≡ length (stackNodes k)) where
-  pub mark-read : (work′ : List ℕ) (r : Cursor) → Marking x work work′ c i r → Read x work′ l p k r
-  mark-read work′ r (without b q w) =
+  pub mark-read : {work′ : List ℕ} {r : Cursor} → Marking x work work′ c i r → Read x work′ l p k r
+  mark-read (without b q w) =
       rw (q, w)
       (record {
         on = o;
@@ -172,7 +175,7 @@ module _ (x : Text) (work : List ℕ) (l : List ℕ) (p i : ℕ) (k : List Frame
         settled = f ∙ after-parts k (marked Plain n) (getD x (c .at) 0) (rw b);
         held = h;
       })
-  mark-read work′ r (with-mark w b q u v) =
+  mark-read (with-mark w b q u v) =
       let y : getD x (c .at) 0 ≡ code "?" = eqb-true (getD x (c .at) 0) (code "?") b in
       let s : step (at k (behindNode n)) (getD x (c .at) 0) ≡ at k (after (marked Optional n)) = f ∙ rw y in
       let h′ : NodesHeld work (c .nodes) (stackNodes k ++ (plain (headKind n) ∷ restNodes n)) = rw (head-node Plain n) at h in
@@ -180,11 +183,15 @@ module _ (x : Text) (work : List ℕ) (l : List ℕ) (p i : ℕ) (k : List Frame
       (record {
         on = omega arith;
         tree = marked Optional n;
-        at-is = step-on x l (c .at) (at k (behindNode n)) a (at k (after (marked Optional n))) (stands-inside x (code "?") (c .at) (omega arith) b) s (not-expecting k (marked Plain n)) tt refl;
+        at-is =
+            step-on a (stands-inside x (code "?") (c .at) (omega arith) b) s
+            (not-expecting k (marked Plain n)) tt refl;
         settled = refl;
-        held = rw (head-node Optional n) (holds-set nodeOf 128 work (c .nodes) (stackNodes k) (restNodes n) (plain (headKind n)) h′ i e w (optional (plain (headKind n))) (u ∙ ap optional (holds-get nodeOf 128 work (c .nodes) (stackNodes k) (restNodes n) (plain (headKind n)) h′ i e)));
+        held =
+            rw (head-node Optional n)
+            (holds-set nodeOf 128 work (c .nodes) (stackNodes k) (restNodes n) (plain (headKind n)) h′ i e w (optional (plain (headKind n))) (u ∙ ap optional (holds-get nodeOf 128 work (c .nodes) (stackNodes k) (restNodes n) (plain (headKind n)) h′ i e)));
       })
 
-  pub mark-names : (work′ : List ℕ) (r : Cursor) → Marking x work work′ c i r → r .names ≡ c .names
-  mark-names work′ r (without b q w) = ap (λ (d : Cursor). d .names) q
-  mark-names work′ r (with-mark w b q u v) = ap (λ (d : Cursor). d .names) q
+  pub mark-names : {work′ : List ℕ} {r : Cursor} → Marking x work work′ c i r → r .names ≡ c .names
+  mark-names (without b q w) = ap (λ (d : Cursor). d .names) q
+  mark-names (with-mark w b q u v) = ap (λ (d : Cursor). d .names) q

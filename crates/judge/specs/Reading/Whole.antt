@@ -53,7 +53,9 @@ start-ready x e =
     record {
       expecting = record {
         spots = [];
-        at-is = record { sized = (omega arith, nltb→le maxText (length x) (s .1)); within = omega arith; is = refl; clean = λ q h. absurd (let k : q < 0 = h in omega arith); names = refl };
+        at-is =
+            record
+            { sized = (omega arith, nltb→le maxText (length x) (s .1)); within = omega arith; is = refl; clean = λ q h. absurd (let k : q < 0 = h in omega arith); names = refl };
         held = record { whole = refl; few = omega arith; held = refl };
         named = record { whole = refl; few = omega arith; held = refl };
       };
@@ -74,7 +76,7 @@ whole-behind (marked Plain (leaf a)) = go (a .count)
 
 module _ (x : Text) (work names : List ℕ) (g : Got) (y : Member x work names 0 [] g) where
   pub fault-read : (f : ModelFault) (q : ℕ) → g ≡ Faulty f q → refusal f q ≡ reading x
-  fault-read f q e = refused-is x f q (member-fault x work names 0 [] g f q y e)
+  fault-read f q e = refused-is x f q (member-fault x work names 0 [] y e)
 
   module _ (d : Cursor) (u : g ≡ Past d) where
     b : Behind x work names 0 [] d
@@ -84,13 +86,14 @@ module _ (x : Text) (work names : List ℕ) (g : Got) (y : Member x work names 0
     unfolding b
     more-read h =
         let a = b .read .at-is in
-        refused-is x Misspelling (d .at) (dead-answers x (d .at) (a .sized) (a .clean) h (rw (a .is) tt) (next x (b .spots) (d .at) (at [] (behind (b .read .tree))) a h ∙ b .read .settled))
+        refused-is x Misspelling (d .at) (dead-answers x (d .at) (a .sized) (a .clean) h (rw (a .is) tt) (next a h ∙ b .read .settled))
 
     pub buffers-fit : ((d .nodes ≤ 128) × (length work ≡ 128)) × ((d .names ≤ 64) × (length names ≡ 64))
     unfolding b
     buffers-fit = ((b .read .held .few, b .read .held .whole), (b .named .few, b .named .whole))
 
-    pub whole-read : length x ≤ d .at → (r : Rule) (n : Names) → r ≡ ruleWith (map nodeOf (take (d .nodes) work)) → n ≡ namesWith (map placeOf (take (d .names) names)) → _≡_ {A = Reading} (record { outcome = Read; rule = r; names = n }) (reading x)
+    pub whole-read : length x ≤ d .at → (r : Rule) (n : Names) → r ≡ ruleWith (map nodeOf (take (d .nodes) work))
+        → n ≡ namesWith (map placeOf (take (d .names) names)) → _≡_ {A = Reading} (record { outcome = Read; rule = r; names = n }) (reading x)
     unfolding b
     whole-read h r n e f =
         let a = b .read .at-is in

@@ -1,28 +1,26 @@
 -- 40 exactly: the test of a rule holds just where some accepted model text reads into it. And the type that such a rule means.
-use mathlib.Core.Path.{_≡_, refl, sym, ap, _∙_}
-use mathlib.Core.Logic.{_↔_}
+use mathlib.Core.Path.{_≡_, sym, ap, _∙_}
 use mathlib.Core.Bool.{Bool, _&&_, and-eq-true-iff}
-use mathlib.Core.List.{[], _∷_, append-nil}
-use Prim.Native.Nat.{ℕ, _≤_, _-_, _+_}
+use Prim.Native.Nat.{_≤_, _-_}
 use native.Mathlib.Omega.{arith}
 use lib.Dec.{eqb}
 use lib.ListN.{length, getD, length-append, length-replicate, replicate}
 use borrow.Author.Tests.{eqb-true, eq-eqb}
 use Rattle.judge.specs.declared.rule.Rule.{Rule}
-use Rattle.judge.specs.Tests.{Tells, tells-and}
+use Rattle.judge.specs.Tests.{Tells}
 use Rattle.judge.specs.Types.{Ty, ε, ConflictFree}
-use Rattle.judge.specs.Tree.{Formed, atoms, nodes, depth}
+use Rattle.judge.specs.Tree.{nodes}
 use Rattle.judge.specs.Tree.Map.{weight-map, depth-map}
 use Rattle.judge.specs.Accept.Laws.{accepted-within, accepted-counts}
 use Rattle.judge.specs.Accept.Readable.{readable as written}
 use Rattle.judge.specs.Model.{Model, countsOf, modelOf, encode, typeBy, typeOf}
 use Rattle.judge.specs.Model.Eval.{eval, eval-tree}
 use Rattle.judge.specs.Model.Laws.{length-encode}
-use Rattle.judge.specs.Model.Types.{CountsFit, type-conflict-free}
-use Rattle.judge.specs.Rule.{unused, ruleOf, ReadsInto, Readable, Means}
+use Rattle.judge.specs.Model.Types.{type-conflict-free}
+use Rattle.judge.specs.Rule.{unused, ruleOf, Readable, Means}
 use Rattle.judge.specs.Rule.Laws.{used, used-is}
 use Rattle.judge.specs.Rule.Test.{WellFormed, wellFormed, well-formed-is}
-use Rattle.judge.specs.Limits.{maxNodes, maxAtoms, maxDepth}
+use Rattle.judge.specs.Limits.{maxNodes}
 
 readable-well-formed : (r : Rule) → Readable r → WellFormed r
 readable-well-formed r (x, h) =

@@ -17,23 +17,23 @@ use Rattle.judge.specs.declared.rule.Node.{Node as RuleNode}
 use Rattle.judge.specs.declared.rule.Rule.{Rule}
 use Rattle.judge.specs.Limits.{maxDepth, maxAtoms, maxNodes}
 use Rattle.judge.specs.Stack.{drop-back, slice-back, first-entries, replaced}
-use Rattle.judge.specs.Model.Eval.{after, needed, count, step, eval, length-eval, number, number-from}
+use Rattle.judge.specs.Model.Eval.{after, needed, count, step, eval, length-eval}
 use Rattle.judge.specs.Rule.Test.{kindFits, sound, isUnused, allUnused, highest, depthOf, depthBy, shallowTree, wellFormed}
+use Rattle.judge.specs.Rule.{names}
 use Rattle.judge.specs.Rule.Laws.{used}
+use Rattle.judge.specs.Rule.Names.{names-number}
 
--- of the nodes l: the stack of their trees' depths, whether they are sound, and how many are atoms
-pub record Scanned (l : List RuleNode) (depths : List ℕ) (top : ℕ) (ok : Bool) (atoms : ℕ) : Type 0 where
+-- of the nodes l: the stack of their trees' depths, and whether they are sound
+pub record Scanned (l : List RuleNode) (depths : List ℕ) (top : ℕ) (ok : Bool) : Type 0 where
   pub long : length depths ≡ maxNodes
   pub stack : (k : ℕ) → drop top depths ≡ eval depthBy l k
   pub ok-is : ok ≡ sound l
-  pub atoms-are : atoms ≡ number l 0
 
-pub scan-none : (l : List RuleNode) (depths : List ℕ) → l ≡ [] → length depths ≡ maxNodes → Scanned l depths maxNodes true 0
+pub scan-none : (l : List RuleNode) (depths : List ℕ) → l ≡ [] → length depths ≡ maxNodes → Scanned l depths maxNodes true
 scan-none l depths e h = record {
   long = h;
   stack = λ k. rw (e, drop-of-length-le depths {i = maxNodes} (omega arith));
   ok-is = rw e;
-  atoms-are = rw e;
 }
 
 depth-step : (κ : Kind) (m : Mark) (k : ℕ) (rest : List ℕ)
@@ -42,11 +42,11 @@ depth-step (Atom lo hi) m k rest = refl
 depth-step (Group s n) m k rest = refl
 
 -- one node more: the entries up to end are its members
-scan-node : (x : RuleNode) (l : List RuleNode) (depths : List ℕ) (top end d : ℕ) (ok : Bool) (atoms : ℕ)
+scan-node : (x : RuleNode) (l : List RuleNode) (depths : List ℕ) (top end d : ℕ) (ok : Bool)
     → 0 < top → top ≤ maxNodes → end ≡ min (needed (x .kind)) (maxNodes - top) + top
-    → d ≡ depthOf (x .kind) (highest (take (end - top) (drop top depths))) → Scanned l depths top ok atoms
-    → Scanned (x ∷ l) (set depths (end - 1) d) (end - 1) (leb (needed (x .kind)) (maxNodes - top) && kindFits (x .kind) && ok) (atoms + after (x .kind) 0)
-scan-node x l depths top end d ok atoms p h i j s =
+    → d ≡ depthOf (x .kind) (highest (take (end - top) (drop top depths))) → Scanned l depths top ok
+    → Scanned (x ∷ l) (set depths (end - 1) d) (end - 1) (leb (needed (x .kind)) (maxNodes - top) && kindFits (x .kind) && ok)
+scan-node x l depths top end d ok p h i j s =
     let e = s .long in
     let κ = x .kind in
     let c : maxNodes - top ≡ count l = sym (rw (length-drop, e)) ∙ ap length (s .stack 0) ∙ length-eval depthBy l 0 in
@@ -56,20 +56,19 @@ scan-node x l depths top end d ok atoms p h i j s =
           replaced depths maxNodes top (needed κ) end e h i d p
           ∙ rw (j, first-entries depths maxNodes top (needed κ) end e h i, s .stack (after κ k)) (depth-step κ (x .mark) k (eval depthBy l (after κ k)));
       ok-is = rw (c, s .ok-is);
-      atoms-are = rw (s .atoms-are) (sym (number-from l (after κ 0)));
     }
 
 -- a turn of the loop, with what its calls gave
-module _ (nodes : List RuleNode) (len i : ℕ) (d : RuleNode) (depths : List ℕ) (top : ℕ) (ok : Bool) (atoms : ℕ) where
-  pub scan-turn : (members clipped deepest depth ones : ℕ) (fits : Bool) → 0 < i → i ≤ len → len ≤ length nodes → 0 < top → top ≤ maxNodes
+module _ (nodes : List RuleNode) (len i : ℕ) (d : RuleNode) (depths : List ℕ) (top : ℕ) (ok : Bool) where
+  pub scan-turn : (members clipped deepest depth : ℕ) (fits : Bool) → 0 < i → i ≤ len → len ≤ length nodes → 0 < top → top ≤ maxNodes
       → members ≡ needed (getD nodes (i - 1) d .kind) → clipped ≡ min members (maxNodes - top)
       → deepest ≡ highest (take (clipped + top - top) (drop top depths)) → depth ≡ depthOf (getD nodes (i - 1) d .kind) deepest
-      → fits ≡ kindFits (getD nodes (i - 1) d .kind) → ones ≡ after (getD nodes (i - 1) d .kind) 0
-      → Scanned (drop i (take len nodes)) depths top ok atoms
-      → Scanned (drop (i - 1) (take len nodes)) (set depths (clipped + top - 1) depth) (clipped + top - 1) (leb members (maxNodes - top) && fits && ok) (atoms + ones)
-  scan-turn members clipped deepest depth ones fits a b c p h m n j q f o s =
-      rw (slice-back nodes len i d a b c, m, f, o)
-      (scan-node (getD nodes (i - 1) d) (drop i (take len nodes)) depths top (clipped + top) depth ok atoms p h (rw (n, m)) (rw (q, j)) s)
+      → fits ≡ kindFits (getD nodes (i - 1) d .kind)
+      → Scanned (drop i (take len nodes)) depths top ok
+      → Scanned (drop (i - 1) (take len nodes)) (set depths (clipped + top - 1) depth) (clipped + top - 1) (leb members (maxNodes - top) && fits && ok)
+  scan-turn members clipped deepest depth fits a b c p h m n j q f s =
+      rw (slice-back nodes len i d a b c, m, f)
+      (scan-node (getD nodes (i - 1) d) (drop i (take len nodes)) depths top (clipped + top) depth ok p h (rw (n, m)) (rw (q, j)) s)
 
 pub highest-turn : (l : List ℕ) (i d best r : ℕ) → 0 < i → i ≤ length l
     → r ≡ max (getD l (i - 1) d) best → best ≡ highest (drop i l) → r ≡ highest (drop (i - 1) l)
@@ -98,8 +97,8 @@ shallow-top depths top e =
     (λ i. rw (ne-eqb top (maxNodes - 1) (λ j. omega arith), drop-of-length-le depths {i = top} (omega arith))))
 
 -- what the pass ends with is the test
-pub scan-end : (r : Rule) (rest : Bool) (depths : List ℕ) (top : ℕ) (ok : Bool) (atoms : ℕ) → r .len ≤ maxNodes
-    → rest ≡ allUnused (drop (r .len) (r .nodes)) → Scanned (used r) depths top ok atoms
-    → (rest && ok && (eqb top (maxNodes - 1) && leb (getD depths (maxNodes - 1) 0) maxDepth) && leb atoms maxAtoms) ≡ wellFormed r
-scan-end r rest depths top ok atoms h e s =
-    rw (shallow-top depths top (s .long), le-leb (r .len) maxNodes h, e, s .ok-is, s .atoms-are, s .stack 0)
+pub scan-end : (r : Rule) (rest : Bool) (depths : List ℕ) (top : ℕ) (ok : Bool) (count : ℕ) → r .len ≤ maxNodes
+    → rest ≡ allUnused (drop (r .len) (r .nodes)) → Scanned (used r) depths top ok → count ≡ names r
+    → (rest && ok && (eqb top (maxNodes - 1) && leb (getD depths (maxNodes - 1) 0) maxDepth) && leb count maxAtoms) ≡ wellFormed r
+scan-end r rest depths top ok count h e s n =
+    rw (shallow-top depths top (s .long), le-leb (r .len) maxNodes h, e, s .ok-is, n, names-number (used r), s .stack 0)

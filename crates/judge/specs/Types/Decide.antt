@@ -1,16 +1,15 @@
--- Tests by recursion on a type, each with what it tells: membership, extendability, the empty word, and whether the type is conflict-free.
-use mathlib.Core.Path.{_≡_, refl, sym, _∙_}
+-- Tests by recursion on a type, each with what it tells: membership, extendability and the empty word.
+use mathlib.Core.Path.{_≡_, refl}
 use mathlib.Core.Logic.{_↔_, Iff·rfl, Iff·symm, Iff·trans}
-use mathlib.Core.Bool.{Bool, true, false, not, _&&_, _||_, true≢false, false≢true}
+use mathlib.Core.Bool.{Bool, true, false, not, _&&_, _||_}
 use mathlib.Core.List.{[], _∷_, append-nil}
 use Prim.Native.Nat.{ℕ}
 use lib.Dec.{leb}
 use borrow.Author.Tests.{lt-leb}
 use Rattle.judge.specs.declared.rule.Upper.{Upper}
 use Rattle.judge.specs.declared.rule.Upper.the-variants.{Number, Unbounded}
-use Rattle.judge.specs.Tests.{by-test, Tells, tells-le, tells-not, tells-and, tells-or, tells-three, decided}
-use Rattle.judge.specs.Word.{Word, Names, Apart, Over}
-use Rattle.judge.specs.Word.Laws.{only-self, only-is, apart-either}
+use Rattle.judge.specs.Tests.{Tells, tells-le, tells-not, tells-and, tells-or, tells-three, decided}
+use Rattle.judge.specs.Word.{Word, Names, Over}
 use Rattle.judge.specs.Word.Projection.{keep, count, keep-all}
 use Rattle.judge.specs.Word.Order.{touched, ordered}
 use Rattle.judge.specs.Types.{Operator, sequence, choice, interleaving, Ty, ε, atom, join, Under, Language, Holds, Extends, symbols, ConflictFree}
@@ -148,30 +147,3 @@ nullable-done (join interleaving A B) g = rw (nullable-done A (g .1), nullable-d
 pub nullable-is : (A : Ty) → ConflictFree A → (nullable A ≡ true) ↔ Holds A []
 unfolding keep
 nullable-is A g = rw (nullable-done A g) (done-tells A g [])
-
--- no symbol of the type is in the set
-abbrev pub apart? : Ty → Names → Bool
-apart? ε q = true
-apart? (atom a m n) q = not (q a)
-apart? (join o A B) q = apart? A q && apart? B q
-
-apart-tells : (A : Ty) (q : Names) → Tells (apart? A q) (Apart (symbols A) q)
-apart-tells ε q = (λ h x e f. false≢true e, λ d. refl)
-apart-tells (atom a m n) q =
-    Iff·trans (tells-not (q a))
-    (λ n x e f. true≢false (rw (only-is a x e) at (sym f) ∙ n), λ d. by-test (q a) (λ f. absurd (d a (only-self a) f)) (λ f. f))
-apart-tells (join o A B) q =
-    Iff·trans (tells-and (apart? A q) (apart? B q) (apart-tells A q) (apart-tells B q)) (Iff·symm (apart-either (symbols A) (symbols B) q))
-
-abbrev pub conflictFree? : Ty → Bool
-conflictFree? ε = true
-conflictFree? (atom a m n) = leb 1 m && under m n
-conflictFree? (join o A B) = apart? A (symbols B) && (conflictFree? A && conflictFree? B)
-
-pub conflict-free-tells : (A : Ty) → Tells (conflictFree? A) (ConflictFree A)
-conflict-free-tells ε = (λ e. tt, λ h. refl)
-conflict-free-tells (atom a m n) = tells-and _ _ (tells-le 1 m) (under-tells m n)
-conflict-free-tells (join o A B) = tells-three _ _ _ (apart-tells A (symbols B)) (conflict-free-tells A) (conflict-free-tells B)
-
-pub conflict-free : (A : Ty) → conflictFree? A ≡ true → ConflictFree A
-conflict-free A e = (conflict-free-tells A) .0 e

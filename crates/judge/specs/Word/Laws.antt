@@ -32,13 +32,6 @@ apart-sym p q d x e f = d x f e
 pub apart-no : (p q : Names) → Apart p q → (x : ℕ) → p x ≡ true → q x ≡ false
 apart-no p q d x e = by-test (q x) (λ f. absurd (d x e f)) (λ f. f)
 
-pub apart-either : (p q r : Names) → Apart (either p q) r ↔ (Apart p r × Apart q r)
-unfolding either
-apart-either p q r = (
-  λ d. (λ x e f. d x (either-left p q x e) f, λ x e f. d x (either-right p q x e) f),
-  λ h x e f. by-test (p x) (λ k. h .0 x k f) (λ k. h .1 x (rw k at e) f),
-)
-
 -- words over a set
 pub over-append : (p : Names) (u v : Word) → Over p u → Over p v → Over p (u ++ v)
 over-append p [] v h k = k

@@ -9,8 +9,6 @@ use Rattle.judge.specs.Rule.{atomsIn}
 use Rattle.judge.specs.Rule.Names.{names-none, names-turn}
 use Rattle.judge.proofs.check.name_count.Statement.{statement}
 use Rattle.judge.proofs.check.name_count.Tie as tie
-use Rattle.judge.proofs.check.atoms_of.Reads as atoms-of-reads
-use Rattle.judge.proofs.check.smaller.Reads as smaller-reads
 
 abbrev Inv-loop : tie.InvT-loop
 Inv-loop rule len found₀ i₀ found i = (i ≤ min len 128) × (found + i ≤ 128) × (found ≡ atomsIn (drop i (take len (rule .nodes))))

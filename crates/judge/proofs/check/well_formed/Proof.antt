@@ -1,6 +1,6 @@
 -- Scanned holds of the nodes from i on
 use mathlib.Core.Path.{_≡_, refl}
-use Prim.Native.Nat.{_+_, _≤_}
+use Prim.Native.Nat.{_≤_}
 use native.Mathlib.Omega.{arith}
 use lib.ListN.{length, take, drop}
 use lib.Seq.{slice-empty}
@@ -12,11 +12,11 @@ use Rattle.judge.proofs.check.well_formed.Statement.{statement}
 use Rattle.judge.proofs.check.well_formed.Tie as tie
 
 abbrev Inv-loop : tie.InvT-loop
-Inv-loop rule len depths₀ top₀ sound₀ atoms₀ i₀ depths top sound atoms i =
-    (len ≤ 128) × (i ≤ len) × (i ≤ top) × (top ≤ 128) × (atoms + i ≤ 128) × Scanned (drop i (take len (rule .nodes))) depths top sound atoms
+Inv-loop rule len depths₀ top₀ sound₀ i₀ depths top sound i =
+    (len ≤ 128) × (i ≤ len) × (i ≤ top) × (top ≤ 128) × Scanned (drop i (take len (rule .nodes))) depths top sound
 
 abbrev μ-loop : tie.MeasureT-loop
-μ-loop rule len depths₀ top₀ sound₀ atoms₀ i₀ depths top sound atoms i = i
+μ-loop rule len depths₀ top₀ sound₀ i₀ depths top sound i = i
 
 returns : tie.Need-returns Inv-loop μ-loop
 returns c = rw (lt-leb (c .before .args .t1 .len) 128 (omega arith))
@@ -24,7 +24,7 @@ returns c = rw (lt-leb (c .before .args .t1 .len) 128 (omega arith))
 loop-holds : tie.Need-loop-holds Inv-loop μ-loop
 loop-holds c =
     let r = c .before .args .t1 in
-    (search needs, search needs, search needs, search needs, search needs, scan-none _ _ (slice-empty (r .len) (r .nodes)) refl)
+    (search needs, search needs, search needs, search needs, scan-none _ _ (slice-empty (r .len) (r .nodes)) refl)
 
 sub-i : tie.Need-sub-i Inv-loop μ-loop
 sub-i c = search needs
@@ -65,12 +65,6 @@ depth-of-requires c κs = search needs
 kind-fits-requires : tie.Need-kind-fits-requires Inv-loop μ-loop
 kind-fits-requires c κs = search needs
 
-atoms-of-requires : tie.Need-atoms-of-requires Inv-loop μ-loop
-atoms-of-requires c κs = search needs
-
-add-atoms : tie.Need-add-atoms Inv-loop μ-loop
-add-atoms c = search needs
-
 sub-top : tie.Need-sub-top Inv-loop μ-loop
 sub-top c = search needs
 
@@ -82,7 +76,7 @@ loop-less c = search needs
 
 loop-again : tie.Need-loop-again Inv-loop μ-loop
 loop-again c =
-    let b = c .before .before in
+    let b = c .before in
     let m = b .before .before .before .before in
     let v = m .before .before .before .before .loop in
     let r = m .before .before .before .before .before .before .args .t1 in
@@ -91,16 +85,14 @@ loop-again c =
       search needs,
       search needs,
       search needs,
-      search needs,
-      scan-turn (r .nodes) (r .len) (v .i) _ (v .depths) (v .top) (v .sound) (v .atoms) _ _ _ _ _ _
+      scan-turn (r .nodes) (r .len) (v .i) _ (v .depths) (v .top) (v .sound) _ _ _ _ _
           (omega arith) (omega arith) (omega arith) (omega arith) (omega arith)
           (m .before .members-of .ensures)
           (m .smaller .ensures)
           (b .before .deepest .ensures)
           (b .depth-of .ensures)
-          (c .before .kind-fits .ensures)
-          (c .atoms-of .ensures .0)
-          (v .inv .5),
+          (c .kind-fits .ensures)
+          (v .inv .4),
     )
 
 rest-unused-requires : tie.Need-rest-unused-requires Inv-loop μ-loop
@@ -115,12 +107,15 @@ sub-shallow-2 c = search needs
 array-read-shallow : tie.Need-array-read-shallow Inv-loop μ-loop
 array-read-shallow c = search needs
 
+name-count-requires : tie.Need-name-count-requires Inv-loop μ-loop
+name-count-requires c κs = search needs
+
 returns-2 : tie.Need-returns-2 Inv-loop μ-loop
 returns-2 c =
-    let r = c .before .before .before .before .args .t1 in
-    let v = c .before .before .loop in
+    let r = c .before .before .before .before .before .args .t1 in
+    let v = c .before .before .before .loop in
     let z : v .i ≡ 0 = omega arith in
-    scan-end r (c .rest-unused .result) (v .depths) (v .top) (v .sound) (v .atoms) (v .inv .0) (c .rest-unused .ensures) (rw z at (v .inv .5))
+    scan-end r (c .before .rest-unused .result) (v .depths) (v .top) (v .sound) _ (v .inv .0) (c .before .rest-unused .ensures) (rw z at (v .inv .4)) (c .name-count .ensures)
 
 pub well-formed-spec : {M : Type 1} → statement M
 well-formed-spec =
@@ -143,8 +138,6 @@ well-formed-spec =
     deepest-requires
     depth-of-requires
     kind-fits-requires
-    atoms-of-requires
-    add-atoms
     sub-top
     array-write-depths
     loop-less
@@ -153,4 +146,5 @@ well-formed-spec =
     sub-shallow
     sub-shallow-2
     array-read-shallow
+    name-count-requires
     returns-2)

@@ -1,3 +1,4 @@
+-- a[0..n] is ε + a[1..n]
 use borrow.Author.Needs.{needs}
 use mathlib.Core.Path.{ap₂, _∙_}
 use Rattle.judge.specs.Types.{choice}

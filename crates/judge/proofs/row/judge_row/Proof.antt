@@ -1,14 +1,10 @@
+-- each answer is the branch of `judged` to which the tests lead
 use borrow.Author.Needs.{needs}
 use native.Mathlib.Omega.{arith}
-use mathlib.Core.Path.{_≡_, sym, ap, _∙_}
-use mathlib.Core.Bool.{true, false}
+use mathlib.Core.Path.{_≡_}
 use lib.ListN.{length}
-use borrow.Author.Tests.{le-leb, lt-leb}
-use Rattle.judge.specs.declared.verdict.Judged.the-variants.{Verdict}
 use Rattle.judge.specs.Stack.{unmapped}
-use Rattle.judge.specs.Rule.{names}
-use Rattle.judge.specs.Judge.Laws.{upto, judged}
-use Rattle.judge.specs.Judge.Pass.{verdict-tallied, readable-within, readable-tested}
+use Rattle.judge.specs.Judge.Code.{within, no-model, long-row, no-name, a-verdict}
 use Rattle.judge.proofs.row.judge_row.Statement.{statement}
 use Rattle.judge.proofs.row.judge_row.Tie as tie
 
@@ -20,63 +16,52 @@ name-count-requires c κs = search needs
 
 tally-row-requires : tie.Need-tally-row-requires
 tally-row-requires c κs =
-    let r = c .before .before .before .before .before .args .rule in
-    let l : length (r .nodes) ≡ 128 = search (needs, unmapped) in
-    let g = readable-tested r _ true l (c .before .before .before .well-formed .ensures) (c .before .before .if1 .taken) in
-    let w = readable-within r g in
-    (search needs, omega arith)
+    let a = c .before .before .before .before .before .args in
+    let l : length (a .rule .nodes) ≡ 128 = search (needs, unmapped) in
+    let i = c .before .before in
+    (search needs, omega (arith, within (a .rule) _ l (i .before .well-formed .ensures) (i .if1 .taken) .1))
 
 cast-verdict-seen : tie.Need-cast-verdict-seen
 cast-verdict-seen c = search needs
 
 verdict-seen-requires : tie.Need-verdict-seen-requires
 verdict-seen-requires c κs =
-    let r = c .before .before .before .before .before .before .before .before .args .rule in
-    let l : length (r .nodes) ≡ 128 = search (needs, unmapped) in
-    let g = readable-tested r _ true l (c .before .before .before .before .before .before .well-formed .ensures) (c .before .before .before .before .before .if1 .taken) in
-    readable-within r g
+    let a = c .before .before .before .before .before .before .before .before .args in
+    let l : length (a .rule .nodes) ≡ 128 = search (needs, unmapped) in
+    let i = c .before .before .before .before .before in
+    within (a .rule) _ l (i .before .well-formed .ensures) (i .if1 .taken)
 
 returns : tie.Need-returns
-unfolding judged
 returns c =
-    let r = c .before .before .before .before .before .before .before .before .before .args .rule in
-    let l : length (r .nodes) ≡ 128 = search (needs, unmapped) in
-    let g = readable-tested r _ true l (c .before .before .before .before .before .before .before .well-formed .ensures) (c .before .before .before .before .before .before .if1 .taken) in
-    let row = c .before .before .before .before .before .before .before .before .before .args .row .now in
-    let n = c .before .before .before .before .name-count in
-    let t = c .before .before .before .tally-row in
-    let u : upto (names r) row ≡ true = rw (n .ensures) at (sym (t .ensures .named-is) ∙ c .before .before .if3 .taken) in
-    rw (g, le-leb (length row) 4096 (c .before .before .before .before .before .if2 .taken), u)
-    (ap Verdict (c .verdict-seen .ensures ∙ verdict-tallied r g row u (n .result) (n .ensures) (t .result) (t .ensures)))
+    let a = c .before .before .before .before .before .before .before .before .before .args in
+    let l : length (a .rule .nodes) ≡ 128 = search (needs, unmapped) in
+    let t = c .before .before in
+    let n = t .before .before in
+    let i = n .before .before in
+    a-verdict (a .rule) _ l (i .before .well-formed .ensures) (a .row .now) (i .if1 .taken) (n .before .if2 .taken)
+    _ (n .name-count .ensures) (t .before .tally-row .result) (t .before .tally-row .ensures) (t .if3 .taken) _ (c .verdict-seen .ensures)
 
 returns-2 : tie.Need-returns-2
-unfolding judged
 returns-2 c =
-    let r = c .before .before .before .before .before .before .before .args .rule in
-    let l : length (r .nodes) ≡ 128 = search (needs, unmapped) in
-    let g = readable-tested r _ true l (c .before .before .before .before .before .well-formed .ensures) (c .before .before .before .before .if1 .taken) in
-    let row = c .before .before .before .before .before .before .before .args .row .now in
-    let n = c .before .before .name-count in
-    let t = c .before .tally-row in
-    let u : upto (names r) row ≡ false = rw (n .ensures) at (sym (t .ensures .named-is) ∙ c .if3 .left) in
-    rw (g, le-leb (length row) 4096 (c .before .before .before .if2 .taken), u)
+    let a = c .before .before .before .before .before .before .before .args in
+    let l : length (a .rule .nodes) ≡ 128 = search (needs, unmapped) in
+    let n = c .before .before in
+    let i = n .before .before in
+    no-name (a .rule) _ l (i .before .well-formed .ensures) (a .row .now) (i .if1 .taken) (n .before .if2 .taken)
+    _ (n .name-count .ensures) (c .before .tally-row .result) (c .before .tally-row .ensures) (c .if3 .left)
 
 returns-3 : tie.Need-returns-3
-unfolding judged
 returns-3 c =
-    let r = c .before .before .before .before .args .rule in
-    let l : length (r .nodes) ≡ 128 = search (needs, unmapped) in
-    let g = readable-tested r _ true l (c .before .before .well-formed .ensures) (c .before .if1 .taken) in
-    let row = c .before .before .before .before .args .row .now in
-    rw (g, lt-leb (length row) 4096 (c .if2 .left))
+    let a = c .before .before .before .before .args in
+    let l : length (a .rule .nodes) ≡ 128 = search (needs, unmapped) in
+    let i = c .before in
+    long-row (a .rule) _ l (i .before .well-formed .ensures) (a .row .now) (i .if1 .taken) (c .if2 .left)
 
 returns-4 : tie.Need-returns-4
-unfolding judged
 returns-4 c =
-    let r = c .before .before .before .args .rule in
-    let l : length (r .nodes) ≡ 128 = search (needs, unmapped) in
-    let g = readable-tested r _ false l (c .before .well-formed .ensures) (c .if1 .left) in
-    rw g
+    let a = c .before .before .before .args in
+    let l : length (a .rule .nodes) ≡ 128 = search (needs, unmapped) in
+    no-model (a .rule) _ l (c .before .well-formed .ensures) (a .row .now) (c .if1 .left)
 
 pub judge-row-spec : {M : Type 1} → statement M
 judge-row-spec =

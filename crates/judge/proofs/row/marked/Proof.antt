@@ -1,3 +1,4 @@
+-- T? is ε + T
 use borrow.Author.Needs.{needs}
 use mathlib.Core.Path.{ap, _∙_}
 use Rattle.judge.specs.Types.{choice}

@@ -1,3 +1,4 @@
+-- field by field
 use borrow.Author.Needs.{needs}
 use Rattle.judge.proofs.row.noted.Statement.{statement}
 use Rattle.judge.proofs.row.noted.Tie as tie

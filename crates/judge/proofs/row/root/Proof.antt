@@ -1,3 +1,4 @@
+-- Passed holds behind each node; within a node, x is the attribute by the members passed
 use borrow.Author.Needs.{needs}
 use native.Mathlib.Omega.{arith}
 use mathlib.Core.Path.{_≡_, refl, _∙_}
@@ -101,8 +102,9 @@ atoms-of-requires c κs = search needs
 
 sub-name : tie.Need-sub-name Inv-loop2 μ-loop2 Inv-loop μ-loop
 sub-name c =
-    let v = c .before .before .before .before .before .before .before .before .before .loop in
-    let r = c .before .before .before .before .before .before .before .before .before .before .before .before .args .t1 in
+    let p = c .before .before .before .before .before .before .before .before .before in
+    let r = p .before .before .before .args .t1 in
+    let v = p .loop in
     let l : length (r .nodes) ≡ 128 = search (needs, unmapped) in
     omega (arith, name-turn (r .nodes) (r .len) (v .i) _ (v .name) _ (omega arith) (omega arith) (omega arith) (v .inv .4 .name-is) (c .atoms-of .ensures .0))
 
@@ -123,18 +125,20 @@ loop-less c = search needs
 
 loop-again : tie.Need-loop-again Inv-loop2 μ-loop2 Inv-loop μ-loop
 loop-again c =
-    let u = c .before .before .before .loop2 in
-    let v = c .before .before .before .before .before .before .before .before .before .before .loop in
     let a = c .before .before .before .before .before .before .before .before .before .before .before .before .before .args in
     let r = a .t1 in
     let l : length (r .nodes) ≡ 128 = search (needs, unmapped) in
-    let z : u .at ≡ c .before .before .before .before .before .before .smaller .result + v .top = omega arith in (
+    let s = c .before .before .before .before .before .before in
+    let u = c .before .before .before .loop2 in
+    let v = s .before .before .before .before .loop in
+    let z : u .at ≡ s .smaller .result + v .top = omega arith in (
       search needs,
       omega arith,
       omega arith,
       omega arith,
       pass-turn (a .length) (λ k. getD (a .t3) k (unseen 0)) (r .nodes) (r .len) (v .i) _ (v .stack) (v .top) (v .name) _ _ _ (u .x) _
-          (omega arith) (omega arith) (omega arith) (omega arith) (omega arith) (c .before .before .before .before .before .before .before .members-of .ensures) (c .before .before .before .before .before .before .smaller .ensures) (c .before .atoms-of .ensures .0)
+          (omega arith) (omega arith) (omega arith) (omega arith) (omega arith)
+          (s .before .members-of .ensures) (s .smaller .ensures) (c .before .atoms-of .ensures .0)
           (rw z at (u .inv .2)) (c .marked .ensures) (v .inv .4),
     )
 

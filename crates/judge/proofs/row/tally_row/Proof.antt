@@ -1,3 +1,4 @@
+-- Seeing holds of the children passed
 use borrow.Author.Needs.{needs}
 use native.Mathlib.Omega.{arith}
 use mathlib.Core.Logic.{⊎-elim}

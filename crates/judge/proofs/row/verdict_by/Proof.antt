@@ -1,7 +1,8 @@
+-- a readable rule is within the limits; the tally and the root then tell the verdict
 use borrow.Author.Needs.{needs}
 use native.Mathlib.Omega.{arith}
 use mathlib.Core.Path.{_∙_}
-use Rattle.judge.specs.Judge.Pass.{verdict-tallied, readable-within}
+use Rattle.judge.specs.Judge.Code.{verdict-tallied, readable-within}
 use Rattle.judge.proofs.row.verdict_by.Statement.{statement}
 use Rattle.judge.proofs.row.verdict_by.Tie as tie
 
@@ -24,9 +25,11 @@ verdict-seen-requires c κs =
 
 returns : tie.Need-returns
 returns c =
-    let a = c .before .before .before .before .before in
+    let t = c .before .before in
+    let n = t .before in
+    let a = n .before .before in
     c .verdict-seen .ensures
-    ∙ verdict-tallied (a .args .rule) (a .pre .0) (a .args .row .now) (a .pre .2) (c .before .before .before .name-count .result) (c .before .before .before .name-count .ensures) (c .before .before .tally-row .result) (c .before .before .tally-row .ensures)
+    ∙ verdict-tallied (a .args .rule) (a .pre .0) (a .args .row .now) (a .pre .2) _ (n .name-count .ensures) (t .tally-row .result) (t .tally-row .ensures)
 
 pub verdict-by-spec : {M : Type 1} → statement M
 verdict-by-spec =

@@ -1,3 +1,4 @@
+-- 0 is the number of foreign names
 use borrow.Author.Needs.{needs}
 use Rattle.judge.proofs.row.verdict_seen.Statement.{statement}
 use Rattle.judge.proofs.row.verdict_seen.Tie as tie

@@ -47,7 +47,18 @@ abbrev member-below : ℕ → In 3 member-kinds.ps
 member-below t = and 3 member-kinds.ps (falls 3 member-kinds.ps _<_ μ-member t) member.Pre
 
 abbrev group-claims : ℕ → group-lts.Claims
-group-claims t = (stands-reads.Asked, stands-reads.Learnt, member-below t, member.Post, packed-group-reads.Asked, packed-group-reads.Learnt, parts-reads.Asked, parts-reads.Learnt, group-below t, group.Post)
+group-claims t = (
+  stands-reads.Asked,
+  stands-reads.Learnt,
+  member-below t,
+  member.Post,
+  packed-group-reads.Asked,
+  packed-group-reads.Learnt,
+  parts-reads.Asked,
+  parts-reads.Learnt,
+  group-below t,
+  group.Post,
+)
 
 abbrev member-claims : ℕ → member-lts.Claims
 member-claims t = (is-letter-reads.Asked, is-letter-reads.Learnt, atom-reads.Asked, atom-reads.Learnt, group-below t, group.Post, mark-reads.Asked, mark-reads.Learnt)
@@ -56,94 +67,151 @@ group-stands-requires : (t : ℕ) → group-lts.Need-stands-requires (group-clai
 group-stands-requires t c κs = omega arith
 
 group-add-t19 : (t : ℕ) → group-lts.Need-add-t19 (group-claims t) (group-at t) group.Post
-group-add-t19 t c = omega (arith, empty-inside (c .before .before .before .args .text .now) (c .before .before .before .args .work .now) (c .before .before .before .args .names .now) (c .before .before .before .args .c) (c .before .before .before .args .left) (c .before .before .before .args .node) (c .before .before .before .args .sign) (c .before .before .before .args .members) (c .before .before .before .pre .1) (ap (_&&_ (eqb (c .before .before .before .args .sign) 0)) (sym (c .before .stands .ensures)) ∙ c .if1 .taken))
+group-add-t19 t c =
+    let s = c .before .before .before in
+    omega (arith, empty-inside (s .pre .1) (ap (_&&_ (eqb (s .args .sign) 0)) (sym (c .before .stands .ensures)) ∙ c .if1 .taken))
 
 group-returns : (t : ℕ) → group-lts.Need-returns (group-claims t) (group-at t) group.Post
-group-returns t c = group-empty (c .before .before .before .args .text .now) (c .before .before .before .args .work .now) (c .before .before .before .args .names .now) (c .before .before .before .args .c) (c .before .before .before .args .left) (c .before .before .before .args .node) (c .before .before .before .args .sign) (c .before .before .before .args .members) (c .before .before .before .pre .1) (ap (_&&_ (eqb (c .before .before .before .args .sign) 0)) (sym (c .before .stands .ensures)) ∙ c .if1 .taken)
+group-returns t c = let s = c .before .before .before in group-empty (s .pre .1) (ap (_&&_ (eqb (s .args .sign) 0)) (sym (c .before .stands .ensures)) ∙ c .if1 .taken)
 
 group-member-requires : (t : ℕ) → group-lts.Need-member-requires (group-claims t) (group-at t) group.Post
-group-member-requires t c κs = (omega (arith, c .before .before .before .before .before .pre .0, c .before .before .before .before .before .pre .1 .expecting .at-is .within), group-ready (c .before .before .before .before .before .args .text .now) (c .before .before .before .before .before .args .work .now) (c .before .before .before .before .before .args .names .now) (c .before .before .before .before .before .args .c) (c .before .before .before .before .before .args .left) (c .before .before .before .before .before .args .node) (c .before .before .before .before .before .args .sign) (c .before .before .before .before .before .args .members) (c .before .before .before .before .before .pre .1) (ap (_&&_ (eqb (c .before .before .before .before .before .args .sign) 0)) (sym (c .before .before .before .stands .ensures)) ∙ c .before .before .if1 .left))
+group-member-requires t c κs =
+    let s = c .before .before .before .before .before in (
+      omega (arith, s .pre .0, s .pre .1 .expecting .at-is .within),
+      group-ready (s .pre .1) (ap (_&&_ (eqb (s .args .sign) 0)) (sym (c .before .before .before .stands .ensures)) ∙ c .before .before .if1 .left),
+    )
 
 group-enum-known-past : (t : ℕ) → group-lts.Need-enum-known-past (group-claims t) (group-at t) group.Post
 group-enum-known-past t c = search needs
 
 group-returns-2 : (t : ℕ) → group-lts.Need-returns-2 (group-claims t) (group-at t) group.Post
-group-returns-2 t c = group-stops (c .before .before .before .before .before .before .before .before .before .before .args .text .now) (c .before .before .before .before .before .before .before .before .before .before .args .work .now) (c .before .before .before .before .before .before .before .before .before .before .args .names .now) (c .before .before .before .before .before .before .before .before .before .before .args .c) (c .before .before .before .before .before .before .before .before .before .before .args .left) (c .before .before .before .before .before .before .before .before .before .before .args .node) (c .before .before .before .before .before .before .before .before .before .before .args .sign) (c .before .before .before .before .before .before .before .before .before .before .args .members) (c .before .before .before .before .before .before .before .before .before .before .pre .1) (c .before .before .before .before .member .last .1 .0) (c .before .before .before .before .member .last .1 .1 .0) (c .before .before .before .before .member .result) (c .before .before .before .before .member .ensures) (c .before .before .past .given .0 .0) (c .before .before .past .given .1) (c .if2 .taken)
+group-returns-2 t c =
+    let s = c .before .before .before .before .before .before .before .before .before .before in
+    let m = c .before .before .before .before .member in
+    let p = c .before .before .past .given in group-stops (s .pre .1) (m .last .1 .0) (m .last .1 .1 .0) (m .ensures) (p .1) (c .if2 .taken)
 
 group-shared-slice-read-b : (t : ℕ) → group-lts.Need-shared-slice-read-b (group-claims t) (group-at t) group.Post
-group-shared-slice-read-b t c = past-inside (c .before .before .before .before .before .before .before .before .before .before .before .args .text .now) (c .before .before .before .before .before .before .before .before .before .before .before .args .work .now) (c .before .before .before .before .before .before .before .before .before .before .before .args .names .now) (c .before .before .before .before .before .before .before .before .before .before .before .args .c) (c .before .before .before .before .before .before .before .before .before .before .before .args .left) (c .before .before .before .before .before .before .before .before .before .before .before .args .node) (c .before .before .before .before .before .before .before .before .before .before .before .args .sign) (c .before .before .before .before .before .before .before .before .before .before .before .args .members) (c .before .before .before .before .before .before .before .before .before .before .before .pre .1) (c .before .before .before .before .before .member .last .1 .0) (c .before .before .before .before .before .member .last .1 .1 .0) (c .before .before .before .before .before .member .result) (c .before .before .before .before .before .member .ensures) (c .before .before .before .past .given .0 .0) (c .before .before .before .past .given .1) (c .before .if2 .left)
+group-shared-slice-read-b t c =
+    let s = c .before .before .before .before .before .before .before .before .before .before .before in
+    let m = c .before .before .before .before .before .member in
+    let p = c .before .before .before .past .given in past-inside (s .pre .1) (m .last .1 .0) (m .last .1 .1 .0) (m .ensures) (p .1) (c .before .if2 .left)
 
 group-add-t25 : (t : ℕ) → group-lts.Need-add-t25 (group-claims t) (group-at t) group.Post
-group-add-t25 t c = omega (arith, past-inside (c .before .before .before .before .before .before .before .before .before .before .before .args .text .now) (c .before .before .before .before .before .before .before .before .before .before .before .args .work .now) (c .before .before .before .before .before .before .before .before .before .before .before .args .names .now) (c .before .before .before .before .before .before .before .before .before .before .before .args .c) (c .before .before .before .before .before .before .before .before .before .before .before .args .left) (c .before .before .before .before .before .before .before .before .before .before .before .args .node) (c .before .before .before .before .before .before .before .before .before .before .before .args .sign) (c .before .before .before .before .before .before .before .before .before .before .before .args .members) (c .before .before .before .before .before .before .before .before .before .before .before .pre .1) (c .before .before .before .before .before .member .last .1 .0) (c .before .before .before .before .before .member .last .1 .1 .0) (c .before .before .before .before .before .member .result) (c .before .before .before .before .before .member .ensures) (c .before .before .before .past .given .0 .0) (c .before .before .before .past .given .1) (c .before .if2 .left))
+group-add-t25 t c =
+    let s = c .before .before .before .before .before .before .before .before .before .before .before in
+    let m = c .before .before .before .before .before .member in
+    let p = c .before .before .before .past .given in
+    omega (arith, past-inside (s .pre .1) (m .last .1 .0) (m .last .1 .1 .0) (m .ensures) (p .1) (c .before .if2 .left))
 
 group-add-packed-group : (t : ℕ) → group-lts.Need-add-packed-group (group-claims t) (group-at t) group.Post
-group-add-packed-group t c = omega (arith, members-fit (c .before .before .before .before .before .before .before .before .before .before .before .before .args .text .now) (c .before .before .before .before .before .before .before .before .before .before .before .before .args .work .now) (c .before .before .before .before .before .before .before .before .before .before .before .before .args .names .now) (c .before .before .before .before .before .before .before .before .before .before .before .before .args .c) (c .before .before .before .before .before .before .before .before .before .before .before .before .args .left) (c .before .before .before .before .before .before .before .before .before .before .before .before .args .node) (c .before .before .before .before .before .before .before .before .before .before .before .before .args .sign) (c .before .before .before .before .before .before .before .before .before .before .before .before .args .members) (c .before .before .before .before .before .before .before .before .before .before .before .before .pre .1))
+group-add-packed-group t c = omega (arith, members-fit (c .before .before .before .before .before .before .before .before .before .before .before .before .pre .1))
 
 group-packed-group-requires : (t : ℕ) → group-lts.Need-packed-group-requires (group-claims t) (group-at t) group.Post
-group-packed-group-requires t c κs = sign-known (c .before .before .before .before .before .before .before .before .before .before .before .before .args .text .now) (c .before .before .before .before .before .before .before .before .before .before .before .before .args .work .now) (c .before .before .before .before .before .before .before .before .before .before .before .before .args .names .now) (c .before .before .before .before .before .before .before .before .before .before .before .before .args .c) (c .before .before .before .before .before .before .before .before .before .before .before .before .args .left) (c .before .before .before .before .before .before .before .before .before .before .before .before .args .node) (c .before .before .before .before .before .before .before .before .before .before .before .before .args .sign) (c .before .before .before .before .before .before .before .before .before .before .before .before .args .members) (c .before .before .before .before .before .before .before .before .before .before .before .before .pre .1)
+group-packed-group-requires t c κs = sign-known (c .before .before .before .before .before .before .before .before .before .before .before .before .pre .1)
 
 group-mul-work : (t : ℕ) → group-lts.Need-mul-work (group-claims t) (group-at t) group.Post
-group-mul-work t c = omega (arith, node-fits (c .before .before .before .before .before .before .before .before .before .before .before .before .before .args .text .now) (c .before .before .before .before .before .before .before .before .before .before .before .before .before .args .work .now) (c .before .before .before .before .before .before .before .before .before .before .before .before .before .args .names .now) (c .before .before .before .before .before .before .before .before .before .before .before .before .before .args .c) (c .before .before .before .before .before .before .before .before .before .before .before .before .before .args .left) (c .before .before .before .before .before .before .before .before .before .before .before .before .before .args .node) (c .before .before .before .before .before .before .before .before .before .before .before .before .before .args .sign) (c .before .before .before .before .before .before .before .before .before .before .before .before .before .args .members) (c .before .before .before .before .before .before .before .before .before .before .before .before .before .pre .1))
+group-mul-work t c = omega (arith, node-fits (c .before .before .before .before .before .before .before .before .before .before .before .before .before .pre .1))
 
 group-element-write-work : (t : ℕ) → group-lts.Need-element-write-work (group-claims t) (group-at t) group.Post
-group-element-write-work t c = node-fits (c .before .before .before .before .before .before .before .before .before .before .before .before .before .args .text .now) (c .before .before .before .before .before .before .before .before .before .before .before .before .before .args .work .now) (c .before .before .before .before .before .before .before .before .before .before .before .before .before .args .names .now) (c .before .before .before .before .before .before .before .before .before .before .before .before .before .args .c) (c .before .before .before .before .before .before .before .before .before .before .before .before .before .args .left) (c .before .before .before .before .before .before .before .before .before .before .before .before .before .args .node) (c .before .before .before .before .before .before .before .before .before .before .before .before .before .args .sign) (c .before .before .before .before .before .before .before .before .before .before .before .before .before .args .members) (c .before .before .before .before .before .before .before .before .before .before .before .before .before .pre .1)
+group-element-write-work t c = node-fits (c .before .before .before .before .before .before .before .before .before .before .before .before .before .pre .1)
 
 group-returns-3 : (t : ℕ) → group-lts.Need-returns-3 (group-claims t) (group-at t) group.Post
-group-returns-3 t c = group-ends (c .before .before .before .before .before .before .before .before .before .before .before .before .before .args .text .now) (c .before .before .before .before .before .before .before .before .before .before .before .before .before .args .work .now) (c .before .before .before .before .before .before .before .before .before .before .before .before .before .args .names .now) (c .before .before .before .before .before .before .before .before .before .before .before .before .before .args .c) (c .before .before .before .before .before .before .before .before .before .before .before .before .before .args .left) (c .before .before .before .before .before .before .before .before .before .before .before .before .before .args .node) (c .before .before .before .before .before .before .before .before .before .before .before .before .before .args .sign) (c .before .before .before .before .before .before .before .before .before .before .before .before .before .args .members) (c .before .before .before .before .before .before .before .before .before .before .before .before .before .pre .1) (c .before .before .before .before .before .before .before .member .last .1 .0) (c .before .before .before .before .before .before .before .member .last .1 .1 .0) (c .before .before .before .before .before .before .before .member .result) (c .before .before .before .before .before .before .before .member .ensures) (c .before .before .before .before .before .past .given .0 .0) (c .before .before .before .before .before .past .given .1) (c .before .before .before .if2 .left) (c .before .if3 .taken) (c .packed-group .result) (c .packed-group .ensures)
+group-returns-3 t c =
+    let s = c .before .before .before .before .before .before .before .before .before .before .before .before .before in
+    let m = c .before .before .before .before .before .before .before .member in
+    let p = c .before .before .before .before .before .past .given in
+    group-ends (s .pre .1) (m .last .1 .0) (m .last .1 .1 .0) (m .ensures) (p .1) (c .before .before .before .if2 .left) (c .before .if3 .taken)
+    (c .packed-group .result) (c .packed-group .ensures)
 
 group-parts-requires : (t : ℕ) → group-lts.Need-parts-requires (group-claims t) (group-at t) group.Post
 group-parts-requires t c κs = tt
 
 group-add-group : (t : ℕ) → group-lts.Need-add-group (group-claims t) (group-at t) group.Post
-group-add-group t c = omega (arith, members-fit (c .before .before .before .before .before .before .before .before .before .before .before .before .before .before .before .before .args .text .now) (c .before .before .before .before .before .before .before .before .before .before .before .before .before .before .before .before .args .work .now) (c .before .before .before .before .before .before .before .before .before .before .before .before .before .before .before .before .args .names .now) (c .before .before .before .before .before .before .before .before .before .before .before .before .before .before .before .before .args .c) (c .before .before .before .before .before .before .before .before .before .before .before .before .before .before .before .before .args .left) (c .before .before .before .before .before .before .before .before .before .before .before .before .before .before .before .before .args .node) (c .before .before .before .before .before .before .before .before .before .before .before .before .before .before .before .before .args .sign) (c .before .before .before .before .before .before .before .before .before .before .before .before .before .before .before .before .args .members) (c .before .before .before .before .before .before .before .before .before .before .before .before .before .before .before .before .pre .1))
+group-add-group t c =
+    omega
+    (arith, members-fit (c .before .before .before .before .before .before .before .before .before .before .before .before .before .before .before .before .pre .1))
 
 group-group-requires : (t : ℕ) → group-lts.Need-group-requires (group-claims t) (group-at t) group.Post
-group-group-requires t c κs = (let f = member-fits (c .before .before .before .before .before .before .before .before .before .before .before .before .before .before .before .before .args .text .now) (c .before .before .before .before .before .before .before .before .before .before .before .before .before .before .before .before .args .work .now) (c .before .before .before .before .before .before .before .before .before .before .before .before .before .before .before .before .args .names .now) (c .before .before .before .before .before .before .before .before .before .before .before .before .before .before .before .before .args .c) (c .before .before .before .before .before .before .before .before .before .before .before .before .before .before .before .before .args .left) (c .before .before .before .before .before .before .before .before .before .before .before .before .before .before .before .before .args .node) (c .before .before .before .before .before .before .before .before .before .before .before .before .before .before .before .before .args .sign) (c .before .before .before .before .before .before .before .before .before .before .before .before .before .before .before .before .args .members) (c .before .before .before .before .before .before .before .before .before .before .before .before .before .before .before .before .pre .1) (c .before .before .before .before .before .before .before .before .before .before .member .last .1 .0) (c .before .before .before .before .before .before .before .before .before .before .member .last .1 .1 .0) (c .before .before .before .before .before .before .before .before .before .before .member .result) (c .before .before .before .before .before .before .before .before .before .before .member .ensures) (c .before .before .before .before .before .before .before .before .past .given .0 .0) (c .before .before .before .before .before .before .before .before .past .given .1) in let h = past-inside (c .before .before .before .before .before .before .before .before .before .before .before .before .before .before .before .before .args .text .now) (c .before .before .before .before .before .before .before .before .before .before .before .before .before .before .before .before .args .work .now) (c .before .before .before .before .before .before .before .before .before .before .before .before .before .before .before .before .args .names .now) (c .before .before .before .before .before .before .before .before .before .before .before .before .before .before .before .before .args .c) (c .before .before .before .before .before .before .before .before .before .before .before .before .before .before .before .before .args .left) (c .before .before .before .before .before .before .before .before .before .before .before .before .before .before .before .before .args .node) (c .before .before .before .before .before .before .before .before .before .before .before .before .before .before .before .before .args .sign) (c .before .before .before .before .before .before .before .before .before .before .before .before .before .before .before .before .args .members) (c .before .before .before .before .before .before .before .before .before .before .before .before .before .before .before .before .pre .1) (c .before .before .before .before .before .before .before .before .before .before .member .last .1 .0) (c .before .before .before .before .before .before .before .before .before .before .member .last .1 .1 .0) (c .before .before .before .before .before .before .before .before .before .before .member .result) (c .before .before .before .before .before .before .before .before .before .before .member .ensures) (c .before .before .before .before .before .before .before .before .past .given .0 .0) (c .before .before .before .before .before .before .before .before .past .given .1) (c .before .before .before .before .before .before .if2 .left) in omega (arith, c .before .before .before .before .before .before .before .before .before .before .before .before .before .before .before .before .pre .0, f .0, h), group-joins (c .before .before .before .before .before .before .before .before .before .before .before .before .before .before .before .before .args .text .now) (c .before .before .before .before .before .before .before .before .before .before .before .before .before .before .before .before .args .work .now) (c .before .before .before .before .before .before .before .before .before .before .before .before .before .before .before .before .args .names .now) (c .before .before .before .before .before .before .before .before .before .before .before .before .before .before .before .before .args .c) (c .before .before .before .before .before .before .before .before .before .before .before .before .before .before .before .before .args .left) (c .before .before .before .before .before .before .before .before .before .before .before .before .before .before .before .before .args .node) (c .before .before .before .before .before .before .before .before .before .before .before .before .before .before .before .before .args .sign) (c .before .before .before .before .before .before .before .before .before .before .before .before .before .before .before .before .args .members) (c .before .before .before .before .before .before .before .before .before .before .before .before .before .before .before .before .pre .1) (c .before .before .before .before .before .before .before .before .before .before .member .last .1 .0) (c .before .before .before .before .before .before .before .before .before .before .member .last .1 .1 .0) (c .before .before .before .before .before .before .before .before .before .before .member .result) (c .before .before .before .before .before .before .before .before .before .before .member .ensures) (c .before .before .before .before .before .before .before .before .past .given .0 .0) (c .before .before .before .before .before .before .before .before .past .given .1) (c .before .before .before .before .before .before .if2 .left) (c .before .before .before .before .if3 .left) (sym (c .before .before .before .parts .ensures) ∙ c .before .before .if4 .taken))
+group-group-requires t c κs =
+    let s = c .before .before .before .before .before .before .before .before .before .before .before .before .before .before .before .before in
+    let m = c .before .before .before .before .before .before .before .before .before .before .member in
+    let p = c .before .before .before .before .before .before .before .before .past .given in (
+      omega
+          (arith, s .pre .0, member-fits (s .pre .1) (m .last .1 .0) (m .last .1 .1 .0) (m .ensures) (p .1) .0, past-inside (s .pre .1) (m .last .1 .0) (m .last .1 .1 .0) (m .ensures) (p .1) (c .before .before .before .before .before .before .if2 .left)),
+      group-joins (s .pre .1) (m .last .1 .0) (m .last .1 .1 .0) (m .ensures) (p .1) (c .before .before .before .before .before .before .if2 .left)
+          (c .before .before .before .before .if3 .left) (sym (c .before .before .before .parts .ensures) ∙ c .before .before .if4 .taken),
+    )
 
 group-returns-4 : (t : ℕ) → group-lts.Need-returns-4 (group-claims t) (group-at t) group.Post
-group-returns-4 t c = group-on (c .before .before .before .before .before .before .before .before .before .before .before .before .before .before .before .before .before .args .text .now) (c .before .before .before .before .before .before .before .before .before .before .before .before .before .before .before .before .before .args .work .now) (c .before .before .before .before .before .before .before .before .before .before .before .before .before .before .before .before .before .args .names .now) (c .before .before .before .before .before .before .before .before .before .before .before .before .before .before .before .before .before .args .c) (c .before .before .before .before .before .before .before .before .before .before .before .before .before .before .before .before .before .args .left) (c .before .before .before .before .before .before .before .before .before .before .before .before .before .before .before .before .before .args .node) (c .before .before .before .before .before .before .before .before .before .before .before .before .before .before .before .before .before .args .sign) (c .before .before .before .before .before .before .before .before .before .before .before .before .before .before .before .before .before .args .members) (c .before .before .before .before .before .before .before .before .before .before .before .before .before .before .before .before .before .pre .1) (c .before .before .before .before .before .before .before .before .before .before .before .member .last .1 .0) (c .before .before .before .before .before .before .before .before .before .before .before .member .last .1 .1 .0) (c .before .before .before .before .before .before .before .before .before .before .before .member .result) (c .before .before .before .before .before .before .before .before .before .before .before .member .ensures) (c .before .before .before .before .before .before .before .before .before .past .given .0 .0) (c .before .before .before .before .before .before .before .before .before .past .given .1) (c .before .before .before .before .before .before .before .if2 .left) (c .before .before .before .before .before .if3 .left) (sym (c .before .before .before .before .parts .ensures) ∙ c .before .before .before .if4 .taken) (c .group .last .1 .0) (c .group .last .1 .1 .0) (c .group .result) (c .group .ensures)
+group-returns-4 t c =
+    let s = c .before .before .before .before .before .before .before .before .before .before .before .before .before .before .before .before .before in
+    let m = c .before .before .before .before .before .before .before .before .before .before .before .member in
+    let p = c .before .before .before .before .before .before .before .before .before .past .given in
+    group-on (s .pre .1) (m .last .1 .0) (m .last .1 .1 .0) (m .ensures) (p .1) (c .before .before .before .before .before .before .before .if2 .left)
+    (c .before .before .before .before .before .if3 .left) (sym (c .before .before .before .before .parts .ensures) ∙ c .before .before .before .if4 .taken)
+    (c .group .last .1 .0) (c .group .last .1 .1 .0) (c .group .result) (c .group .ensures)
 
 group-enum-known-f : (t : ℕ) → group-lts.Need-enum-known-f (group-claims t) (group-at t) group.Post
 group-enum-known-f t c = search needs
 
 group-returns-5 : (t : ℕ) → group-lts.Need-returns-5 (group-claims t) (group-at t) group.Post
-group-returns-5 t c = group-bad (c .before .before .before .before .before .before .before .before .before .before .before .before .before .before .args .text .now) (c .before .before .before .before .before .before .before .before .before .before .before .before .before .before .args .work .now) (c .before .before .before .before .before .before .before .before .before .before .before .before .before .before .args .names .now) (c .before .before .before .before .before .before .before .before .before .before .before .before .before .before .args .c) (c .before .before .before .before .before .before .before .before .before .before .before .before .before .before .args .left) (c .before .before .before .before .before .before .before .before .before .before .before .before .before .before .args .node) (c .before .before .before .before .before .before .before .before .before .before .before .before .before .before .args .sign) (c .before .before .before .before .before .before .before .before .before .before .before .before .before .before .args .members) (c .before .before .before .before .before .before .before .before .before .before .before .before .before .before .pre .1) (c .before .before .before .before .before .before .before .before .member .last .1 .0) (c .before .before .before .before .before .before .before .before .member .last .1 .1 .0) (c .before .before .before .before .before .before .before .before .member .result) (c .before .before .before .before .before .before .before .before .member .ensures) (c .before .before .before .before .before .before .past .given .0 .0) (c .before .before .before .before .before .before .past .given .1) (c .before .before .before .before .if2 .left) (c .before .before .if3 .left) (sym (c .before .parts .ensures) ∙ c .if4 .left)
+group-returns-5 t c =
+    let s = c .before .before .before .before .before .before .before .before .before .before .before .before .before .before in
+    let m = c .before .before .before .before .before .before .before .before .member in
+    let p = c .before .before .before .before .before .before .past .given in
+    group-bad (s .pre .1) (m .last .1 .0) (m .last .1 .1 .0) (m .ensures) (p .1) (c .before .before .before .before .if2 .left) (c .before .before .if3 .left)
+    (sym (c .before .parts .ensures) ∙ c .if4 .left)
 
 group-returns-6 : (t : ℕ) → group-lts.Need-returns-6 (group-claims t) (group-at t) group.Post
-group-returns-6 t c = member-fault (c .before .before .before .before .before .before .before .before .before .args .text .now) (c .before .before .before .member .last .1 .0) (c .before .before .before .member .last .1 .1 .0) (c .before .before .before .before .before .before .before .before .before .args .c .at) (stackOf (here (c .before .before .before .before .before .before .before .before .before .args .text .now) (c .before .before .before .before .before .before .before .before .before .args .c .at))) (c .before .before .before .member .result) (c .before .f .given .0 .0) (c .before .f .given .0 .1 .0) (c .before .before .before .member .ensures) (c .before .f .given .1)
+group-returns-6 t c =
+    let a = c .before .before .before .before .before .before .before .before .before .args in
+    let m = c .before .before .before .member in
+    let f = c .before .f .given in
+    member-fault (a .text .now) (m .last .1 .0) (m .last .1 .1 .0) (a .c .at) (stackOf (here (a .text .now) (a .c .at))) (m .ensures) (f .1)
 
 member-returns : (t : ℕ) → member-lts.Need-returns (member-claims t) (member-at t) member.Post
-member-returns t c = member-stops (c .before .before .args .text .now) (c .before .before .args .work .now) (c .before .before .args .names .now) (c .before .before .args .c) (c .before .before .args .left) (stackOf (here (c .before .before .args .text .now) (c .before .before .args .c .at))) (c .before .before .pre .1) (c .if1 .taken)
+member-returns t c = member-stops (c .before .before .pre .1) (c .if1 .taken)
 
 member-shared-slice-read-b : (t : ℕ) → member-lts.Need-shared-slice-read-b (member-claims t) (member-at t) member.Post
-member-shared-slice-read-b t c = (omega (arith, c .before .before .before .pre .1 .expecting .at-is .within, c .before .if1 .left))
+member-shared-slice-read-b t c = let s = c .before .before .before in omega (arith, s .pre .1 .expecting .at-is .within, c .before .if1 .left)
 
 member-is-letter-requires : (t : ℕ) → member-lts.Need-is-letter-requires (member-claims t) (member-at t) member.Post
 member-is-letter-requires t c κs = tt
 
 member-atom-requires : (t : ℕ) → member-lts.Need-atom-requires (member-claims t) (member-at t) member.Post
-member-atom-requires t c κs = (c .before .before .before .before .before .before .before .pre .1 .expecting, sym (c .before .before .before .is-letter .ensures) ∙ c .before .before .if2 .taken)
+member-atom-requires t c κs = (
+  c .before .before .before .before .before .before .before .pre .1 .expecting,
+  sym (c .before .before .before .is-letter .ensures) ∙ c .before .before .if2 .taken,
+)
 
 member-returns-2 : (t : ℕ) → member-lts.Need-returns-2 (member-claims t) (member-at t) member.Post
 member-returns-2 t c = c .atom .ensures
 
 member-returns-3 : (t : ℕ) → member-lts.Need-returns-3 (member-claims t) (member-at t) member.Post
-member-returns-3 t c = member-bad (c .before .before .before .before .before .before .args .text .now) (c .before .before .before .before .before .before .args .work .now) (c .before .before .before .before .before .before .args .names .now) (c .before .before .before .before .before .before .args .c) (c .before .before .before .before .before .before .args .left) (stackOf (here (c .before .before .before .before .before .before .args .text .now) (c .before .before .before .before .before .before .args .c .at))) (c .before .before .before .before .before .before .pre .1) (sym (c .before .before .is-letter .ensures) ∙ c .before .if2 .left) (c .if3 .taken)
+member-returns-3 t c = member-bad (c .before .before .before .before .before .before .pre .1) (sym (c .before .before .is-letter .ensures) ∙ c .before .if2 .left) (c .if3 .taken)
 
 member-returns-4 : (t : ℕ) → member-lts.Need-returns-4 (member-claims t) (member-at t) member.Post
-member-returns-4 t c = too-deep (c .before .before .before .before .before .before .before .args .text .now) (c .before .before .before .before .before .before .before .args .work .now) (c .before .before .before .before .before .before .before .args .names .now) (c .before .before .before .before .before .before .before .args .c) (c .before .before .before .before .before .before .before .args .left) (stackOf (here (c .before .before .before .before .before .before .before .args .text .now) (c .before .before .before .before .before .before .before .args .c .at))) (c .before .before .before .before .before .before .before .pre .1) (omega (arith, c .before .before .before .before .before .before .before .pre .1 .expecting .at-is .within, c .before .before .before .before .before .if1 .left)) (c .before .if3 .left) (c .if4 .taken)
+member-returns-4 t c =
+    let s = c .before .before .before .before .before .before .before in
+    too-deep (s .pre .1) (omega (arith, s .pre .1 .expecting .at-is .within, c .before .before .before .before .before .if1 .left)) (c .before .if3 .left)
+    (c .if4 .taken)
 
 member-returns-5 : (t : ℕ) → member-lts.Need-returns-5 (member-claims t) (member-at t) member.Post
-member-returns-5 t c = many-groups (c .before .before .before .before .before .before .before .before .args .text .now) (c .before .before .before .before .before .before .before .before .args .work .now) (c .before .before .before .before .before .before .before .before .args .names .now) (c .before .before .before .before .before .before .before .before .args .c) (c .before .before .before .before .before .before .before .before .args .left) (stackOf (here (c .before .before .before .before .before .before .before .before .args .text .now) (c .before .before .before .before .before .before .before .before .args .c .at))) (c .before .before .before .before .before .before .before .before .pre .1) (omega (arith, c .before .before .before .before .before .before .before .before .pre .1 .expecting .at-is .within, c .before .before .before .before .before .before .if1 .left)) (c .before .before .if3 .left) (c .before .if4 .left) (c .if5 .taken)
+member-returns-5 t c =
+    let s = c .before .before .before .before .before .before .before .before in
+    many-groups (s .pre .1) (omega (arith, s .pre .1 .expecting .at-is .within, c .before .before .before .before .before .before .if1 .left))
+    (c .before .before .if3 .left) (c .before .if4 .left) (c .if5 .taken)
 
 member-mul-work : (t : ℕ) → member-lts.Need-mul-work (member-claims t) (member-at t) member.Post
 member-mul-work t c = omega (arith, c .before .before .before .before .before .before .before .before .pre .1 .expecting .held .few)
 
 member-element-write-work : (t : ℕ) → member-lts.Need-element-write-work (member-claims t) (member-at t) member.Post
-member-element-write-work t c = (omega (arith, c .before .before .before .before .before .before .before .before .pre .1 .expecting .held .few, c .if5 .left))
+member-element-write-work t c = let s = c .before .before .before .before .before .before .before .before in omega (arith, s .pre .1 .expecting .held .few, c .if5 .left)
 
 member-add-group : (t : ℕ) → member-lts.Need-add-group (member-claims t) (member-at t) member.Post
-member-add-group t c = omega (arith, c .before .before .before .before .before .before .before .before .pre .1 .expecting .at-is .within, c .before .before .before .before .before .before .if1 .left)
+member-add-group t c =
+    omega
+    (arith, c .before .before .before .before .before .before .before .before .pre .1 .expecting .at-is .within, c .before .before .before .before .before .before .if1 .left)
 
 member-add-t26 : (t : ℕ) → member-lts.Need-add-t26 (member-claims t) (member-at t) member.Post
 member-add-t26 t c = omega (arith, c .before .before .before .before .before .before .before .before .pre .1 .expecting .held .few)
@@ -152,22 +220,52 @@ member-sub-group : (t : ℕ) → member-lts.Need-sub-group (member-claims t) (me
 member-sub-group t c = omega (arith, c .before .before .before .if4 .left)
 
 member-group-requires : (t : ℕ) → member-lts.Need-group-requires (member-claims t) (member-at t) member.Post
-member-group-requires t c κs = (omega (arith, c .before .before .before .before .before .before .before .before .before .before .pre .0, c .before .before .before .before .before .before .before .before .before .before .pre .1 .expecting .at-is .within, c .before .before .before .before .before .before .before .before .if1 .left), goes-in (c .before .before .before .before .before .before .before .before .before .before .args .text .now) (c .before .before .before .before .before .before .before .before .before .before .args .work .now) (c .before .before .before .before .before .before .before .before .before .before .args .names .now) (c .before .before .before .before .before .before .before .before .before .before .args .c) (c .before .before .before .before .before .before .before .before .before .before .args .left) (stackOf (here (c .before .before .before .before .before .before .before .before .before .before .args .text .now) (c .before .before .before .before .before .before .before .before .before .before .args .c .at))) (c .before .before .before .before .before .before .before .before .before .before .pre .1) (omega (arith, c .before .before .before .before .before .before .before .before .before .before .pre .1 .expecting .at-is .within, c .before .before .before .before .before .before .before .before .if1 .left)) (c .before .before .before .before .if3 .left) (c .before .before .before .if4 .left) (omega (arith, c .before .before .before .before .before .before .before .before .before .before .pre .1 .expecting .held .few, c .before .before .if5 .left)))
+member-group-requires t c κs =
+    let s = c .before .before .before .before .before .before .before .before .before .before in (
+      omega (arith, s .pre .0, s .pre .1 .expecting .at-is .within, c .before .before .before .before .before .before .before .before .if1 .left),
+      goes-in (s .pre .1) (omega (arith, s .pre .1 .expecting .at-is .within, c .before .before .before .before .before .before .before .before .if1 .left))
+          (c .before .before .before .before .if3 .left) (c .before .before .before .if4 .left)
+          (omega (arith, s .pre .1 .expecting .held .few, c .before .before .if5 .left)),
+    )
 
 member-enum-known-past : (t : ℕ) → member-lts.Need-enum-known-past (member-claims t) (member-at t) member.Post
 member-enum-known-past t c = search needs
 
 member-mark-requires : (t : ℕ) → member-lts.Need-mark-requires (member-claims t) (member-at t) member.Post
-member-mark-requires t c κs = ((omega (arith, c .before .before .before .before .before .before .before .before .before .before .before .before .before .before .before .pre .1 .expecting .held .few, c .before .before .before .before .before .before .before .if5 .left)), closed-fits (c .before .before .before .before .before .before .before .before .before .before .before .before .before .before .before .args .text .now) (c .before .before .before .before .before .before .before .before .before .before .before .before .before .before .before .args .work .now) (c .before .before .before .before .before .before .before .before .before .before .before .before .before .before .before .args .names .now) (c .before .before .before .before .before .before .before .before .before .before .before .before .before .before .before .args .c) (c .before .before .before .before .before .before .before .before .before .before .before .before .before .before .before .args .left) (stackOf (here (c .before .before .before .before .before .before .before .before .before .before .before .before .before .before .before .args .text .now) (c .before .before .before .before .before .before .before .before .before .before .before .before .before .before .before .args .c .at))) (c .before .before .before .before .before .before .before .before .before .before .before .before .before .before .before .pre .1) (omega (arith, c .before .before .before .before .before .before .before .before .before .before .before .before .before .before .before .pre .1 .expecting .at-is .within, c .before .before .before .before .before .before .before .before .before .before .before .before .before .if1 .left)) (c .before .before .before .before .before .before .before .before .before .if3 .left) (c .before .before .before .before .before .before .before .before .if4 .left) (omega (arith, c .before .before .before .before .before .before .before .before .before .before .before .before .before .before .before .pre .1 .expecting .held .few, c .before .before .before .before .before .before .before .if5 .left)) (c .before .before .before .before .group .last .1 .0) (c .before .before .before .before .group .last .1 .1 .0) (c .before .before .before .before .group .result) (c .before .before .before .before .group .ensures) (c .before .before .past .given .0 .0) (c .before .before .past .given .1))
+member-mark-requires t c κs =
+    let s = c .before .before .before .before .before .before .before .before .before .before .before .before .before .before .before in
+    let g = c .before .before .before .before .group in
+    let p = c .before .before .past .given in (
+      (omega (arith, s .pre .1 .expecting .held .few, c .before .before .before .before .before .before .before .if5 .left)),
+      closed-fits (s .pre .1)
+          (omega (arith, s .pre .1 .expecting .at-is .within, c .before .before .before .before .before .before .before .before .before .before .before .before .before .if1 .left))
+          (c .before .before .before .before .before .before .before .before .before .if3 .left)
+          (c .before .before .before .before .before .before .before .before .if4 .left)
+          (omega (arith, s .pre .1 .expecting .held .few, c .before .before .before .before .before .before .before .if5 .left)) (g .last .1 .0) (g .last .1 .1 .0)
+          (g .ensures) (p .1),
+    )
 
 member-enum-known-f : (t : ℕ) → member-lts.Need-enum-known-f (member-claims t) (member-at t) member.Post
 member-enum-known-f t c = search needs
 
 member-returns-6 : (t : ℕ) → member-lts.Need-returns-6 (member-claims t) (member-at t) member.Post
-member-returns-6 t c = group-member (c .before .before .before .before .before .before .before .before .before .before .before .before .before .before .before .before .args .text .now) (c .before .before .before .before .before .before .before .before .before .before .before .before .before .before .before .before .args .work .now) (c .before .before .before .before .before .before .before .before .before .before .before .before .before .before .before .before .args .names .now) (c .before .before .before .before .before .before .before .before .before .before .before .before .before .before .before .before .args .c) (c .before .before .before .before .before .before .before .before .before .before .before .before .before .before .before .before .args .left) (stackOf (here (c .before .before .before .before .before .before .before .before .before .before .before .before .before .before .before .before .args .text .now) (c .before .before .before .before .before .before .before .before .before .before .before .before .before .before .before .before .args .c .at))) (c .before .before .before .before .before .before .before .before .before .before .before .before .before .before .before .before .pre .1) (omega (arith, c .before .before .before .before .before .before .before .before .before .before .before .before .before .before .before .before .pre .1 .expecting .at-is .within, c .before .before .before .before .before .before .before .before .before .before .before .before .before .before .if1 .left)) (c .before .before .before .before .before .before .before .before .before .before .if3 .left) (c .before .before .before .before .before .before .before .before .before .if4 .left) (omega (arith, c .before .before .before .before .before .before .before .before .before .before .before .before .before .before .before .before .pre .1 .expecting .held .few, c .before .before .before .before .before .before .before .before .if5 .left)) (c .before .before .before .before .before .group .last .1 .0) (c .before .before .before .before .before .group .last .1 .1 .0) (c .before .before .before .before .before .group .result) (c .before .before .before .before .before .group .ensures) (c .before .before .before .past .given .0 .0) (c .before .before .before .past .given .1) (c .mark .last .1 .0) (c .mark .result) (c .mark .ensures)
+member-returns-6 t c =
+    let s = c .before .before .before .before .before .before .before .before .before .before .before .before .before .before .before .before in
+    let g = c .before .before .before .before .before .group in
+    let p = c .before .before .before .past .given in
+    group-member (s .pre .1)
+    (omega (arith, s .pre .1 .expecting .at-is .within, c .before .before .before .before .before .before .before .before .before .before .before .before .before .before .if1 .left))
+    (c .before .before .before .before .before .before .before .before .before .before .if3 .left)
+    (c .before .before .before .before .before .before .before .before .before .if4 .left)
+    (omega (arith, s .pre .1 .expecting .held .few, c .before .before .before .before .before .before .before .before .if5 .left)) (g .last .1 .0)
+    (g .last .1 .1 .0) (g .ensures) (p .1) (c .mark .ensures)
 
 member-returns-7 : (t : ℕ) → member-lts.Need-returns-7 (member-claims t) (member-at t) member.Post
-member-returns-7 t c = group-fault (c .before .before .before .before .before .before .before .before .before .before .before .before .before .before .args .text .now) (c .before .before .before .group .last .1 .0) (c .before .before .before .group .last .1 .1 .0) (c .before .before .before .before .before .before .before .before .before .before .before .before .before .before .args .c .at + 1) (tail (stackOf (here (c .before .before .before .before .before .before .before .before .before .before .before .before .before .before .args .text .now) (c .before .before .before .before .before .before .before .before .before .before .before .before .before .before .args .c .at + 1)))) (c .before .before .before .group .result) (c .before .f .given .0 .0) (c .before .f .given .0 .1 .0) (c .before .before .before .group .ensures) (c .before .f .given .1)
+member-returns-7 t c =
+    let a = c .before .before .before .before .before .before .before .before .before .before .before .before .before .before .args in
+    let g = c .before .before .before .group in
+    let f = c .before .f .given in
+    group-fault (a .text .now) (g .last .1 .0) (g .last .1 .1 .0) (a .c .at + 1) (tail (stackOf (here (a .text .now) (a .c .at + 1)))) (g .ensures) (f .1)
 
 pub +group+member-spec : {M : Type 1} → statement M
 +group+member-spec = close μ-group μ-member (λ t. group-lts.spec (group-claims t) (group-at t) group.Post

@@ -23,8 +23,8 @@ mul-work c = search needs
 element-write-work : tie.Need-element-write-work
 element-write-work c = search needs
 
-add-t8 : tie.Need-add-t8
-add-t8 c = search needs
+add-behind : tie.Need-add-behind
+add-behind c = search needs
 
 returns : tie.Need-returns
 returns c = with-mark (c .packed-optional .result) (sym (c .before .before .before .stands .ensures) ∙ c .before .before .if1 .taken) refl (c .packed-optional .ensures) refl
@@ -42,6 +42,6 @@ mark-spec =
     packed-optional-requires
     mul-work
     element-write-work
-    add-t8
+    add-behind
     returns
     returns-2)

@@ -54,10 +54,19 @@ loop-less c = omega arith
 
 loop-again : tie.Need-loop-again Inv-loop μ-loop
 unfolding placeOf
-loop-again c = (omega arith, rw (c .before .before .before .loop .inv .1) (fill-turn placeOf noPlace (c .before .before .before .before .before .args .words .now) 64 (c .before .before .before .loop .i) 0 (omega arith) (omega arith)))
+loop-again c = (
+  omega arith,
+  rw (c .before .before .before .loop .inv .1)
+      (fill-turn placeOf noPlace (c .before .before .before .before .before .args .words .now) 64 (c .before .before .before .loop .i) 0 (omega arith) (omega arith)),
+)
 
 returns : tie.Need-returns Inv-loop μ-loop
-returns c = let e : c .before .loop .i ≡ c .before .before .before .args .len = omega arith in names-filled (map placeOf (take (c .before .before .before .args .len) (c .before .before .before .args .words .now))) (c .before .loop .names .places) (c .before .before .before .args .len) (fill-length placeOf noPlace (c .before .before .before .args .words .now) (c .before .before .before .args .len) (omega arith)) (rw e at (c .before .loop .inv .1))
+returns c =
+    let e : c .before .loop .i ≡ c .before .before .before .args .len = omega arith in
+    names-filled (map placeOf (take (c .before .before .before .args .len) (c .before .before .before .args .words .now))) (c .before .loop .names .places)
+    (c .before .before .before .args .len)
+    (fill-length placeOf noPlace (c .before .before .before .args .words .now) (c .before .before .before .args .len) (omega arith))
+    (rw e at (c .before .loop .inv .1))
 
 pub names-of-spec : {M : Type 1} → statement M
 names-of-spec =

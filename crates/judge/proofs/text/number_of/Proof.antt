@@ -12,7 +12,9 @@ use Rattle.judge.proofs.text.number_of.Statement.{statement}
 use Rattle.judge.proofs.text.number_of.Tie as tie
 
 abbrev Inv-loop : tie.InvT-loop
-Inv-loop text name names n i₀ i = (length (names .places) ≡ 64) × ((n ≡ min (names .len) 64) × ((i ≤ n) × (numberFrom (i + 1) (drop i (partsOf text names)) name ≡ numberIn (partsOf text names) name)))
+Inv-loop text name names n i₀ i =
+    (length (names .places) ≡ 64) ×
+    ((n ≡ min (names .len) 64) × ((i ≤ n) × (numberFrom (i + 1) (drop i (partsOf text names)) name ≡ numberIn (partsOf text names) name)))
 
 abbrev μ-loop : tie.MeasureT-loop
 μ-loop text name names n i₀ i = n - i
@@ -66,7 +68,14 @@ cast-t24 : tie.Need-cast-t24 Inv-loop μ-loop
 cast-t24 c = omega arith
 
 returns : tie.Need-returns Inv-loop μ-loop
-returns c = number-found (c .before .before .before .before .before .before .before .before .before .before .before .before .before .before .args .text .now) (c .before .before .before .before .before .before .before .before .before .before .before .before .before .before .args .t2) (c .before .before .before .before .before .before .before .before .before .before .before .before .before .before .args .name .now) (c .before .before .before .before .before .before .before .before .before .before .loop .inv .0) (c .before .before .before .before .before .before .before .before .before .before .loop .i) (omega arith) (rw (← c .before .before .before .before .before .before .lesser2 .ensures, ← c .before .before .before .lesser3 .ensures) (sym (c .before .same-bytes .ensures) ∙ c .if1 .taken)) ∙ c .before .before .before .before .before .before .before .before .before .before .loop .inv .1 .1 .1
+returns c =
+    number-found (c .before .before .before .before .before .before .before .before .before .before .before .before .before .before .args .text .now)
+    (c .before .before .before .before .before .before .before .before .before .before .before .before .before .before .args .t2)
+    (c .before .before .before .before .before .before .before .before .before .before .before .before .before .before .args .name .now)
+    (c .before .before .before .before .before .before .before .before .before .before .loop .inv .0)
+    (c .before .before .before .before .before .before .before .before .before .before .loop .i) (omega arith)
+    (rw (← c .before .before .before .before .before .before .lesser2 .ensures, ← c .before .before .before .lesser3 .ensures) (sym (c .before .same-bytes .ensures) ∙ c .if1 .taken))
+    ∙ c .before .before .before .before .before .before .before .before .before .before .loop .inv .1 .1 .1
 
 add-i : tie.Need-add-i Inv-loop μ-loop
 add-i c = omega arith
@@ -75,10 +84,28 @@ loop-less : tie.Need-loop-less Inv-loop μ-loop
 loop-less c = omega arith
 
 loop-again : tie.Need-loop-again Inv-loop μ-loop
-loop-again c = (c .before .before .before .before .before .before .before .before .before .before .loop .inv .0, (c .before .before .before .before .before .before .before .before .before .before .loop .inv .1 .0, (omega arith, number-next (c .before .before .before .before .before .before .before .before .before .before .before .before .before .before .args .text .now) (c .before .before .before .before .before .before .before .before .before .before .before .before .before .before .args .t2) (c .before .before .before .before .before .before .before .before .before .before .before .before .before .before .args .name .now) (c .before .before .before .before .before .before .before .before .before .before .loop .inv .0) (c .before .before .before .before .before .before .before .before .before .before .loop .i) (omega arith) (rw (← c .before .before .before .before .before .before .lesser2 .ensures, ← c .before .before .before .lesser3 .ensures) (sym (c .before .same-bytes .ensures) ∙ c .if1 .left)) ∙ c .before .before .before .before .before .before .before .before .before .before .loop .inv .1 .1 .1)))
+loop-again c = (
+  c .before .before .before .before .before .before .before .before .before .before .loop .inv .0,
+  (
+    c .before .before .before .before .before .before .before .before .before .before .loop .inv .1 .0,
+    (
+      omega arith,
+      number-next (c .before .before .before .before .before .before .before .before .before .before .before .before .before .before .args .text .now)
+          (c .before .before .before .before .before .before .before .before .before .before .before .before .before .before .args .t2)
+          (c .before .before .before .before .before .before .before .before .before .before .before .before .before .before .args .name .now)
+          (c .before .before .before .before .before .before .before .before .before .before .loop .inv .0)
+          (c .before .before .before .before .before .before .before .before .before .before .loop .i) (omega arith)
+          (rw (← c .before .before .before .before .before .before .lesser2 .ensures, ← c .before .before .before .lesser3 .ensures) (sym (c .before .same-bytes .ensures) ∙ c .if1 .left))
+          ∙ c .before .before .before .before .before .before .before .before .before .before .loop .inv .1 .1 .1,
+    ),
+  ),
+)
 
 returns-2 : tie.Need-returns-2 Inv-loop μ-loop
-returns-2 c = number-none (c .before .before .before .before .before .args .text .now) (c .before .before .before .before .before .args .t2) (c .before .before .before .before .before .args .name .now) (c .before .loop .inv .0) (c .before .loop .i) (omega arith) ∙ c .before .loop .inv .1 .1 .1
+returns-2 c =
+    number-none (c .before .before .before .before .before .args .text .now) (c .before .before .before .before .before .args .t2)
+    (c .before .before .before .before .before .args .name .now) (c .before .loop .inv .0) (c .before .loop .i) (omega arith)
+    ∙ c .before .loop .inv .1 .1 .1
 
 pub number-of-spec : {M : Type 1} → statement M
 number-of-spec =

@@ -18,7 +18,9 @@ packed-requires-2 : tie.Need-packed-requires-2
 packed-requires-2 c κs = search needs
 
 returns : tie.Need-returns
-returns c = rw (c .packed .ensures, c .before .before .max .given .1) (unpack 1 (c .before .before .before .before .args .min) (c .before .before .max .given .0 .0) (omega arith) (omega arith) (omega arith))
+returns c =
+    rw (c .packed .ensures, c .before .before .max .given .1)
+    (unpack 1 (c .before .before .before .before .args .min) (c .before .before .max .given .0 .0) (omega arith) (omega arith) (omega arith))
 
 returns-2 : tie.Need-returns-2
 returns-2 c = rw (c .packed2 .ensures, c .before .enum-told .given .1) (unpack 2 (c .before .before .before .args .min) 0 (omega arith) (omega arith) (omega arith))

@@ -21,13 +21,27 @@ refused-requires-2 : tie.Need-refused-requires-2
 refused-requires-2 c κs = search needs
 
 returns-2 : tie.Need-returns-2
-returns-2 c = c .refused2 .ensures ∙ more-read (c .before .before .before .before .before .before .before .before .before .before .args .text .now) (c .before .before .before .before .before .member .last .1 .0) (c .before .before .before .before .before .member .last .1 .1 .0) (c .before .before .before .before .before .member .result) (c .before .before .before .before .before .member .ensures) (c .before .before .before .past .given .0 .0) (c .before .before .before .past .given .1) (c .before .if2 .taken)
+returns-2 c =
+    c .refused2 .ensures
+    ∙ more-read (c .before .before .before .before .before .before .before .before .before .before .args .text .now)
+    (c .before .before .before .before .before .member .last .1 .0) (c .before .before .before .before .before .member .last .1 .1 .0)
+    (c .before .before .before .before .before .member .result) (c .before .before .before .before .before .member .ensures)
+    (c .before .before .before .past .given .0 .0) (c .before .before .before .past .given .1) (c .before .if2 .taken)
 
 rule-of-requires : tie.Need-rule-of-requires
-rule-of-requires c κs = buffers-fit (c .before .before .before .before .before .before .before .before .before .before .args .text .now) (c .before .before .before .before .before .member .last .1 .0) (c .before .before .before .before .before .member .last .1 .1 .0) (c .before .before .before .before .before .member .result) (c .before .before .before .before .before .member .ensures) (c .before .before .before .past .given .0 .0) (c .before .before .before .past .given .1) .0
+rule-of-requires c κs =
+    buffers-fit (c .before .before .before .before .before .before .before .before .before .before .args .text .now)
+    (c .before .before .before .before .before .member .last .1 .0) (c .before .before .before .before .before .member .last .1 .1 .0)
+    (c .before .before .before .before .before .member .result) (c .before .before .before .before .before .member .ensures)
+    (c .before .before .before .past .given .0 .0) (c .before .before .before .past .given .1) .0
 
 names-of-requires : tie.Need-names-of-requires
-names-of-requires c κs = buffers-fit (c .before .before .before .before .before .before .before .before .before .before .before .before .args .text .now) (c .before .before .before .before .before .before .before .member .last .1 .0) (c .before .before .before .before .before .before .before .member .last .1 .1 .0) (c .before .before .before .before .before .before .before .member .result) (c .before .before .before .before .before .before .before .member .ensures) (c .before .before .before .before .before .past .given .0 .0) (c .before .before .before .before .before .past .given .1) .1
+names-of-requires c κs =
+    buffers-fit (c .before .before .before .before .before .before .before .before .before .before .before .before .args .text .now)
+    (c .before .before .before .before .before .before .before .member .last .1 .0)
+    (c .before .before .before .before .before .before .before .member .last .1 .1 .0)
+    (c .before .before .before .before .before .before .before .member .result) (c .before .before .before .before .before .before .before .member .ensures)
+    (c .before .before .before .before .before .past .given .0 .0) (c .before .before .before .before .before .past .given .1) .1
 
 enum-known-f : tie.Need-enum-known-f
 enum-known-f c = search needs
@@ -36,10 +50,22 @@ refused-requires-3 : tie.Need-refused-requires-3
 refused-requires-3 c κs = search needs
 
 returns-3 : tie.Need-returns-3
-returns-3 c = whole-read (c .before .before .before .before .before .before .before .before .before .before .before .before .before .args .text .now) (c .before .before .before .before .before .before .before .before .member .last .1 .0) (c .before .before .before .before .before .before .before .before .member .last .1 .1 .0) (c .before .before .before .before .before .before .before .before .member .result) (c .before .before .before .before .before .before .before .before .member .ensures) (c .before .before .before .before .before .before .past .given .0 .0) (c .before .before .before .before .before .before .past .given .1) (c .before .before .before .before .if2 .left) (c .before .before .rule-of .result) (c .names-of .result) (c .before .before .rule-of .ensures) (c .names-of .ensures)
+returns-3 c =
+    whole-read (c .before .before .before .before .before .before .before .before .before .before .before .before .before .args .text .now)
+    (c .before .before .before .before .before .before .before .before .member .last .1 .0)
+    (c .before .before .before .before .before .before .before .before .member .last .1 .1 .0)
+    (c .before .before .before .before .before .before .before .before .member .result)
+    (c .before .before .before .before .before .before .before .before .member .ensures) (c .before .before .before .before .before .before .past .given .0 .0)
+    (c .before .before .before .before .before .before .past .given .1) (c .before .before .before .before .if2 .left) (c .before .before .rule-of .result)
+    (c .names-of .result) (c .before .before .rule-of .ensures) (c .names-of .ensures)
 
 returns-4 : tie.Need-returns-4
-returns-4 c = c .refused3 .ensures ∙ fault-read (c .before .before .before .before .before .before .before .before .before .args .text .now) (c .before .before .before .before .member .last .1 .0) (c .before .before .before .before .member .last .1 .1 .0) (c .before .before .before .before .member .result) (c .before .before .before .before .member .ensures) (c .before .before .f .given .0 .0) (c .before .before .f .given .0 .1 .0) (c .before .before .f .given .1)
+returns-4 c =
+    c .refused3 .ensures
+    ∙ fault-read (c .before .before .before .before .before .before .before .before .before .args .text .now)
+    (c .before .before .before .before .member .last .1 .0) (c .before .before .before .before .member .last .1 .1 .0)
+    (c .before .before .before .before .member .result) (c .before .before .before .before .member .ensures) (c .before .before .f .given .0 .0)
+    (c .before .before .f .given .0 .1 .0) (c .before .before .f .given .1)
 
 pub read-model-spec : {M : Type 1} → statement M
 read-model-spec =

@@ -26,22 +26,39 @@ is-digit-requires : tie.Need-is-digit-requires Inv-loop μ-loop
 is-digit-requires c κs = tt
 
 returns-2 : tie.Need-returns-2 Inv-loop μ-loop
-returns-2 c = no-numeral (c .before .before .before .before .before .args .text .now) (c .before .before .before .before .before .args .at) (sym (c .before .is-digit .ensures) ∙ c .if2 .left)
+returns-2 c =
+    no-numeral (c .before .before .before .before .before .args .text .now) (c .before .before .before .before .before .args .at)
+    (sym (c .before .is-digit .ensures) ∙ c .if2 .left)
 
 add-t12 : tie.Need-add-t12 Inv-loop μ-loop
 add-t12 c = omega arith
 
 returns-3 : tie.Need-returns-3 Inv-loop μ-loop
-returns-3 c = zero-alone (c .before .before .before .before .before .before .args .text .now) (c .before .before .before .before .before .before .args .at) (c .before .before .before .before .if1 .taken) (sym (c .before .before .is-digit .ensures) ∙ c .before .if2 .taken) (c .if3 .taken)
+returns-3 c =
+    zero-alone (c .before .before .before .before .before .before .args .text .now) (c .before .before .before .before .before .before .args .at)
+    (c .before .before .before .before .if1 .taken) (sym (c .before .before .is-digit .ensures) ∙ c .before .if2 .taken) (c .if3 .taken)
 
 with-digit-requires : tie.Need-with-digit-requires Inv-loop μ-loop
-with-digit-requires c κs = (omega arith, digit-low (getD (c .before .before .before .before .before .before .args .text .now) (c .before .before .before .before .before .before .args .at) 0) (sym (c .before .before .is-digit .ensures) ∙ c .before .if2 .taken))
+with-digit-requires c κs = (
+  omega arith,
+  digit-low (getD (c .before .before .before .before .before .before .args .text .now) (c .before .before .before .before .before .before .args .at) 0)
+      (sym (c .before .before .is-digit .ensures) ∙ c .before .if2 .taken),
+)
 
 add-i : tie.Need-add-i Inv-loop μ-loop
 add-i c = omega arith
 
 loop-holds : tie.Need-loop-holds Inv-loop μ-loop
-loop-holds c = (c .before .before .before .before .before .if1 .taken, (sym (c .before .before .before .is-digit .ensures) ∙ c .before .before .if2 .taken, rest-first (c .before .before .before .before .before .before .before .args .text .now) (c .before .before .before .before .before .before .before .args .at) (c .before .before .before .before .before .if1 .taken) (sym (c .before .before .before .is-digit .ensures) ∙ c .before .before .if2 .taken) (ne-eqb _ _ (c .before .if3 .left)) (c .with-digit .result) (c .with-digit .ensures)))
+loop-holds c = (
+  c .before .before .before .before .before .if1 .taken,
+  (
+    sym (c .before .before .before .is-digit .ensures) ∙ c .before .before .if2 .taken,
+    rest-first (c .before .before .before .before .before .before .before .args .text .now)
+        (c .before .before .before .before .before .before .before .args .at) (c .before .before .before .before .before .if1 .taken)
+        (sym (c .before .before .before .is-digit .ensures) ∙ c .before .before .if2 .taken) (ne-eqb _ _ (c .before .if3 .left)) (c .with-digit .result)
+        (c .with-digit .ensures),
+  ),
+)
 
 shared-slice-read-d : tie.Need-shared-slice-read-d Inv-loop μ-loop
 shared-slice-read-d c = omega arith
@@ -50,7 +67,12 @@ is-digit-requires-2 : tie.Need-is-digit-requires-2 Inv-loop μ-loop
 is-digit-requires-2 c κs = tt
 
 with-digit-requires-2 : tie.Need-with-digit-requires-2 Inv-loop μ-loop
-with-digit-requires-2 c κs = (c .before .before .before .before .loop .inv .1 .1 .small, digit-low (getD (c .before .before .before .before .before .before .before .before .before .before .before .before .args .text .now) (c .before .before .before .before .loop .i) 0) (sym (c .before .is-digit2 .ensures) ∙ c .if4 .taken))
+with-digit-requires-2 c κs = (
+  c .before .before .before .before .loop .inv .1 .1 .small,
+  digit-low
+      (getD (c .before .before .before .before .before .before .before .before .before .before .before .before .args .text .now) (c .before .before .before .before .loop .i) 0)
+      (sym (c .before .is-digit2 .ensures) ∙ c .if4 .taken),
+)
 
 add-i-2 : tie.Need-add-i-2 Inv-loop μ-loop
 add-i-2 c = omega arith
@@ -59,13 +81,31 @@ loop-less : tie.Need-loop-less Inv-loop μ-loop
 loop-less c = omega arith
 
 loop-again : tie.Need-loop-again Inv-loop μ-loop
-loop-again c = (c .before .before .before .before .before .loop .inv .0, (c .before .before .before .before .before .loop .inv .1 .0, rest-more (c .before .before .before .before .before .before .before .before .before .before .before .before .before .args .text .now) (c .before .before .before .before .before .before .before .before .before .before .before .before .before .args .at) (c .before .before .before .before .before .loop .value) (c .before .before .before .before .before .loop .i) (c .with-digit2 .result) (c .before .before .before .before .before .loop .inv .1 .1) (c .before .before .before .before .loop-test .taken) (sym (c .before .before .is-digit2 .ensures) ∙ c .before .if4 .taken) (c .with-digit2 .ensures)))
+loop-again c = (
+  c .before .before .before .before .before .loop .inv .0,
+  (
+    c .before .before .before .before .before .loop .inv .1 .0,
+    rest-more (c .before .before .before .before .before .before .before .before .before .before .before .before .before .args .text .now)
+        (c .before .before .before .before .before .before .before .before .before .before .before .before .before .args .at)
+        (c .before .before .before .before .before .loop .value) (c .before .before .before .before .before .loop .i) (c .with-digit2 .result)
+        (c .before .before .before .before .before .loop .inv .1 .1) (c .before .before .before .before .loop-test .taken)
+        (sym (c .before .before .is-digit2 .ensures) ∙ c .before .if4 .taken) (c .with-digit2 .ensures),
+  ),
+)
 
 returns-4 : tie.Need-returns-4 Inv-loop μ-loop
-returns-4 c = rest-stop (c .before .before .before .before .before .before .before .before .before .before .before .before .args .text .now) (c .before .before .before .before .before .before .before .before .before .before .before .before .args .at) (c .before .before .before .before .loop .inv .0) (c .before .before .before .before .loop .inv .1 .0) (c .before .before .before .before .loop .value) (c .before .before .before .before .loop .i) (c .before .before .before .before .loop .inv .1 .1) (c .before .before .before .loop-test .taken) (sym (c .before .is-digit2 .ensures) ∙ c .if4 .left)
+returns-4 c =
+    rest-stop (c .before .before .before .before .before .before .before .before .before .before .before .before .args .text .now)
+    (c .before .before .before .before .before .before .before .before .before .before .before .before .args .at)
+    (c .before .before .before .before .loop .inv .0) (c .before .before .before .before .loop .inv .1 .0) (c .before .before .before .before .loop .value)
+    (c .before .before .before .before .loop .i) (c .before .before .before .before .loop .inv .1 .1) (c .before .before .before .loop-test .taken)
+    (sym (c .before .is-digit2 .ensures) ∙ c .if4 .left)
 
 returns-5 : tie.Need-returns-5 Inv-loop μ-loop
-returns-5 c = rest-out (c .before .before .before .before .before .before .before .before .before .args .text .now) (c .before .before .before .before .before .before .before .before .before .args .at) (c .before .loop .inv .0) (c .before .loop .inv .1 .0) (c .before .loop .value) (c .before .loop .i) (c .before .loop .inv .1 .1) (c .loop-test .left)
+returns-5 c =
+    rest-out (c .before .before .before .before .before .before .before .before .before .args .text .now)
+    (c .before .before .before .before .before .before .before .before .before .args .at) (c .before .loop .inv .0) (c .before .loop .inv .1 .0)
+    (c .before .loop .value) (c .before .loop .i) (c .before .loop .inv .1 .1) (c .loop-test .left)
 
 pub read-numeral-spec : {M : Type 1} → statement M
 read-numeral-spec =

@@ -19,13 +19,22 @@ sub-name : tie.Need-sub-name Inv-loop μ-loop
 sub-name c = omega (arith, c .before .pre .ends)
 
 part-name-start : tie.Need-part-name-start Inv-loop μ-loop
-part-name-start c = let f = name-fits (c .before .args .text .now) (c .before .args .start) (omega (arith, c .before .pre .begins)) in omega (arith, c .before .pre .ends, c .before .pre .begins)
+part-name-start c =
+    let f = name-fits (c .before .args .text .now) (c .before .args .start) (omega (arith, c .before .pre .begins)) in
+    omega (arith, c .before .pre .ends, c .before .pre .begins)
 
 part-name-end : tie.Need-part-name-end Inv-loop μ-loop
 part-name-end c = let f = name-fits (c .before .args .text .now) (c .before .args .start) (omega (arith, c .before .pre .begins)) in omega (arith, c .before .pre .ends)
 
 loop-holds : tie.Need-loop-holds Inv-loop μ-loop
-loop-holds c = (omega arith, (name-part (c .before .before .args .text .now) (c .before .before .args .start) (c .before .before .args .end - c .before .before .args .start) (omega (arith, c .before .before .pre .ends)), refl))
+loop-holds c = (
+  omega arith,
+  (
+    name-part (c .before .before .args .text .now) (c .before .before .args .start) (c .before .before .args .end - c .before .before .args .start)
+        (omega (arith, c .before .before .pre .ends)),
+    refl,
+  ),
+)
 
 mul-word : tie.Need-mul-word Inv-loop μ-loop
 mul-word c = omega (arith, c .before .before .before .before .pre .few)
@@ -46,16 +55,20 @@ sub-same-bytes : tie.Need-sub-same-bytes Inv-loop μ-loop
 sub-same-bytes c = omega arith
 
 part-same-bytes-start : tie.Need-part-same-bytes-start Inv-loop μ-loop
-part-same-bytes-start c = let f = earlier-fits (c .before .before .before .before .before .args .text .now) (c .before .before .before .before .before .args .names .now) (c .before .before .before .before .before .args .n) (c .before .before .before .before .before .args .start) (c .before .before .before .before .before .args .end) (c .before .before .before .before .before .pre) (c .before .before .loop .i) (c .before .loop-test .taken) in omega arith
+part-same-bytes-start c = let f = earlier-fits (c .before .before .before .before .before .pre) (c .before .before .loop .i) (c .before .loop-test .taken) in omega arith
 
 part-same-bytes-end : tie.Need-part-same-bytes-end Inv-loop μ-loop
-part-same-bytes-end c = let f = earlier-fits (c .before .before .before .before .before .args .text .now) (c .before .before .before .before .before .args .names .now) (c .before .before .before .before .before .args .n) (c .before .before .before .before .before .args .start) (c .before .before .before .before .before .args .end) (c .before .before .before .before .before .pre) (c .before .before .loop .i) (c .before .loop-test .taken) in omega arith
+part-same-bytes-end c = let f = earlier-fits (c .before .before .before .before .before .pre) (c .before .before .loop .i) (c .before .loop-test .taken) in omega arith
 
 same-bytes-requires : tie.Need-same-bytes-requires Inv-loop μ-loop
 same-bytes-requires c κs = tt
 
 returns : tie.Need-returns Inv-loop μ-loop
-returns c = search-found (c .before .before .before .before .before .before .before .before .args .text .now) (c .before .before .before .before .before .before .before .before .args .names .now) (c .before .before .before .before .before .before .before .before .args .n) (c .before .before .before .before .before .before .before .before .args .start) (c .before .before .before .before .before .before .before .before .args .end) (c .before .before .before .before .before .before .before .before .pre) (c .before .before .before .before .before .loop .i) (c .before .before .before .before .loop-test .taken) (rw (← c .before .before .before .before .before .loop .inv .1 .0) (sym (c .before .same-bytes .ensures) ∙ c .if1 .taken)) ∙ c .before .before .before .before .before .loop .inv .1 .1
+returns c =
+    search-found (c .before .before .before .before .before .before .before .before .pre) (c .before .before .before .before .before .loop .i)
+    (c .before .before .before .before .loop-test .taken)
+    (rw (← c .before .before .before .before .before .loop .inv .1 .0) (sym (c .before .same-bytes .ensures) ∙ c .if1 .taken))
+    ∙ c .before .before .before .before .before .loop .inv .1 .1
 
 add-i : tie.Need-add-i Inv-loop μ-loop
 add-i c = omega arith
@@ -64,10 +77,19 @@ loop-less : tie.Need-loop-less Inv-loop μ-loop
 loop-less c = omega arith
 
 loop-again : tie.Need-loop-again Inv-loop μ-loop
-loop-again c = (omega arith, (c .before .before .before .before .before .loop .inv .1 .0, search-next (c .before .before .before .before .before .before .before .before .args .text .now) (c .before .before .before .before .before .before .before .before .args .names .now) (c .before .before .before .before .before .before .before .before .args .n) (c .before .before .before .before .before .before .before .before .args .start) (c .before .before .before .before .before .before .before .before .args .end) (c .before .before .before .before .before .before .before .before .pre) (c .before .before .before .before .before .loop .i) (c .before .before .before .before .loop-test .taken) (rw (← c .before .before .before .before .before .loop .inv .1 .0) (sym (c .before .same-bytes .ensures) ∙ c .if1 .left)) ∙ c .before .before .before .before .before .loop .inv .1 .1))
+loop-again c = (
+  omega arith,
+  (
+    c .before .before .before .before .before .loop .inv .1 .0,
+    search-next (c .before .before .before .before .before .before .before .before .pre) (c .before .before .before .before .before .loop .i)
+        (c .before .before .before .before .loop-test .taken)
+        (rw (← c .before .before .before .before .before .loop .inv .1 .0) (sym (c .before .same-bytes .ensures) ∙ c .if1 .left))
+        ∙ c .before .before .before .before .before .loop .inv .1 .1,
+  ),
+)
 
 returns-2 : tie.Need-returns-2 Inv-loop μ-loop
-returns-2 c = search-end (c .before .before .before .before .args .text .now) (c .before .before .before .before .args .names .now) (c .before .before .before .before .args .n) (c .before .before .before .before .args .start) (c .before .before .before .before .args .end) (c .before .before .before .before .pre) (c .before .loop .i) (c .loop-test .left) ∙ c .before .loop .inv .1 .1
+returns-2 c = search-end (c .before .before .before .before .pre) (c .before .loop .i) (c .loop-test .left) ∙ c .before .loop .inv .1 .1
 
 pub repeated-spec : {M : Type 1} → statement M
 repeated-spec =

@@ -44,10 +44,19 @@ loop-less : tie.Need-loop-less Inv-loop μ-loop
 loop-less c = omega arith
 
 loop-again : tie.Need-loop-again Inv-loop μ-loop
-loop-again c = (omega arith, rw (c .before .before .before .loop .inv .1, c .unpacked .ensures) (fill-turn nodeOf unused (c .before .before .before .before .before .args .work .now) 128 (c .before .before .before .loop .i) 0 (omega arith) (omega arith)))
+loop-again c = (
+  omega arith,
+  rw (c .before .before .before .loop .inv .1, c .unpacked .ensures)
+      (fill-turn nodeOf unused (c .before .before .before .before .before .args .work .now) 128 (c .before .before .before .loop .i) 0 (omega arith) (omega arith)),
+)
 
 returns : tie.Need-returns Inv-loop μ-loop
-returns c = let e : c .before .loop .i ≡ c .before .before .before .args .len = omega arith in rule-filled (map nodeOf (take (c .before .before .before .args .len) (c .before .before .before .args .work .now))) (c .before .loop .rule .nodes) (c .before .before .before .args .len) (fill-length nodeOf unused (c .before .before .before .args .work .now) (c .before .before .before .args .len) (omega arith)) (rw e at (c .before .loop .inv .1))
+returns c =
+    let e : c .before .loop .i ≡ c .before .before .before .args .len = omega arith in
+    rule-filled (map nodeOf (take (c .before .before .before .args .len) (c .before .before .before .args .work .now))) (c .before .loop .rule .nodes)
+    (c .before .before .before .args .len)
+    (fill-length nodeOf unused (c .before .before .before .args .work .now) (c .before .before .before .args .len) (omega arith))
+    (rw e at (c .before .loop .inv .1))
 
 pub rule-of-spec : {M : Type 1} → statement M
 rule-of-spec =

@@ -27,7 +27,10 @@ shared-slice-read-if2-2 : tie.Need-shared-slice-read-if2-2 Inv-loop μ-loop
 shared-slice-read-if2-2 c = omega arith
 
 returns-2 : tie.Need-returns-2 Inv-loop μ-loop
-returns-2 c = same-differ (c .before .before .before .before .before .before .args .a .now) (c .before .before .before .before .before .before .args .b .now) (c .before .before .before .before .loop .i) (omega arith) (omega arith) (c .if2 .taken) ∙ c .before .before .before .before .loop .inv .1 .1
+returns-2 c =
+    same-differ (c .before .before .before .before .before .before .args .a .now) (c .before .before .before .before .before .before .args .b .now)
+    (c .before .before .before .before .loop .i) (omega arith) (omega arith) (c .if2 .taken)
+    ∙ c .before .before .before .before .loop .inv .1 .1
 
 add-i : tie.Need-add-i Inv-loop μ-loop
 add-i c = omega arith
@@ -36,10 +39,20 @@ loop-less : tie.Need-loop-less Inv-loop μ-loop
 loop-less c = omega arith
 
 loop-again : tie.Need-loop-again Inv-loop μ-loop
-loop-again c = (c .before .before .before .before .loop .inv .0, (omega arith, same-step (c .before .before .before .before .before .before .args .a .now) (c .before .before .before .before .before .before .args .b .now) (c .before .before .before .before .loop .i) (omega arith) (omega arith) (c .if2 .left) ∙ c .before .before .before .before .loop .inv .1 .1))
+loop-again c = (
+  c .before .before .before .before .loop .inv .0,
+  (
+    omega arith,
+    same-step (c .before .before .before .before .before .before .args .a .now) (c .before .before .before .before .before .before .args .b .now)
+        (c .before .before .before .before .loop .i) (omega arith) (omega arith) (c .if2 .left)
+        ∙ c .before .before .before .before .loop .inv .1 .1,
+  ),
+)
 
 returns-3 : tie.Need-returns-3 Inv-loop μ-loop
-returns-3 c = same-end (c .before .before .before .args .a .now) (c .before .before .before .args .b .now) (c .before .loop .i) (omega arith) (omega arith) ∙ c .before .loop .inv .1 .1
+returns-3 c =
+    same-end (c .before .before .before .args .a .now) (c .before .before .before .args .b .now) (c .before .loop .i) (omega arith) (omega arith)
+    ∙ c .before .loop .inv .1 .1
 
 pub same-bytes-spec : {M : Type 1} → statement M
 same-bytes-spec =

@@ -9,7 +9,7 @@ use native.Mathlib.Decide.{decLt}
 use native.Mathlib.Numerals.{add-one}
 use lib.Dec.{T, leb, ltb, eqb, leb→le, nltb→le, eqb→eq}
 use mir.Facts.{and-yes, or-no}
-use lib.ListN.{length, drop, getD, drop-of-length-le, List·getD-eq-default, length-drop}
+use lib.ListN.{length, drop, getD, drop-of-length-le, List·getD-eq-default}
 use lib.Seq.{drop-cons}
 use Rattle.judge.specs.declared.text.Numeral.the-variants.{Value, Bad as NoNumeral}
 use Rattle.judge.specs.Bytes.{Text, isDigit, value, valueFrom, front}
@@ -121,18 +121,6 @@ digits-short (d ∷ y) = go (isDigit d) (eqb d (code "0")) (front-short isDigit 
     go true true h = omega arith
     go true false h = omega arith
     go false c h = omega arith
-
-pub numeral-inside : (x : Text) (q v p : ℕ) → q ≤ length x → numeralAt x q ≡ Value v p → p ≤ length x
-unfolding numeralAt
-numeral-inside x q v p h e = go (isDigit (getD x q 0)) e
-  where
-    go : (b : Bool) → cond b (Value (capped (value (digits (drop q x)))) (q + length (digits (drop q x)))) (NoNumeral q) ≡ Value v p → p ≤ length x
-    go true g =
-        let l : q + length (digits (drop q x)) ≡ p = cc in
-        let s : length (digits (drop q x)) ≤ length (drop q x) = digits-short (drop q x) in
-        let d : length (drop q x) ≡ length x - q = length-drop q x in
-        omega arith
-    go false g = absurd (let z : _≡_ {A = ℕ} 0 1 = cc in omega arith)
 
 -- no fault of a count: both numbers are small
 pub above-of : (m n l : ℕ) → (eqb n 0 || ltb n m || ltb l n) ≡ false → (m ≤ n) × (n ≤ l)

@@ -1,0 +1,18 @@
+-- The ends: what the desk's promises come to. Each proof is a citation.
+use mathlib.Core.Path.{_≡_}
+use mathlib.Core.Logic.{_↔_}
+use Prim.Native.Nat.{ℕ}
+use Rattle.judge.specs.declared.verdict.Verdict.{Verdict}
+use Rattle.judge.specs.Bytes.{Text}
+use Rattle.desk.specs.Desk.{Reply, replyNumber, verdictNumber, DeskJudges, deskAnswer}
+use Rattle.desk.specs.Desk.Laws.{answer-exactly}
+use Rattle.desk.specs.Child.{Part, Finds, found}
+use Rattle.desk.specs.Child.Laws.{finds-exactly}
+
+-- `desk_judge`: the number is that of the one reply that the meaning gives
+pub desk-exactly : (m c : Text) (r : Reply Verdict) → (deskAnswer m c ≡ replyNumber verdictNumber r) ↔ DeskJudges m c r
+desk-exactly = answer-exactly
+
+-- `child` and `child_refusal`: one reply, and only one
+pub child-exactly : (m c : Text) (k : ℕ) (r : Reply Part) → (found m c k ≡ r) ↔ Finds m c k r
+child-exactly = finds-exactly

@@ -1,0 +1,6 @@
+// The desk: a model text and a children text in, a number out.
+
+pub mod answer;
+pub mod child;
+mod row;
+mod table;

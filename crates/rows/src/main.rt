@@ -1,0 +1,226 @@
+// Runs what document 01 gives to try and is not proved, and the examples of document 001: a line for each, with the text or the model and the row,
+// and the answer.
+
+use judge::fault::ModelFault;
+use judge::row::judge_row;
+use judge::text::Outcome;
+use judge::text::number_of;
+use judge::text::read_model;
+use judge::verdict::Judged;
+use judge::verdict::Verdict;
+
+// No row here is longer.
+const MOST: usize = 12;
+
+fn write(text: &[u8]) {
+    io::write_all(1, text);
+}
+
+fn write_answer(answer: Judged) {
+    match answer {
+        Judged::Verdict(verdict) => match verdict {
+            Verdict::Complete => write(b"complete\n"),
+            Verdict::Open => write(b"open\n"),
+            Verdict::Dead => write(b"dead\n"),
+        },
+        Judged::Refused(_) => write(b"refused\n"),
+    }
+}
+
+fn write_row(model: &[u8], row: &[u8], answer: Judged) {
+    write(model);
+    write(b"\t");
+    if row.len() == 0 {
+        write(b"none");
+    } else {
+        write(row);
+    }
+    write(b"\t");
+    write_answer(answer);
+}
+
+// A row of letters, each the name of a child.
+fn run(model: &[u8], row: &[u8]) {
+    let reading = read_model(model);
+    let rule = reading.rule;
+    let names = reading.names;
+    let mut numbers = [0u16; MOST];
+    let mut len: usize = 0;
+    while len < MOST {
+        if row.len() <= len {
+            break;
+        }
+        let end = len + 1;
+        let number = number_of(model, names, &row[len..end]);
+        numbers[len] = number.0;
+        len = end;
+    }
+    write_row(model, row, judge_row(rule, &numbers[0..len]));
+}
+
+// The longest row there is, of one name.
+fn run_longest(model: &[u8]) {
+    let reading = read_model(model);
+    let rule = reading.rule;
+    let row = [1u16; 4096];
+    write_row(model, b"4096 of a", judge_row(rule, &row));
+}
+
+fn number(fault: ModelFault) -> u64 {
+    match fault {
+        ModelFault::Size => 10,
+        ModelFault::Spelling => 11,
+        ModelFault::LongName => 12,
+        ModelFault::WrongCount => 13,
+        ModelFault::TooDeep => 14,
+        ModelFault::ManyAtoms => 15,
+        ModelFault::ManyNodes => 16,
+        ModelFault::Repeated => 17,
+    }
+}
+
+fn write_outcome(outcome: Outcome) {
+    match outcome {
+        Outcome::Read => write(b"read\n"),
+        Outcome::Refused(fault, place) => {
+            io::print_decimal(1, number(fault));
+            write(b"\t");
+            io::print_decimal(1, place as u64);
+            write(b"\n");
+        }
+    }
+}
+
+// A text under the name `shown`.
+fn read_as(shown: &[u8], text: &[u8]) {
+    write(shown);
+    write(b"\t");
+    let reading = read_model(text);
+    let outcome = reading.outcome;
+    write_outcome(outcome);
+}
+
+fn read(text: &[u8]) {
+    read_as(text, text);
+}
+
+// Document 01, "Rows to try": the rows without a star.
+fn rows_to_try() {
+    run(b"((a?&b[1..5]),(c|d[1..*]))", b"bbbbbb");
+    run(b"((a&b&c),d[0..*],(e|f|g))", b"bcad");
+    run(b"(a,b)", b"");
+    run(b"(a[2..3],b)", b"aab");
+    run(b"((a,b)&(c,d))", b"ca");
+    run(b"((a,b)&(c,d))", b"dc");
+    run(b"()", b"a");
+    run(b"(a|b)?", b"");
+    run(b"(a|b)?", b"ab");
+    run_longest(b"a[60000..60000]");
+}
+
+// Document 001, examples 2.2, 3.2 with 5.1, and 4.1.
+fn examples() {
+    run(b"((a,b)&(x,y))", b"abxy");
+    run(b"((a,b)&(x,y))", b"axby");
+    run(b"((a,b)&(x,y))", b"axyb");
+    run(b"((a,b)&(x,y))", b"xaby");
+    run(b"((a,b)&(x,y))", b"xayb");
+    run(b"((a,b)&(x,y))", b"xyab");
+    run(b"((a,b)&(x,y))", b"bxay");
+    run(b"((a?&b[1..5]),(c|d[1..*]))", b"bbac");
+    run(b"((a?&b[1..5]),(c|d[1..*]))", b"bbacb");
+    run(b"((a?&b[1..5]),(c|d[1..*]))", b"bbaca");
+    run(b"((a&b&c),d[0..*],(e|f|g))", b"bcadddg");
+    run(b"((a&b&c),d[0..*],(e|f|g))", b"bcadddgdga");
+}
+
+// Document 01, the paragraph under "Rows to try".
+fn limits() {
+    read(b"abcdefghabcdefghabcdefghabcdefgh");
+    read(b"abcdefghabcdefghabcdefghabcdefghi");
+    read(b"((((((((((((((((a))))))))))))))))");
+    read(b"(((((((((((((((((a)))))))))))))))))");
+    read(b"a[2..1");
+    read(b"a[2..1]");
+    read(b"(a,b|c)");
+    read(b"(a,a");
+}
+
+// Texts whose answer is easily got wrong: where a name ends, digits without end, what may follow what.
+fn names_and_counts() {
+    read(b"(a,a%");
+    read(b"(ab,a");
+    read(b"abcdefghabcdefghabcdefghabcdefghi%");
+    let long = [b'a'; 4097];
+    read_as(b"4096 of a", &long[0..4096]);
+    read_as(b"4097 of a", &long);
+    read_as(b"nothing", b"");
+    read(b"a[60000..60000]");
+    read(b"a[60001..*]");
+    read(b"a[99999999999999999999999999..1]");
+    read(b"a[0..0]");
+    read(b"a[0..*]");
+    read(b"a[60001..2%");
+    read(b"a[0..0");
+    read(b"a[01..2]");
+    read(b"a[1.2]");
+    read(b"a[1..]");
+    read(b"a[1]");
+    read(b"a[1..*5]");
+}
+
+fn marks_and_groups() {
+    read(b"((((((((((((((((a(");
+    read(b"a??");
+    read(b"a?[1..2]");
+    read(b"()?");
+    read(b"(a)?");
+    read(b"(a?)?");
+    read(b"a,b");
+    read(b"a)");
+    read(b"()a");
+    read(b"(a,)");
+    read(b"(,a)");
+    read(b"a-");
+}
+
+// Both sides of the limits on atoms and nodes, and which refusal comes first.
+fn atoms_and_nodes() {
+    read_as(
+        b"64 names",
+        b"(a,b,c,d,e,f,g,h,i,j,k,l,m,n,o,p,q,r,s,t,u,v,w,x,y,z,a0,b0,c0,d0,e0,f0,g0,h0,i0,j0,k0,l0,m0,n0,o0,p0,q0,r0,s0,t0,u0,v0,w0,x0,y0,z0,a-1,b-1,c-1,d-1,e-1,f-1,g-1,h-1,i-1,j-1,k-1,l-1)",
+    );
+    read_as(
+        b"65 names",
+        b"(a,b,c,d,e,f,g,h,i,j,k,l,m,n,o,p,q,r,s,t,u,v,w,x,y,z,a0,b0,c0,d0,e0,f0,g0,h0,i0,j0,k0,l0,m0,n0,o0,p0,q0,r0,s0,t0,u0,v0,w0,x0,y0,z0,a-1,b-1,c-1,d-1,e-1,f-1,g-1,h-1,i-1,j-1,k-1,l-1,m-1)",
+    );
+    read_as(
+        b"65 names, the last a repeat",
+        b"(a,b,c,d,e,f,g,h,i,j,k,l,m,n,o,p,q,r,s,t,u,v,w,x,y,z,a0,b0,c0,d0,e0,f0,g0,h0,i0,j0,k0,l0,m0,n0,o0,p0,q0,r0,s0,t0,u0,v0,w0,x0,y0,z0,a-1,b-1,c-1,d-1,e-1,f-1,g-1,h-1,i-1,j-1,k-1,l-1,a)",
+    );
+    read_as(
+        b"65 names, the last of 33 characters",
+        b"(a,b,c,d,e,f,g,h,i,j,k,l,m,n,o,p,q,r,s,t,u,v,w,x,y,z,a0,b0,c0,d0,e0,f0,g0,h0,i0,j0,k0,l0,m0,n0,o0,p0,q0,r0,s0,t0,u0,v0,w0,x0,y0,z0,a-1,b-1,c-1,d-1,e-1,f-1,g-1,h-1,i-1,j-1,k-1,l-1,aaaaaaaaaaaaaaaaaaaaaaaaaaaaaaaaa)",
+    );
+    read_as(
+        b"128 nodes",
+        b"((),(),(),(),(),(),(),(),(),(),(),(),(),(),(),(),(),(),(),(),(),(),(),(),(),(),(),(),(),(),(),(),(),(),(),(),(),(),(),(),(),(),(),(),(),(),(),(),(),(),(),(),(),(),(),(),(),(),(),(),(),(),(),(),(),(),(),(),(),(),(),(),(),(),(),(),(),(),(),(),(),(),(),(),(),(),(),(),(),(),(),(),(),(),(),(),(),(),(),(),(),(),(),(),(),(),(),(),(),(),(),(),(),(),(),(),(),(),(),(),(),(),(),(),(),(),())",
+    );
+    read_as(
+        b"129 nodes",
+        b"((),(),(),(),(),(),(),(),(),(),(),(),(),(),(),(),(),(),(),(),(),(),(),(),(),(),(),(),(),(),(),(),(),(),(),(),(),(),(),(),(),(),(),(),(),(),(),(),(),(),(),(),(),(),(),(),(),(),(),(),(),(),(),(),(),(),(),(),(),(),(),(),(),(),(),(),(),(),(),(),(),(),(),(),(),(),(),(),(),(),(),(),(),(),(),(),(),(),(),(),(),(),(),(),(),(),(),(),(),(),(),(),(),(),(),(),(),(),(),(),(),(),(),(),(),(),(),())",
+    );
+    read_as(
+        b"129 nodes, the last 17 deep",
+        b"((),(),(),(),(),(),(),(),(),(),(),(),(),(),(),(),(),(),(),(),(),(),(),(),(),(),(),(),(),(),(),(),(),(),(),(),(),(),(),(),(),(),(),(),(),(),(),(),(),(),(),(),(),(),(),(),(),(),(),(),(),(),(),(),(),(),(),(),(),(),(),(),(),(),(),(),(),(),(),(),(),(),(),(),(),(),(),(),(),(),(),(),(),(),(),(),(),(),(),(),(),(),(),(),(),(),(),(),(),(),(),(),((((((((((((((((",
+    );
+}
+
+fn main() {
+    rows_to_try();
+    examples();
+    limits();
+    names_and_counts();
+    marks_and_groups();
+    atoms_and_nodes();
+}

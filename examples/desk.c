@@ -1,0 +1,57 @@
+/* A client of the desk: judges the children named on the command line by the model of the example,
+   and says the verdict in words. Without names it judges a cue that is still open. */
+#include "desk.h"
+
+#include <stdio.h>
+#include <string.h>
+
+static const char MODEL[] = "(axis,target,(crawl&gather)?,hold[0..2])";
+static const char *const DEFAULT[] = {"axis", "target", "crawl"};
+
+enum { ROOM = 65536 }; /* one byte more than a children text may have */
+
+static const char *in_words(uint32_t answer)
+{
+    switch (answer) {
+    case 0: return "complete";
+    case 1: return "open";
+    case 2: return "dead";
+    case 10: return "refused: the model is empty or over 4,096 bytes";
+    case 11: return "refused: no model begins so, or it stops short";
+    case 12: return "refused: a name in the model is over 32 characters";
+    case 13: return "refused: a count in the model is wrong";
+    case 14: return "refused: over 16 round brackets are open at once";
+    case 15: return "refused: the model has over 64 atoms";
+    case 16: return "refused: the model has over 128 nodes";
+    case 17: return "refused: a name stands twice in the model";
+    case 30: return "refused: the children are over 65,535 bytes";
+    case 35: return "refused: a child is no name of 1 to 32 characters";
+    case 36: return "refused: there are over 4,096 children";
+    default: return "an answer that is not in the table";
+    }
+}
+
+/* Names parted by tabs; what has no room is cut off, and the text is then refused as too long. */
+static size_t write_children(char *text, const char *const *names, size_t count)
+{
+    size_t len = 0;
+    for (size_t i = 0; i < count; i++) {
+        if (i != 0 && len < ROOM)
+            text[len++] = '\t';
+        for (const char *byte = names[i]; *byte != '\0' && len < ROOM; byte++)
+            text[len++] = *byte;
+    }
+    return len;
+}
+
+int main(int argc, char **argv)
+{
+    static char children[ROOM];
+    size_t len = argc > 1
+        ? write_children(children, (const char *const *)argv + 1, (size_t)argc - 1)
+        : write_children(children, DEFAULT, sizeof DEFAULT / sizeof DEFAULT[0]);
+    uint32_t answer = desk_judge((const uint8_t *)MODEL, strlen(MODEL),
+                                 (const uint8_t *)children, len);
+    puts(in_words(answer));
+    return answer > 2;
+}

@@ -1,0 +1,44 @@
+/* The desk: judges a row of children by a model. Link with libdesk.a (rt staticlib desk).
+
+   A model text is one member: `(axis,target,(crawl&gather)?,hold[0..2])`. A children text is names
+   parted by tabs; no bytes mean no children, and then the pointer may be null. Texts are bytes with
+   a length, not ended by a zero. Nothing is written, nothing is kept from call to call.
+
+   Answer      When
+        0      complete: the row is in the model
+        1      open: it is not, but some longer row that begins with it is
+        2      dead: neither; a name that the model lacks makes the row dead
+   The model text is refused:
+       10      empty, or over 4,096 bytes
+       11      no model begins so, or the text stops short
+       12      a name over 32 characters
+       13      n is 0, n below m, or a number over 60,000 in a count [m..n] or [m..*]
+       14      over 16 round brackets open at once
+       15      over 64 atoms
+       16      over 128 nodes
+       17      a name written before
+   The model text is good and the children text is refused:
+       30      over 65,535 bytes
+       35      a child is no name of 1 to 32 characters
+       36      over 4,096 children
+
+   10 comes first; of 11 to 17 the one at the smallest place of the text wins, then the smallest
+   number. Of 30, 35 and 36 the smallest number wins. */
+#ifndef DESK_H
+#define DESK_H
+
+#include <stddef.h>
+#include <stdint.h>
+
+#ifdef __cplusplus
+extern "C" {
+#endif
+
+uint32_t desk_judge(const uint8_t *model, size_t model_len,
+                    const uint8_t *children, size_t children_len);
+
+#ifdef __cplusplus
+}
+#endif
+
+#endif

@@ -1,0 +1,656 @@
+/* A slow oracle for the desk.
+
+   Spelling: an Earley recogniser over the grammar of document 01 says how many bytes of a text
+   begin some model text, and where names and nodes begin. The other refusals are tested place by
+   place, in the words of the table.
+
+   Verdict: the model as a type of document 001, derived (Brzozowski) by each child in turn. Two
+   further ways must agree on small inputs: membership by definition 2.1 word for word, and a search
+   through derived types for a longer row. */
+#include "brute.h"
+
+#include <stdbool.h>
+#include <stdlib.h>
+#include <string.h>
+
+static void *grown(void *block, size_t bytes)
+{
+    block = realloc(block, bytes);
+    if (block == NULL)
+        abort();
+    return block;
+}
+
+/* ---- the grammar ---- */
+
+/* Upper case letters are nonterminals, M the model; @ is a letter, # a digit, ! a digit but 0. */
+static const struct production {
+    char left;
+    const char *right;
+} GRAMMAR[] = {
+    {'M', "A"}, {'M', "A?"}, {'M', "G"}, {'M', "G?"},
+    {'A', "N"}, {'A', "N[D..D]"}, {'A', "N[D..*]"},
+    {'N', "@"}, {'N', "N@"}, {'N', "N#"}, {'N', "N-"},
+    {'D', "0"}, {'D', "P"}, {'P', "!"}, {'P', "P#"},
+    {'G', "()"}, {'G', "(M)"}, {'G', "(S)"}, {'G', "(C)"}, {'G', "(I)"},
+    {'S', "M,M"}, {'S', "S,M"},
+    {'C', "M|M"}, {'C', "C|M"},
+    {'I', "M&M"}, {'I', "I&M"},
+};
+
+enum { PRODUCTIONS = sizeof GRAMMAR / sizeof GRAMMAR[0] };
+
+static bool is_nonterminal(char symbol) { return symbol >= 'A' && symbol <= 'Z'; }
+
+/* A nonterminal matches no byte. */
+static bool matches(char symbol, uint8_t byte)
+{
+    switch (symbol) {
+    case '@': return byte >= 'a' && byte <= 'z';
+    case '#': return byte >= '0' && byte <= '9';
+    case '!': return byte >= '1' && byte <= '9';
+    default: return !is_nonterminal(symbol) && byte == (uint8_t)symbol;
+    }
+}
+
+/* ---- Earley's recogniser; no production is empty ---- */
+
+struct item {
+    const struct production *production;
+    size_t dot;    /* symbols already found */
+    size_t origin; /* the place where the first one begins */
+};
+
+/* Set p holds what can be under way after p bytes: items[begin[p]] to items[begin[p + 1]]. */
+struct chart {
+    struct item *items;
+    size_t *begin;
+    size_t count, room;
+};
+
+static char next_symbol(const struct item *item) { return item->production->right[item->dot]; }
+
+static void add_item(struct chart *chart, size_t set, struct item item)
+{
+    for (size_t i = chart->begin[set]; i < chart->count; i++) {
+        const struct item *old = &chart->items[i];
+        if (old->production == item.production && old->dot == item.dot
+            && old->origin == item.origin)
+            return;
+    }
+    if (chart->count == chart->room) {
+        chart->room = 2 * chart->room + 64;
+        chart->items = grown(chart->items, chart->room * sizeof *chart->items);
+    }
+    chart->items[chart->count++] = item;
+}
+
+static void predict(struct chart *chart, size_t set, char left)
+{
+    for (size_t i = 0; i < PRODUCTIONS; i++)
+        if (GRAMMAR[i].left == left)
+            add_item(chart, set, (struct item){&GRAMMAR[i], 0, set});
+}
+
+/* The whole of a production was found: what waited for its left side goes on. */
+static void complete(struct chart *chart, size_t set, struct item done)
+{
+    for (size_t i = chart->begin[done.origin]; i < chart->begin[done.origin + 1]; i++) {
+        struct item item = chart->items[i];
+        if (next_symbol(&item) == done.production->left)
+            add_item(chart, set, (struct item){item.production, item.dot + 1, item.origin});
+    }
+}
+
+static void close_set(struct chart *chart, size_t set)
+{
+    for (size_t i = chart->begin[set]; i < chart->count; i++) {
+        struct item item = chart->items[i];
+        if (next_symbol(&item) == '\0')
+            complete(chart, set, item);
+        else if (is_nonterminal(next_symbol(&item)))
+            predict(chart, set, next_symbol(&item));
+    }
+    chart->begin[set + 1] = chart->count;
+}
+
+/* Reads byte `set`, from that set into the next one; false if no model begins so. */
+static bool advance(struct chart *chart, size_t set, uint8_t byte)
+{
+    for (size_t i = chart->begin[set]; i < chart->begin[set + 1]; i++) {
+        struct item item = chart->items[i];
+        if (next_symbol(&item) != '\0' && matches(next_symbol(&item), byte))
+            add_item(chart, set + 1, (struct item){item.production, item.dot + 1, item.origin});
+    }
+    if (chart->count == chart->begin[set + 1])
+        return false;
+    close_set(chart, set + 1);
+    return true;
+}
+
+/* Has byte p begun a part of this kind? */
+static bool begins(const struct chart *chart, char left, size_t p)
+{
+    for (size_t i = chart->begin[p + 1]; i < chart->begin[p + 2]; i++) {
+        const struct item *item = &chart->items[i];
+        if (item->production->left == left && item->dot == 1 && item->origin == p)
+            return true;
+    }
+    return false;
+}
+
+/* Are the first n bytes a model? */
+static bool is_model(const struct chart *chart, size_t n)
+{
+    for (size_t i = chart->begin[n]; i < chart->begin[n + 1]; i++) {
+        const struct item *item = &chart->items[i];
+        if (item->production->left == 'M' && item->origin == 0 && next_symbol(item) == '\0')
+            return true;
+    }
+    return false;
+}
+
+/* What the grammar says of a text. */
+struct spelling {
+    size_t good;   /* so many bytes begin some model text */
+    bool whole;    /* all of them are one */
+    bool *name_at; /* a name begins at this place */
+    bool *node_at; /* a node begins at this place */
+};
+
+static struct spelling spell(const uint8_t *text, size_t len)
+{
+    struct chart chart = {NULL, grown(NULL, (len + 2) * sizeof(size_t)), 0, 0};
+    struct spelling s = {0, false, grown(NULL, len + 1), grown(NULL, len + 1)};
+    chart.begin[0] = 0;
+    predict(&chart, 0, 'M');
+    close_set(&chart, 0);
+    while (s.good < len && advance(&chart, s.good, text[s.good])) {
+        size_t p = s.good++;
+        s.name_at[p] = begins(&chart, 'N', p);
+        s.node_at[p] = s.name_at[p] || begins(&chart, 'G', p);
+    }
+    s.whole = s.good == len && is_model(&chart, len);
+    free(chart.items);
+    free(chart.begin);
+    return s;
+}
+
+static void free_spelling(struct spelling *s)
+{
+    free(s->name_at);
+    free(s->node_at);
+}
+
+/* ---- the other refusals of a model text, each at one place ---- */
+
+static bool is_name_byte(uint8_t byte)
+{
+    return matches('@', byte) || matches('#', byte) || byte == '-';
+}
+
+static size_t name_length(const uint8_t *text, size_t len, size_t place)
+{
+    size_t end = place;
+    while (end < len && is_name_byte(text[end]))
+        end++;
+    return end - place;
+}
+
+static size_t how_many(const bool *flags, size_t before)
+{
+    size_t n = 0;
+    for (size_t i = 0; i < before; i++)
+        n += flags[i];
+    return n;
+}
+
+static size_t how_many_bytes(const uint8_t *text, size_t before, char byte)
+{
+    size_t n = 0;
+    for (size_t i = 0; i < before; i++)
+        n += text[i] == (uint8_t)byte;
+    return n;
+}
+
+/* Decimal numbers without leading zeros, as digits: is a below b? */
+static bool below(const uint8_t *a, size_t a_len, const uint8_t *b, size_t b_len)
+{
+    return a_len != b_len ? a_len < b_len : memcmp(a, b, a_len) < 0;
+}
+
+/* The count that ends at this `]`: n is 0, n below m, or a number over 60,000. */
+static bool wrong_count(const uint8_t *text, size_t bracket)
+{
+    static const uint8_t limit[] = "60000";
+    size_t start = bracket, dots;
+    while (text[start - 1] != '[')
+        start--;
+    for (dots = start; text[dots] != '.'; dots++)
+        ;
+    const uint8_t *m = text + start, *n = text + dots + 2;
+    size_t m_len = dots - start, n_len = bracket - dots - 2;
+    if (below(limit, 5, m, m_len))
+        return true;
+    if (*n == '*')
+        return false;
+    return *n == '0' || below(n, n_len, m, m_len) || below(limit, 5, n, n_len);
+}
+
+static bool written_before(const uint8_t *text, size_t len, const struct spelling *s, size_t place)
+{
+    size_t n = name_length(text, len, place);
+    for (size_t q = 0; q < place; q++)
+        if (s->name_at[q] && name_length(text, len, q) == n
+            && memcmp(text + q, text + place, n) == 0)
+            return true;
+    return false;
+}
+
+/* Does this refusal of the table, 12 to 17, stand at this place? */
+static bool stands(uint32_t number, const uint8_t *text, size_t len, const struct spelling *s,
+                   size_t p)
+{
+    switch (number) {
+    case 12: return s->name_at[p] && name_length(text, len, p) > 32;
+    case 13: return text[p] == ']' && wrong_count(text, p);
+    case 14: return text[p] == '('
+                    && how_many_bytes(text, p + 1, '(') > 16 + how_many_bytes(text, p, ')');
+    case 15: return s->name_at[p] && how_many(s->name_at, p + 1) > 64;
+    case 16: return s->node_at[p] && how_many(s->node_at, p + 1) > 128;
+    case 17: return s->name_at[p] && written_before(text, len, s, p);
+    default: return false;
+    }
+}
+
+uint32_t brute_model(const uint8_t *text, size_t len, size_t *place)
+{
+    *place = 0;
+    if (len == 0 || len > 4096)
+        return 10;
+    struct spelling s = spell(text, len);
+    uint32_t answer = 0;
+    for (size_t p = 0; p < s.good && answer == 0; p++)
+        for (uint32_t number = 12; number <= 17 && answer == 0; number++)
+            if (stands(number, text, len, &s, p)) {
+                answer = number;
+                *place = p;
+            }
+    if (answer == 0 && !s.whole) {
+        answer = 11;
+        *place = s.good;
+    }
+    free_spelling(&s);
+    return answer;
+}
+
+/* ---- types of 001, and the further ones that derivation makes ---- */
+
+enum op { NONE, EMPTY_ROW, ATOM, CHOICE, SEQUENCE, SHUFFLE };
+
+struct type {
+    enum op op;
+    size_t name;
+    long min, max; /* of an atom; max -1: no upper end */
+    const struct type *left, *right;
+    struct type *next; /* in its bucket */
+    bool seen;         /* by the search */
+};
+
+/* All types of one call; equal ones are made once. */
+enum { BUCKETS = 4096 };
+struct pool {
+    struct type *bucket[BUCKETS];
+};
+
+static const struct type *make(struct pool *pool, struct type t)
+{
+    size_t hash = t.op + 7 * t.name + 31 * (size_t)t.min + 101 * (size_t)t.max;
+    hash = (hash ^ (uintptr_t)t.left >> 4) * 31 ^ (uintptr_t)t.right >> 4;
+    struct type **bucket = &pool->bucket[hash % BUCKETS];
+    for (struct type *old = *bucket; old != NULL; old = old->next)
+        if (old->op == t.op && old->name == t.name && old->min == t.min && old->max == t.max
+            && old->left == t.left && old->right == t.right)
+            return old;
+    struct type *type = grown(NULL, sizeof *type);
+    *type = t;
+    type->next = *bucket;
+    *bucket = type;
+    return type;
+}
+
+static void free_pool(struct pool *pool)
+{
+    for (size_t i = 0; i < BUCKETS; i++)
+        while (pool->bucket[i] != NULL) {
+            struct type *type = pool->bucket[i];
+            pool->bucket[i] = type->next;
+            free(type);
+        }
+    free(pool);
+}
+
+static const struct type *leaf(struct pool *pool, enum op op)
+{
+    return make(pool, (struct type){.op = op});
+}
+
+static const struct type *atom(struct pool *pool, size_t name, long min, long max)
+{
+    return make(pool, (struct type){.op = ATOM, .name = name, .min = min, .max = max});
+}
+
+static const struct type *pair(struct pool *pool, enum op op, const struct type *left,
+                               const struct type *right)
+{
+    return make(pool, (struct type){.op = op, .left = left, .right = right});
+}
+
+/* ---- a model text as a type ---- */
+
+struct piece {
+    const uint8_t *at;
+    size_t len;
+};
+
+struct model {
+    struct pool *pool;
+    struct piece name[64];
+    size_t names;
+    bool small; /* low counts: the search through derived types ends soon */
+};
+
+static const struct type *type_of(struct model *model, const uint8_t *text, size_t len);
+
+/* a, a[m..n], a[m..*]; a[0..n] is () or a[1..n]. */
+static const struct type *type_of_atom(struct model *model, const uint8_t *text, size_t len)
+{
+    long min = 1, max = 1;
+    size_t n = name_length(text, len, 0);
+    size_t name = model->names++;
+    model->name[name] = (struct piece){text, n};
+    if (n < len) {
+        char *end;
+        min = strtol((const char *)text + n + 1, &end, 10);
+        max = end[2] == '*' ? -1 : strtol(end + 2, &end, 10);
+    }
+    if (min > 9 || max > 9)
+        model->small = false;
+    if (min > 0)
+        return atom(model->pool, name, min, max);
+    return pair(model->pool, CHOICE, leaf(model->pool, EMPTY_ROW), atom(model->pool, name, 1, max));
+}
+
+/* Where the first member of these ends: at the first sign outside inner brackets. */
+static size_t member_length(const uint8_t *text, size_t len)
+{
+    size_t depth = 0, i;
+    for (i = 0; i < len; i++) {
+        if (depth == 0 && (text[i] == ',' || text[i] == '|' || text[i] == '&'))
+            break;
+        depth += text[i] == '(';
+        depth -= text[i] == ')';
+    }
+    return i;
+}
+
+/* What stands between a group's brackets, nested to the left. */
+static const struct type *type_of_members(struct model *model, const uint8_t *text, size_t len)
+{
+    if (len == 0)
+        return leaf(model->pool, EMPTY_ROW);
+    size_t end = member_length(text, len);
+    const struct type *all = type_of(model, text, end);
+    while (end < len) {
+        enum op op = text[end] == ',' ? SEQUENCE : text[end] == '|' ? CHOICE : SHUFFLE;
+        size_t next = member_length(text + end + 1, len - end - 1);
+        all = pair(model->pool, op, all, type_of(model, text + end + 1, next));
+        end += 1 + next;
+    }
+    return all;
+}
+
+static const struct type *type_of(struct model *model, const uint8_t *text, size_t len)
+{
+    if (text[len - 1] == '?')
+        return pair(model->pool, CHOICE, leaf(model->pool, EMPTY_ROW),
+                    type_of(model, text, len - 1));
+    return text[0] == '(' ? type_of_members(model, text + 1, len - 2)
+                          : type_of_atom(model, text, len);
+}
+
+/* ---- membership, definition 2.1 of 001 word for word ---- */
+
+enum { SHORT = 8, FOREIGN = 64 };
+
+static bool holds(const struct type *t, const uint8_t *row, size_t n);
+
+static bool holds_atom(const struct type *t, const uint8_t *row, size_t n)
+{
+    for (size_t i = 0; i < n; i++)
+        if (row[i] != t->name)
+            return false;
+    return n > 0 && (long)n >= t->min && (t->max < 0 || (long)n <= t->max);
+}
+
+static bool holds_sequence(const struct type *t, const uint8_t *row, size_t n)
+{
+    for (size_t i = 0; i <= n; i++)
+        if (holds(t->right, row + i, n - i) && holds(t->left, row, i))
+            return true;
+    return false;
+}
+
+/* Every way to share the row out between the two sides. */
+static bool holds_shuffle(const struct type *t, const uint8_t *row, size_t n)
+{
+    for (unsigned shares = 0; shares < 1u << n; shares++) {
+        uint8_t left[SHORT], right[SHORT];
+        size_t l = 0, r = 0;
+        for (size_t i = 0; i < n; i++) {
+            if (shares >> i & 1)
+                left[l++] = row[i];
+            else
+                right[r++] = row[i];
+        }
+        if (holds(t->right, right, r) && holds(t->left, left, l))
+            return true;
+    }
+    return false;
+}
+
+static bool holds(const struct type *t, const uint8_t *row, size_t n)
+{
+    switch (t->op) {
+    case EMPTY_ROW: return n == 0;
+    case ATOM: return holds_atom(t, row, n);
+    case CHOICE: return holds(t->left, row, n) || holds(t->right, row, n);
+    case SEQUENCE: return holds_sequence(t, row, n);
+    case SHUFFLE: return holds_shuffle(t, row, n);
+    default: return false;
+    }
+}
+
+/* ---- derivation ---- */
+
+/* Does the type hold the empty row? */
+static bool nullable(const struct type *t)
+{
+    switch (t->op) {
+    case EMPTY_ROW: return true;
+    case ATOM: return t->min == 0;
+    case CHOICE: return nullable(t->left) || nullable(t->right);
+    case SEQUENCE:
+    case SHUFFLE: return nullable(t->left) && nullable(t->right);
+    default: return false;
+    }
+}
+
+/* Does the type hold no row at all? */
+static bool barren(const struct type *t)
+{
+    switch (t->op) {
+    case NONE: return true;
+    case CHOICE: return barren(t->left) && barren(t->right);
+    case SEQUENCE:
+    case SHUFFLE: return barren(t->left) || barren(t->right);
+    default: return false;
+    }
+}
+
+/* The choice of two, or the other where one holds nothing. */
+static const struct type *either(struct pool *pool, const struct type *x, const struct type *y)
+{
+    return x->op == NONE || x == y ? y : y->op == NONE ? x : pair(pool, CHOICE, x, y);
+}
+
+/* Sequence or shuffle of two, short where one holds nothing or only the empty row. */
+static const struct type *both(struct pool *pool, enum op op, const struct type *x,
+                               const struct type *y)
+{
+    if (x->op == NONE || y->op == EMPTY_ROW)
+        return x;
+    if (y->op == NONE || x->op == EMPTY_ROW)
+        return y;
+    return pair(pool, op, x, y);
+}
+
+static const struct type *derive_atom(struct pool *pool, const struct type *t, size_t name)
+{
+    if (t->name != name)
+        return leaf(pool, NONE);
+    if (t->max == 1)
+        return leaf(pool, EMPTY_ROW);
+    return atom(pool, name, t->min > 0 ? t->min - 1 : 0, t->max < 0 ? -1 : t->max - 1);
+}
+
+/* The rows that make a row of the type when they follow this name. */
+static const struct type *derive(struct pool *pool, const struct type *t, size_t name)
+{
+    if (t->op == ATOM)
+        return derive_atom(pool, t, name);
+    if (t->op == NONE || t->op == EMPTY_ROW)
+        return leaf(pool, NONE);
+    const struct type *left = derive(pool, t->left, name);
+    const struct type *right = derive(pool, t->right, name);
+    if (t->op == CHOICE)
+        return either(pool, left, right);
+    const struct type *begun = both(pool, t->op, left, t->right);
+    if (t->op == SHUFFLE)
+        return either(pool, begun, both(pool, SHUFFLE, t->left, right));
+    return nullable(t->left) ? either(pool, begun, right) : begun;
+}
+
+/* Breadth first through the derived types: does some row, empty or not, make one nullable? */
+static bool search(struct pool *pool, const struct type *from, size_t names)
+{
+    const struct type **queue = grown(NULL, sizeof *queue);
+    size_t head = 0, count = 1;
+    bool found = false;
+    queue[0] = from;
+    ((struct type *)from)->seen = true;
+    while (head < count && !found) {
+        const struct type *t = queue[head++];
+        found = nullable(t);
+        for (size_t name = 0; name < names && !found; name++) {
+            struct type *next = (struct type *)derive(pool, t, name);
+            if (next->seen)
+                continue;
+            next->seen = true;
+            queue = grown(queue, (count + 1) * sizeof *queue);
+            queue[count++] = next;
+        }
+    }
+    free(queue);
+    return found;
+}
+
+/* ---- the verdict ---- */
+
+enum { FEW_NAMES = 6 };
+
+static uint32_t verdict(struct model *model, const struct type *type, const uint8_t *row, size_t n)
+{
+    const struct type *rest = type;
+    for (size_t i = 0; i < n; i++)
+        rest = derive(model->pool, rest, row[i]);
+    bool complete = nullable(rest), possible = !barren(rest);
+    if (n <= SHORT && model->names <= FEW_NAMES && holds(type, row, n) != complete)
+        return BRUTE_SPLIT;
+    if (model->small && model->names <= FEW_NAMES
+        && search(model->pool, rest, model->names) != possible)
+        return BRUTE_SPLIT;
+    return complete ? 0 : possible ? 1 : 2;
+}
+
+/* ---- children ---- */
+
+static bool is_name(struct piece p)
+{
+    return p.len >= 1 && p.len <= 32 && matches('@', p.at[0])
+           && name_length(p.at, p.len, 0) == p.len;
+}
+
+/* Splits at tabs; no bytes are no children. */
+static size_t split(const uint8_t *text, size_t len, struct piece *children)
+{
+    size_t n = 0, start = 0;
+    if (len == 0)
+        return 0;
+    for (size_t i = 0; i <= len; i++)
+        if (i == len || text[i] == '\t') {
+            children[n++] = (struct piece){text + start, i - start};
+            start = i + 1;
+        }
+    return n;
+}
+
+static uint32_t children_refusal(const struct piece *children, size_t n)
+{
+    for (size_t i = 0; i < n; i++)
+        if (!is_name(children[i]))
+            return 35;
+    return n > 4096 ? 36 : 0;
+}
+
+static uint8_t number_of(const struct model *model, struct piece child)
+{
+    for (size_t k = 0; k < model->names; k++)
+        if (model->name[k].len == child.len && memcmp(model->name[k].at, child.at, child.len) == 0)
+            return (uint8_t)k;
+    return FOREIGN;
+}
+
+static uint32_t judge_children(const uint8_t *text, size_t len, const struct piece *children,
+                               size_t n)
+{
+    struct model model = {.pool = calloc(1, sizeof(struct pool)), .small = true};
+    uint8_t *row = grown(NULL, n + 1);
+    if (model.pool == NULL)
+        abort();
+    const struct type *type = type_of(&model, text, len);
+    for (size_t i = 0; i < n; i++)
+        row[i] = number_of(&model, children[i]);
+    uint32_t answer = verdict(&model, type, row, n);
+    free(row);
+    free_pool(model.pool);
+    return answer;
+}
+
+uint32_t brute_judge(const uint8_t *model, size_t model_len,
+                     const uint8_t *children, size_t children_len)
+{
+    size_t place;
+    uint32_t answer = brute_model(model, model_len, &place);
+    if (answer != 0)
+        return answer;
+    if (children_len > 65535)
+        return 30;
+    struct piece *pieces = grown(NULL, (children_len + 1) * sizeof *pieces);
+    size_t n = split(children, children_len, pieces);
+    answer = children_refusal(pieces, n);
+    if (answer == 0)
+        answer = judge_children(model, model_len, pieces, n);
+    free(pieces);
+    return answer;
+}

@@ -1,0 +1,156 @@
+/* Rows and texts whose answers stand in document 01 or follow from it. */
+#include "cases.h"
+
+#include <string.h>
+
+/* Children are parted by spaces here. */
+static const struct {
+    const char *model, *children;
+    uint32_t answer;
+} ROWS[] = {
+    /* 01, "Rows to try" */
+    {"((a?&b[1..5]),(c|d[1..*]))", "b b a c", 0},
+    {"((a?&b[1..5]),(c|d[1..*]))", "", 1},
+    {"((a?&b[1..5]),(c|d[1..*]))", "c b", 2},
+    {"((a?&b[1..5]),(c|d[1..*]))", "b b a c d", 2},
+    {"((a?&b[1..5]),(c|d[1..*]))", "b b b b b b", 2},
+    {"((a&b&c),d[0..*],(e|f|g))", "b c a d d d g", 0},
+    {"((a&b&c),d[0..*],(e|f|g))", "b c a d", 1},
+    {"((a&b&c),d[0..*],(e|f|g))", "b c a d d d g d", 2},
+    {"(a,b)", "b", 2},
+    {"(a,b)", "", 1},
+    {"(a[2..3],b)", "a a b", 0},
+    {"(a[2..3],b)", "a b", 2},
+    {"((a,b)&(c,d))", "a c b d", 0},
+    {"((a,b)&(c,d))", "c a", 1},
+    {"((a,b)&(c,d))", "d c", 2},
+    {"(a&b)", "b", 1},
+    {"()", "", 0},
+    {"()", "a", 2},
+    {"(a|b)?", "", 0},
+    {"(a|b)?", "a b", 2},
+    /* 01, "Files" */
+    {"(axis,target,(crawl&gather)?,hold[0..2])", "axis target", 0},
+    {"(axis,target,(crawl&gather)?,hold[0..2])", "axis target gather crawl hold", 0},
+    {"(axis,target,(crawl&gather)?,hold[0..2])", "axis target crawl", 1},
+    {"(axis,target,(crawl&gather)?,hold[0..2])", "axis crawl gather", 2},
+    /* foreign names, marks on nothing, a group of one */
+    {"(a,b)", "a b aa", 2},
+    {"()?", "", 0},
+    {"(a?)?", "a", 0},
+    {"((a))", "a", 0},
+    {"a[0..2]", "a a a", 2},
+    {"a[1..2]?", "", 0},
+    {"(a[2..2]|())", "a", 1},
+    {"(a-,a)", "a- a", 0},
+    /* children that are no names; the model's refusal comes first */
+    {"a", "A", 35},
+    {"a", "a  a", 35},
+    {"a", "a ", 35},
+    {"a", "1a", 35},
+    {"a", "-", 35},
+    {"a??", "A", 11},
+};
+
+#define NAME_31 "abcdefghijklmnopqrstuvwxyz01234"
+
+/* The answer to a model text is 0 if it is one. */
+static const struct {
+    const char *text;
+    uint32_t answer;
+    size_t place;
+} TEXTS[] = {
+    /* 01, the paragraph under the rows */
+    {NAME_31 "5", 0, 0},
+    {NAME_31 "56", 12, 0},
+    {"((((((((((((((((a))))))))))))))))", 0, 0},
+    {"(((((((((((((((((a)))))))))))))))))", 14, 16},
+    {"a[2..1", 11, 6},
+    {"a[2..1]", 13, 6},
+    {"(a,b|c)", 11, 4},
+    {"(a,a", 17, 3},
+    /* a name is the longest run of name bytes */
+    {"", 10, 0},
+    {"(a,a%", 17, 3},
+    {"(ab,a", 11, 5},
+    {NAME_31 "56%", 12, 0},
+    {NAME_31 "5%", 11, 32},
+    /* counts */
+    {"a[60000..60000]", 0, 0},
+    {"a[60001..*]", 13, 10},
+    {"a[1..60001]", 13, 10},
+    {"a[1..4294967297]", 13, 15},
+    {"a[0..0]", 13, 6},
+    {"a[0..*]", 0, 0},
+    {"a[60001..2%", 11, 10},
+    {"a[0..0", 11, 6},
+    {"a[01..2]", 11, 3},
+    {"a[1.2]", 11, 4},
+    {"a[1..]", 11, 5},
+    {"a[1]", 11, 3},
+    {"a[1..*5]", 11, 6},
+    /* 11 before every other number at a place */
+    {"((((((((((((((((a(", 11, 17},
+    /* marks, signs, what stands behind a model */
+    {"a??", 11, 2},
+    {"a?[1..2]", 11, 2},
+    {"()?", 0, 0},
+    {"(a)?", 0, 0},
+    {"(a?)?", 0, 0},
+    {"a,b", 11, 1},
+    {"a)", 11, 1},
+    {"()a", 11, 2},
+    {"a\n", 11, 1},
+    {"(a,)", 11, 3},
+    {"(,a)", 11, 1},
+    {"a-", 0, 0},
+    {"-a", 11, 0},
+    {"(", 11, 1},
+};
+
+/* 01, the last of the rows to try: 4,096 of a in a[60000..60000] are open. */
+static void check_long_row(judge_texts *judge, struct report *report)
+{
+    static const char model[] = "a[60000..60000]";
+    uint8_t children[2 * 4096 - 1];
+    for (size_t i = 0; i < sizeof children; i++)
+        children[i] = i % 2 == 0 ? 'a' : '\t';
+    report_answer(report, (const uint8_t *)model, strlen(model), children, sizeof children,
+                  judge((const uint8_t *)model, strlen(model), children, sizeof children), 1);
+}
+
+void check_known_rows(judge_texts *judge, struct report *report)
+{
+    check_long_row(judge, report);
+    for (size_t i = 0; i < sizeof ROWS / sizeof ROWS[0]; i++) {
+        const uint8_t *model = (const uint8_t *)ROWS[i].model;
+        size_t model_len = strlen(ROWS[i].model), len = strlen(ROWS[i].children);
+        uint8_t children[64];
+        for (size_t k = 0; k < len; k++)
+            children[k] = ROWS[i].children[k] == ' ' ? '\t' : (uint8_t)ROWS[i].children[k];
+        report_answer(report, model, model_len, children, len,
+                      judge(model, model_len, children, len), ROWS[i].answer);
+    }
+}
+
+void check_known_texts(judge_texts *judge, struct report *report)
+{
+    for (size_t i = 0; i < sizeof TEXTS / sizeof TEXTS[0]; i++) {
+        const uint8_t *text = (const uint8_t *)TEXTS[i].text;
+        size_t len = strlen(TEXTS[i].text);
+        uint32_t answer = judge(text, len, NULL, 0);
+        report_answer(report, text, len, NULL, 0, answer <= 2 ? 0 : answer, TEXTS[i].answer);
+    }
+}
+
+void check_known_places(place_refusal *model, struct report *report)
+{
+    for (size_t i = 0; i < sizeof TEXTS / sizeof TEXTS[0]; i++) {
+        const uint8_t *text = (const uint8_t *)TEXTS[i].text;
+        size_t len = strlen(TEXTS[i].text), place;
+        uint32_t answer = model(text, len, &place);
+        report_answer(report, text, len, NULL, 0, answer, TEXTS[i].answer);
+        if (answer != 0)
+            report_place(report, text, len, place, TEXTS[i].place);
+    }
+}

@@ -1,0 +1,401 @@
+/* Random models with rows of them or near them, and damaged texts; the seed fixes everything. */
+#include "cases.h"
+
+#include <stdbool.h>
+#include <stdio.h>
+#include <stdlib.h>
+#include <string.h>
+
+enum { MEMBERS = 4000, NAMES = 64, ROW = 4200, ROOM = 150000, NAME_ROOM = 36 };
+
+/* ---- numbers ---- */
+
+struct dice {
+    uint64_t state;
+};
+
+/* splitmix64 */
+static uint64_t roll(struct dice *d)
+{
+    uint64_t z = d->state += 0x9e3779b97f4a7c15u;
+    z = (z ^ z >> 30) * 0xbf58476d1ce4e5b9u;
+    z = (z ^ z >> 27) * 0x94d049bb133111ebu;
+    return z ^ z >> 31;
+}
+
+static size_t below(struct dice *d, size_t n) { return (size_t)(roll(d) % n); }
+static bool one_in(struct dice *d, size_t n) { return below(d, n) == 0; }
+
+/* ---- a model as a tree ---- */
+
+struct member {
+    char sign; /* of a group; 'a' for an atom */
+    bool optional, counted;
+    unsigned min, max; /* max 0: no upper end */
+    size_t name;
+    size_t first, next; /* first member and next sibling; 0: none */
+};
+
+struct sketch {
+    struct dice dice;
+    struct member member[MEMBERS];
+    size_t members, atoms;
+    char name[NAMES][NAME_ROOM];
+    size_t stretch; /* how far a count without upper end may go */
+};
+
+static size_t new_member(struct sketch *s, char sign)
+{
+    if (s->members == MEMBERS)
+        abort();
+    s->member[s->members] = (struct member){.sign = sign, .min = 1, .max = 1};
+    return s->members++;
+}
+
+static size_t grow_atom(struct sketch *s)
+{
+    size_t me = new_member(s, 'a');
+    struct member *m = &s->member[me];
+    m->name = s->atoms++;
+    m->counted = one_in(&s->dice, 2);
+    if (m->counted) {
+        m->min = (unsigned)below(&s->dice, 4);
+        m->max = one_in(&s->dice, 3) ? 0 : m->min + (unsigned)below(&s->dice, 3);
+        if (m->max == 0 && one_in(&s->dice, 3))
+            m->min = 0;
+    }
+    m->optional = one_in(&s->dice, 4);
+    return me;
+}
+
+/* A member with this many names below it; `depth` brackets may still be opened. */
+static size_t grow(struct sketch *s, size_t names, size_t depth)
+{
+    struct dice *d = &s->dice;
+    if (names == 1 && (depth == 0 || !one_in(d, 8)))
+        return grow_atom(s);
+    size_t me = new_member(s, ",|&"[below(d, 3)]), last = 0;
+    s->member[me].optional = one_in(d, 4);
+    for (size_t placed = 0; placed < names;) {
+        size_t part = depth <= 1 ? 1 : 1 + below(d, one_in(d, 3) ? names : (names + 1) / 2);
+        if (part > names - placed)
+            part = names - placed;
+        bool empty = depth > 1 && one_in(d, 20);
+        size_t child = grow(s, empty ? 0 : part, depth - 1);
+        placed += empty ? 0 : part;
+        if (last == 0)
+            s->member[me].first = child;
+        else
+            s->member[last].next = child;
+        last = child;
+    }
+    return me;
+}
+
+/* ---- texts ---- */
+
+struct text {
+    uint8_t byte[ROOM];
+    size_t len;
+};
+
+static void put(struct text *t, const char *bytes)
+{
+    size_t len = strlen(bytes);
+    if (t->len + len > ROOM)
+        return;
+    memcpy(t->byte + t->len, bytes, len);
+    t->len += len;
+}
+
+static void write_atom(const struct sketch *s, const struct member *m, struct text *t)
+{
+    char count[40] = "";
+    put(t, s->name[m->name]);
+    if (m->counted && m->max == 0)
+        snprintf(count, sizeof count, "[%u..*]", m->min);
+    else if (m->counted)
+        snprintf(count, sizeof count, "[%u..%u]", m->min, m->max);
+    put(t, count);
+}
+
+static void write_member(const struct sketch *s, size_t me, struct text *t)
+{
+    const struct member *m = &s->member[me];
+    if (m->sign == 'a') {
+        write_atom(s, m, t);
+    } else {
+        put(t, "(");
+        for (size_t child = m->first; child != 0; child = s->member[child].next) {
+            write_member(s, child, t);
+            if (s->member[child].next != 0)
+                put(t, (char[]){m->sign, 0});
+        }
+        put(t, ")");
+    }
+    if (m->optional)
+        put(t, "?");
+}
+
+/* ---- rows ---- */
+
+struct row {
+    uint8_t name[ROW];
+    size_t len;
+};
+
+static void push(struct row *row, size_t name)
+{
+    if (row->len < ROW)
+        row->name[row->len++] = (uint8_t)name;
+}
+
+/* Both rows shuffled into the first. */
+static void riffle(struct dice *d, struct row *row, const struct row *more)
+{
+    struct row old = *row;
+    size_t i = 0, k = 0;
+    row->len = 0;
+    while (i < old.len || k < more->len) {
+        if (k == more->len || (i < old.len && one_in(d, 2)))
+            push(row, old.name[i++]);
+        else
+            push(row, more->name[k++]);
+    }
+}
+
+static void pick(struct sketch *s, size_t me, struct row *row);
+
+static void pick_atom(struct sketch *s, const struct member *m, struct row *row)
+{
+    size_t most = m->max == 0 ? m->min + s->stretch : m->max;
+    size_t count = m->min + below(&s->dice, most - m->min + 1);
+    while (count-- > 0)
+        push(row, m->name);
+}
+
+static void pick_choice(struct sketch *s, const struct member *m, struct row *row)
+{
+    size_t n = 0, child;
+    for (child = m->first; child != 0; child = s->member[child].next)
+        n++;
+    child = m->first;
+    for (size_t skip = n == 0 ? 0 : below(&s->dice, n); skip > 0; skip--)
+        child = s->member[child].next;
+    if (child != 0)
+        pick(s, child, row);
+}
+
+/* Adds some row of the member. */
+static void pick(struct sketch *s, size_t me, struct row *row)
+{
+    const struct member *m = &s->member[me];
+    if (m->optional && one_in(&s->dice, 2))
+        return;
+    if (m->sign == 'a') {
+        pick_atom(s, m, row);
+    } else if (m->sign == '|') {
+        pick_choice(s, m, row);
+    } else {
+        struct row all = {.len = 0};
+        for (size_t child = m->first; child != 0; child = s->member[child].next) {
+            struct row one = {.len = 0};
+            pick(s, child, m->sign == ',' ? &all : &one);
+            if (m->sign == '&')
+                riffle(&s->dice, &all, &one);
+        }
+        for (size_t i = 0; i < all.len; i++)
+            push(row, all.name[i]);
+    }
+}
+
+/* One small change: cut off, take out, add or exchange; a number past the atoms is foreign. */
+static void disturb(struct sketch *s, struct row *row)
+{
+    struct dice *d = &s->dice;
+    size_t at = below(d, row->len + 1);
+    switch (below(d, 5)) {
+    case 0:
+    case 1:
+        row->len = at;
+        break;
+    case 2:
+        if (at < row->len)
+            memmove(row->name + at, row->name + at + 1, --row->len - at);
+        break;
+    case 3:
+        if (row->len == ROW)
+            break;
+        push(row, 0);
+        memmove(row->name + at + 1, row->name + at, row->len - at - 1);
+        row->name[at] = (uint8_t)below(d, s->atoms + one_in(d, 4) + (s->atoms == 0));
+        break;
+    default:
+        if (at < row->len) {
+            size_t other = below(d, row->len);
+            uint8_t name = row->name[at];
+            row->name[at] = row->name[other];
+            row->name[other] = name;
+        }
+    }
+}
+
+/* A name that is mostly not in the model, though close to one that may be. */
+static void put_foreign(struct sketch *s, struct text *t)
+{
+    char name[NAME_ROOM + 1];
+    strcpy(name, s->name[below(&s->dice, NAMES)]);
+    size_t len = strlen(name);
+    if (len < 32 && one_in(&s->dice, 2))
+        strcpy(name + len, one_in(&s->dice, 2) ? "q" : "-");
+    else if (len > 1 && one_in(&s->dice, 2))
+        name[len - 1] = '\0';
+    else
+        name[below(&s->dice, len)] = 'b';
+    put(t, name);
+}
+
+static void write_row(struct sketch *s, const struct row *row, struct text *t)
+{
+    t->len = 0;
+    for (size_t i = 0; i < row->len; i++) {
+        put(t, i == 0 ? "" : "\t");
+        if (row->name[i] < s->atoms)
+            put(t, s->name[row->name[i]]);
+        else
+            put_foreign(s, t);
+    }
+}
+
+/* ---- whole cases ---- */
+
+/* Short names that begin one another, in disorder, seldom one of them twice. */
+static void short_names(struct sketch *s)
+{
+    static const char *const SHORT[] = {"a", "b", "c", "ab", "a-", "a1", "ba", "b-2", "abc", "z9"};
+    enum { COUNT = sizeof SHORT / sizeof SHORT[0] };
+    size_t start = below(&s->dice, COUNT), step = one_in(&s->dice, 2) ? 3 : 7;
+    for (size_t k = 0; k < NAMES; k++)
+        strcpy(s->name[k], SHORT[(start + k * step) % COUNT]);
+    if (one_in(&s->dice, 40))
+        strcpy(s->name[1 + below(&s->dice, 5)], s->name[0]);
+}
+
+/* Names of 1 to 32 characters that all differ. */
+static void long_names(struct sketch *s)
+{
+    static const char FILLING[] = "abcdefghijklmnopqrstuvwxyz0123456789-";
+    for (size_t k = 0; k < NAMES; k++) {
+        int used = snprintf(s->name[k], NAME_ROOM, "%c%zu-", (char)('a' + k % 26), k);
+        size_t len = (size_t)used + below(&s->dice, one_in(&s->dice, 4) ? 33 - (size_t)used : 6);
+        for (size_t i = (size_t)used; i < len; i++)
+            s->name[k][i] = FILLING[below(&s->dice, sizeof FILLING - 1)];
+        s->name[k][len] = '\0';
+    }
+}
+
+/* Names of five letters out of three: many share length, letters, first and last. */
+static void alike_names(struct sketch *s)
+{
+    for (size_t k = 0; k < NAMES; k++)
+        for (size_t i = 0, rest = 3 * k; i < 6; i++, rest /= 3)
+            s->name[k][i] = i == 5 ? '\0' : "abc"[(rest + i) % 3];
+}
+
+/* A new model, and a row that mostly is of it or near it. */
+static void make_case(struct sketch *s, size_t names, size_t depth, struct text *model,
+                      struct text *children)
+{
+    struct row row = {.len = 0};
+    s->members = s->atoms = 0;
+    size_t top = grow(s, names, depth);
+    model->len = 0;
+    write_member(s, top, model);
+    if (one_in(&s->dice, 8)) {
+        for (size_t n = below(&s->dice, 6); n > 0; n--)
+            push(&row, below(&s->dice, s->atoms + 1));
+    } else {
+        pick(s, top, &row);
+        for (size_t changes = below(&s->dice, 4); changes > 0; changes--)
+            disturb(s, &row);
+    }
+    write_row(s, &row, children);
+}
+
+static void hand_over(try_texts *f, struct report *to, const struct text *model,
+                      const struct text *children)
+{
+    f(to, model->byte, model->len, children->len == 0 ? NULL : children->byte, children->len);
+}
+
+void try_small(uint64_t seed, unsigned how_many, try_texts *f, struct report *to)
+{
+    static struct text model, children;
+    static struct sketch s;
+    s.dice.state = seed;
+    for (unsigned i = 0; i < how_many; i++) {
+        s.stretch = 2;
+        short_names(&s);
+        make_case(&s, below(&s.dice, 7), 1 + below(&s.dice, 4), &model, &children);
+        hand_over(f, to, &model, &children);
+    }
+}
+
+/* Changes, takes out, adds or cuts off at one place. */
+static void damage(struct dice *d, struct text *t, const char *bytes)
+{
+    size_t at = below(d, t->len + 1);
+    uint8_t byte = (uint8_t)bytes[below(d, strlen(bytes))];
+    switch (below(d, 7)) {
+    case 0:
+        t->len = at;
+        break;
+    case 1:
+    case 2:
+        if (at < t->len)
+            memmove(t->byte + at, t->byte + at + 1, --t->len - at);
+        break;
+    case 3:
+    case 4:
+        memmove(t->byte + at + 1, t->byte + at, t->len++ - at);
+        t->byte[at] = byte;
+        break;
+    default:
+        if (at < t->len)
+            t->byte[at] = byte;
+    }
+}
+
+void try_damaged(uint64_t seed, unsigned how_many, try_texts *f, struct report *to)
+{
+    static struct text model, children;
+    static struct sketch s;
+    s.dice.state = seed;
+    for (unsigned i = 0; i < how_many; i++) {
+        s.stretch = 2;
+        short_names(&s);
+        make_case(&s, below(&s.dice, 7), 1 + below(&s.dice, 4), &model, &children);
+        if (one_in(&s.dice, 5))
+            damage(&s.dice, &children, "\t\tabc1-A% \n");
+        else
+            for (size_t n = 1 + below(&s.dice, 3); n > 0; n--)
+                damage(&s.dice, &model, "()()[],,||&&??..*-0123459abcz%\n\tA \x80");
+        hand_over(f, to, &model, &children);
+    }
+}
+
+void try_large(uint64_t seed, unsigned how_many, try_texts *f, struct report *to)
+{
+    static struct text model, children;
+    static struct sketch s;
+    s.dice.state = seed;
+    for (unsigned i = 0; i < how_many; i++) {
+        s.stretch = (size_t)2 << below(&s.dice, 12);
+        if (one_in(&s.dice, 3))
+            alike_names(&s);
+        else
+            long_names(&s);
+        make_case(&s, 7 + below(&s.dice, NAMES - 6), 1 + below(&s.dice, 16), &model, &children);
+        hand_over(f, to, &model, &children);
+    }
+}

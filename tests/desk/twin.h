@@ -1,0 +1,15 @@
+/* The plain C twin of desk_judge: independent code for the same answers (include/desk.h). */
+#ifndef TWIN_H
+#define TWIN_H
+
+#include <stddef.h>
+#include <stdint.h>
+
+/* The same arguments and answers as desk_judge. */
+uint32_t twin_judge(const uint8_t *model, size_t model_len,
+                    const uint8_t *children, size_t children_len);
+
+/* 0 for a model text, or its refusal, 10 to 17, with its place (counted from 0) in *place. */
+uint32_t twin_model(const uint8_t *text, size_t len, size_t *place);
+
+#endif
