@@ -8,3 +8,4 @@ pub mod Number
 pub mod Put
 pub mod Listing
 pub mod Coded
+pub mod Ends

@@ -176,7 +176,7 @@ pub part-at-place : (s : Text) (p : NamePlace) → part s (p .start) (p .start +
 part-at-place s p = let e : (p .start + p .len) - p .start ≡ p .len = omega arith in ap (λ n. take n (drop (p .start) s)) e
 
 -- a number among texts is at most as many as they are
-number-bound : (j : ℕ) (ks : List Text) (x : Text) → numberFrom (suc j) ks x ≤ j + length ks
+pub number-bound : (j : ℕ) (ks : List Text) (x : Text) → numberFrom (suc j) ks x ≤ j + length ks
 number-bound j [] x = omega arith
 number-bound j (k ∷ ks) x = by-test (sameText k x) (λ e. rw e (omega arith)) (λ e. rw e (omega (arith, number-bound (suc j) ks x)))
 

@@ -259,3 +259,11 @@ module _ (x : Text) where
 
   pub sheet-begin : length x ≤ maxFile → sameText (behind x) [] ≡ true → sheetBy x (sheetLines 0 [] (lines x)) ≡ sheetRead x
   sheet-begin h e = rw (le-ltb maxFile (length x) h, e)
+
+-- a line in which nothing is wrong has a model in which nothing is wrong
+pub fault-none : (ks : List Text) (l : Text) → lineFault ks l ≡ none → modelFault (answer (model l)) ≡ none
+fault-none ks l e = go (lineChecked ks l) (sym (fault-by ks l) ∙ e)
+  where
+    go : (c : Checked) → byChecked c (modelFault (answer (model l))) ≡ none → modelFault (answer (model l)) ≡ none
+    go Good q = q
+    go (Bad f) q = let z : _≡_ {A = ℕ} 0 1 = cc q in absurd (omega arith)
