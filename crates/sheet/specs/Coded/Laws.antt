@@ -1,7 +1,7 @@
 -- How a listing is made: what is said of a cue, the verdicts as bytes, and the lines one behind the other.
 use mathlib.Core.Path.{_≡_, refl, ap, ap₂, sym, subst, _∙_}
 use mathlib.Core.Logic.{by-cases}
-use mathlib.Core.Bool.{true, false, cond, true≢false, false≢true}
+use mathlib.Core.Bool.{Bool, true, false, cond, true≢false, false≢true}
 use mathlib.Core.List.{List, [], _∷_, _++_, map, append-assoc, append-nil}
 use Prim.Native.Nat.{ℕ, zero, suc, _+_, _*_, _-_, _≤_, _<_}
 use native.Mathlib.Decide.{decLt}
@@ -10,7 +10,7 @@ use native.Mathlib.Numerals.{add-one}
 use lib.Dec.{T, eqb, ltb, leb}
 use lib.ListN.{length, take, drop, getD, set, length-append, length-map, length-take, length-drop, drop-of-length-le}
 use lib.Seq.{take-at, drop-at, take-all, take-add, drop-cons, drop-drop, drop-length, take-length, getD-set-same, getD-set-other}
-use borrow.Author.Tests.{eqb-true, eqb-false, le-leb, lt-leb, lt-ltb, ltb-true, ltb-false}
+use borrow.Author.Tests.{eqb-true, eqb-false, leb-true, le-leb, lt-leb, lt-ltb, ltb-true, ltb-false}
 use Rattle.judge.specs.Tests.{by-test}
 use Rattle.judge.specs.declared.text.NamePlace.{NamePlace}
 use Rattle.judge.specs.Bytes.{Text, sameText}
@@ -39,9 +39,10 @@ use Rattle.sheet.specs.Sheet.Walk.{EntryGood, Loaded}
 use Rattle.sheet.specs.declared.sheet.SheetFault.{SheetFault}
 use Rattle.sheet.specs.declared.sheet.SheetOutcome.{SheetOutcome}
 use Rattle.sheet.specs.declared.sheet.SheetOutcome.the-variants.{Read, Refused as SheetIsRefused}
+use Rattle.sheet.specs.declared.cues.CuesRead.{CuesRead}
 use Rattle.sheet.specs.declared.cues.CuesRead.the-variants.{Count as CuesCount, Refused as CuesRefused}
 use Rattle.sheet.specs.declared.listing.Listed.the-variants.{Written, SheetRefused, CueRefused, TooLong}
-use Rattle.sheet.specs.Listing.{listingLine, listingBy, saidBy, saidOf, said, listing, listed, bufferAfter}
+use Rattle.sheet.specs.Listing.{listingLine, listingBy, saidBy, saidOf, said, listing, listed, bySheet, byCues, bufferAfter}
 use Rattle.sheet.specs.Put.{Put, Fits}
 use Rattle.sheet.specs.Listing.Laws.{enough, line-length, word-short}
 use Rattle.judge.specs.Bytes.Numeral.{digits-length}
@@ -257,3 +258,13 @@ module _ (s c : Text) (room : ℕ) where
       buffer-written old new p =
           let z : 0 + length (listingCoded codes 0 (lines c)) ≡ total = omega (arith, t) in
           p .text-is ∙ ap₂ (λ w j. w ++ drop j old) coded-listing z
+
+-- what is written is no longer than the buffer
+pub written-fits : (s c : Text) (room n : ℕ) → Written n ≡ listed s c room → n ≤ room
+written-fits s c room n e = go (sheetOutcome s) (cuesRead c) (leb (length (listing s c)) room) (length (listing s c)) (leb-true (length (listing s c)) room) e
+  where
+    go : (o : SheetOutcome) (q : CuesRead) (t : Bool) (m : ℕ) → (t ≡ true → m ≤ room) → Written n ≡ bySheet o (byCues q (cond t (Written m) TooLong)) → n ≤ room
+    go (SheetIsRefused f k) q t m h e = let z : _≡_ {A = ℕ} 0 1 = cc e in absurd (omega arith)
+    go Read (CuesRefused f k) t m h e = let z : _≡_ {A = ℕ} 0 1 = cc e in absurd (omega arith)
+    go Read (CuesCount k) false m h e = let z : _≡_ {A = ℕ} 0 1 = cc e in absurd (omega arith)
+    go Read (CuesCount k) true m h e = let z : n ≡ m = cc e in omega (arith, z, h refl)
