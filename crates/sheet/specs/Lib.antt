@@ -7,3 +7,5 @@ pub mod Sheet
 pub mod Number
 pub mod Put
 pub mod Listing
+pub mod Coded
+pub mod Ends

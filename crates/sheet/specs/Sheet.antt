@@ -2,6 +2,7 @@
 -- model's own.
 pub mod Laws
 pub mod Walk
+pub mod Good
 use mathlib.Core.Bool.{Bool, true, false, cond, not, _||_}
 use mathlib.Core.Option.{Option, none, some}
 use mathlib.Core.List.{List, [], _∷_, _++_, map}

@@ -3,4 +3,5 @@
 pub mod cues;
 pub mod line;
 pub mod listing;
+pub mod number;
 pub mod sheet;

@@ -1,7 +1,39 @@
 // The listing.
 
+ghost use mathlib.Core.Path.{_≡_};
+ghost use mathlib.Core.Bool.{cond};
+ghost use Prim.Native.Nat.{_-_, _≤_};
+ghost use lib.Dec.{eqb};
+ghost use lib.ListN.{length};
+ghost use Rattle.judge.specs.Reading.{partAt};
+ghost use Rattle.fields.specs.Split.{lines};
+ghost use Rattle.sheet.specs.Cues.{children};
+ghost use Rattle.sheet.specs.Listing.{saidBy, saidOf, listing, listed, bufferAfter};
+ghost use Rattle.sheet.specs.Coded.{codeOf, decoded, Ready, GoodCues, Coded, listingCoded};
+ghost use Rattle.sheet.specs.Sheet.Walk.{Loaded};
+ghost use Rattle.sheet.specs.Put.{Put};
+use crate::cues::CuesRead;
+use crate::cues::MAX_FILE;
+use crate::cues::read_cues;
+use crate::line::Said;
+use crate::line::line_length;
+use crate::line::write_line;
+use crate::sheet::Entry;
+use crate::sheet::Sheet;
 use crate::sheet::SheetFault;
+use crate::sheet::SheetOutcome;
+use crate::sheet::load;
+use fields::children::Children;
+use fields::children::MAX_ROW;
+use fields::children::row_of;
 use fields::fault::CueFault;
+use fields::split::LINE_FEED;
+use fields::split::first_fields;
+use fields::split::part_end;
+use judge::row::judge_row;
+use judge::text::number_of;
+use judge::verdict::Judged;
+use judge::verdict::Verdict;
 
 // How long the listing is that was written; or what is wrong with the sheet or with the cue list, and on which line; or that the listing is longer
 // than the buffer (`listedNumber` in specs/Listing.antt).
@@ -10,4 +42,181 @@ pub enum Listed {
     SheetRefused(SheetFault, usize),
     CueRefused(CueFault, usize),
     TooLong,
+}
+
+fn said_by(judged: Judged) -> Said
+    ensures { λ r. ⌜ r ≡ saidBy judged ⌝ }
+{
+    match judged {
+        Judged::Verdict(v) => match v {
+            Verdict::Complete => Said::Complete,
+            Verdict::Open => Said::Open,
+            Verdict::Dead => Said::Dead,
+        },
+        Judged::Refused(_) => Said::Dead,
+    }
+}
+
+// What is said of a cue, as a byte.
+fn code_of(said: Said) -> u8
+    ensures { λ r. ⌜ r ≡ codeOf said ⌝ }
+{
+    match said {
+        Said::Complete => 0,
+        Said::Open => 1,
+        Said::Dead => 2,
+        Said::NoSheet => 3,
+    }
+}
+
+fn decode(code: u8) -> Said
+    ensures { λ r. ⌜ r ≡ decoded code ⌝ }
+{
+    if code == 0 {
+        return Said::Complete;
+    }
+    if code == 1 {
+        return Said::Open;
+    }
+    if code == 2 {
+        return Said::Dead;
+    }
+    Said::NoSheet
+}
+
+// What an entry of the sheet says of a cue. The row is for the children's numbers.
+fn say(sheet: &[u8], entry: Entry, cue: &[u8], row: &mut [u16]) -> Said
+    requires { ⌜ Ready (now sheet) entry (now cue) (now row) ⌝ }
+    ensures { λ r. ⌜ r ≡ saidOf (partAt (now (sheet .entry)) (entry .model)) (children (now (cue .entry))) ⌝ }
+{
+    let place = entry.model;
+    let start = place.start as usize;
+    let model = &sheet[start..start + place.len as usize];
+    let rule = entry.rule;
+    let names = entry.names;
+    let ends = first_fields(cue);
+    let third = ends.third;
+    if third < cue.len() {} else {
+        return said_by(judge_row(rule, &row[0..0]));
+    }
+    match row_of(model, names, &cue[third + 1..cue.len()], row) {
+        Children::Count(n) => said_by(judge_row(rule, &row[0..n])),
+        Children::Refused(_) => Said::Dead,
+    }
+}
+
+// The same as a byte, by the number of the entry: 0 where the sheet lacks the kind.
+fn code_for(sheet: &[u8], entry: Entry, cue: &[u8], number: usize, row: &mut [u16]) -> u8
+    requires { ⌜ ((number ≡ 0 → ⊥) → Ready (now sheet) entry (now cue) (now row)) ⌝ }
+    ensures { λ r. ⌜ r ≡ cond (eqb number 0) 3 (codeOf (saidOf (partAt (now (sheet .entry)) (entry .model)) (children (now (cue .entry))))) ⌝ }
+{
+    if number == 0 {
+        return 3;
+    }
+    let said = say(sheet, entry, cue, row);
+    code_of(said)
+}
+
+fn one_less(n: usize) -> usize
+    ensures { λ r. ⌜ r ≡ n - 1 ⌝ }
+{
+    if n == 0 { 0 } else { n - 1 }
+}
+
+fn free_row() -> [u16; MAX_ROW] {
+    [0; MAX_ROW]
+}
+
+// What the sheet says of each cue.
+fn say_all(sheet: &[u8], rules: Sheet, cues: &[u8], codes: &mut [u8])
+    requires { ⌜ Loaded (now sheet) rules × GoodCues (now cues) × (length (now codes) ≡ 65535) ⌝ }
+    ensures { λ r. ⌜ Coded (now (sheet .entry)) (now (cues .entry)) (now (codes .exit)) ⌝ }
+{
+    let kinds = rules.kinds;
+    let mut row = free_row();
+    let mut n: usize = 0;
+    let mut at: usize = 0;
+    while at < cues.len() {
+        let end = part_end(cues, at, LINE_FEED);
+        let cue = &cues[at..end];
+        let ends = first_fields(cue);
+        let second = ends.second;
+        let third = ends.third;
+        let number = number_of(sheet, kinds, &cue[second + 1..third]);
+        let k = number.0 as usize;
+        let entry = rules.entries[one_less(k)];
+        codes[n] = code_for(sheet, entry, cue, k, &mut row);
+        n += 1;
+        at = end + 1;
+    }
+}
+
+// How long the listing is.
+fn total_length(cues: &[u8], codes: &[u8]) -> usize
+    requires { ⌜ GoodCues (now cues) × (length (now codes) ≡ 65535) ⌝ }
+    ensures { λ r. ⌜ r ≡ length (listingCoded (now (codes .entry)) 0 (lines (now (cues .entry)))) ⌝ }
+{
+    let mut total: usize = 0;
+    let mut n: usize = 0;
+    let mut at: usize = 0;
+    while at < cues.len() {
+        let end = part_end(cues, at, LINE_FEED);
+        let said = decode(codes[n]);
+        total += line_length(&cues[at..end], said);
+        n += 1;
+        at = end + 1;
+    }
+    total
+}
+
+// Writes the listing: each line goes into the part of the buffer that the earlier ones left free.
+fn write_lines(buffer: &mut [u8], cues: &[u8], codes: &[u8])
+    requires { ⌜ GoodCues (now cues) × (length (now codes) ≡ 65535) × (length (listingCoded (now codes) 0 (lines (now cues))) ≤ length (now buffer)) ⌝ }
+    ensures { λ r. ⌜ Put (now (buffer .entry)) (now (buffer .exit)) 0 (listingCoded (now (codes .entry)) 0 (lines (now (cues .entry)))) (length (listingCoded (now (codes .entry)) 0 (lines (now (cues .entry))))) ⌝ }
+{
+    let mut written: usize = 0;
+    let mut n: usize = 0;
+    let mut at: usize = 0;
+    while at < cues.len() {
+        let end = part_end(cues, at, LINE_FEED);
+        let said = decode(codes[n]);
+        let more = write_line(&mut buffer[written..], &cues[at..end], said);
+        written += more;
+        n += 1;
+        at = end + 1;
+    }
+}
+
+fn no_codes() -> [u8; MAX_FILE] {
+    [0; MAX_FILE]
+}
+
+// Writes the listing of a cue list by a sheet into the buffer. A refusal changes no byte of it.
+pub fn list(sheet: &[u8], cues: &[u8], buffer: &mut [u8]) -> Listed
+    ensures { λ r. ⌜ r ≡ listed (now (sheet .entry)) (now (cues .entry)) (length (now (buffer .entry))) ⌝ }
+    ensures { λ r. ⌜ now (buffer .exit) ≡ bufferAfter r (listing (now (sheet .entry)) (now (cues .entry))) (now (buffer .entry)) ⌝ }
+{
+    let read = load(sheet);
+    let outcome = read.outcome;
+    match outcome {
+        SheetOutcome::Read => {}
+        SheetOutcome::Refused(f, n) => {
+            return Listed::SheetRefused(f, n);
+        }
+    }
+    match read_cues(cues) {
+        CuesRead::Count(_) => {}
+        CuesRead::Refused(f, n) => {
+            return Listed::CueRefused(f, n);
+        }
+    }
+    let rules = read.sheet;
+    let mut codes = no_codes();
+    say_all(sheet, rules, cues, &mut codes);
+    let total = total_length(cues, &codes);
+    if buffer.len() < total {
+        return Listed::TooLong;
+    }
+    write_lines(buffer, cues, &codes);
+    Listed::Written(total)
 }

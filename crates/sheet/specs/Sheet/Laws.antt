@@ -38,7 +38,7 @@ use Rattle.sheet.specs.declared.sheet.Sheet.{Sheet}
 use Rattle.sheet.specs.declared.sheet.SheetRead.{SheetRead}
 use Rattle.sheet.specs.Cues.{maxFile}
 use Rattle.sheet.specs.Listing.Laws.{enough}
-use Rattle.sheet.specs.Sheet.{maxRules, kind, model, among, modelFault, lineFault, Placed, kindPlace, entryOf, noEntry, sheetLines, sheetWith, sheetBy, sheetRead}
+use Rattle.sheet.specs.Sheet.{maxRules, kind, model, among, modelFault, lineFault, Placed, kindPlace, modelPlace, entryOf, noEntry, sheetLines, sheetWith, sheetBy, sheetRead}
 
 -- what is wrong with a line, its model left aside
 abbrev pub lineChecked : List Text → Text → Checked
@@ -235,6 +235,21 @@ line-kind-is x at end o h ks e =
     let a : at + 5 ≡ at + (headsOf l .first + 1) = omega arith in
     rw (k, a) (sym (t .second-is ∙ part-part x at end (headsOf l .first + 1) (headsOf l .second) (omega arith)))
 
+-- the model stands at its place
+pub line-model-is : (x : Text) (at end : ℕ) → at ≤ end → end ≤ length x → (ks : List Text) → checkedBy (lineFault ks (part x at end)) ≡ Good
+    → (partAt x (modelPlace (record { start = at; line = part x at end })) ≡ model (part x at end))
+    × (modelPlace (record { start = at; line = part x at end }) .start + modelPlace (record { start = at; line = part x at end }) .len ≤ length x)
+line-model-is x at end o h ks e =
+    let l = part x at end in
+    let g = checked-line ks l e in
+    let s = line-sizes ks l (headsOf l) refl g in
+    let t = good-three ks l (headsOf l) refl g in
+    let z = part-size x at end h in
+    let k : length (kind l) ≡ headsOf l .second - (headsOf l .first + 1) = ap length (t .second-is) ∙ part-size l (headsOf l .first + 1) (headsOf l .second) (omega arith) in
+    let j : length (model l) ≡ headsOf l .third - (headsOf l .second + 1) = ap length (t .third-is) ∙ part-size l (headsOf l .second + 1) (headsOf l .third) (omega arith) in
+    let a : at + (6 + length (kind l)) ≡ at + (headsOf l .second + 1) = omega arith in
+    (rw (j, a) (sym (t .third-is ∙ part-part x at end (headsOf l .second + 1) (headsOf l .third) (omega arith))), omega arith)
+
 module _ (x : Text) where
   pub sheet-long : maxFile < length x → sheetBy [] (Refused LongFile 0) ≡ sheetRead x
   sheet-long h = rw (lt-ltb maxFile (length x) h)
@@ -244,3 +259,11 @@ module _ (x : Text) where
 
   pub sheet-begin : length x ≤ maxFile → sameText (behind x) [] ≡ true → sheetBy x (sheetLines 0 [] (lines x)) ≡ sheetRead x
   sheet-begin h e = rw (le-ltb maxFile (length x) h, e)
+
+-- a line in which nothing is wrong has a model in which nothing is wrong
+pub fault-none : (ks : List Text) (l : Text) → lineFault ks l ≡ none → modelFault (answer (model l)) ≡ none
+fault-none ks l e = go (lineChecked ks l) (sym (fault-by ks l) ∙ e)
+  where
+    go : (c : Checked) → byChecked c (modelFault (answer (model l))) ≡ none → modelFault (answer (model l)) ≡ none
+    go Good q = q
+    go (Bad f) q = let z : _≡_ {A = ℕ} 0 1 = cc q in absurd (omega arith)

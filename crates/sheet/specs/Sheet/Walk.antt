@@ -1,35 +1,52 @@
 -- A walk over the lines of a sheet: what is read so far.
 use mathlib.Core.Path.{_≡_, refl, ap, ap₂, sym, _∙_}
-use mathlib.Core.Bool.{true, false}
+use mathlib.Core.Logic.{by-cases}
 use mathlib.Core.Option.{Option, none, some}
 use mathlib.Core.List.{List, [], _∷_, _++_, map, map-append, head-eq-of-cons-eq, tail-eq-of-cons-eq}
 use Prim.Native.Nat.{ℕ, zero, suc, _+_, _-_, _≤_, _<_}
-use native.Mathlib.Nat.{add-assoc}
+use native.Mathlib.Decide.{decLt}
 use native.Mathlib.Omega.{arith}
 use native.Mathlib.Numerals.{add-one}
-use lib.Dec.{leb}
-use lib.ListN.{length, take, drop, getD, set, replicate, length-take, length-drop, length-map}
-use lib.Seq.{take-suc, take-all, take-take, take-at, drop-cons, drop-drop, drop-length}
+use lib.ListN.{length, take, drop, getD, set, replicate, length-append, length-replicate, length-map}
+use lib.Seq.{take-suc, take-all, take-at, drop-cons, drop-length, getD-set-same, getD-set-other}
 use borrow.Author.Tests.{le-leb, lt-leb}
-use Rattle.judge.specs.declared.text.NamePlace.{NamePlace}
 use Rattle.judge.specs.declared.text.Names.{Names}
 use Rattle.judge.specs.Bytes.{Text}
-use Rattle.judge.specs.Reading.{noPlace, namesWith, partAt, partsOf}
+use Rattle.judge.specs.Reading.{noPlace, namesWith, reading, partAt, partsOf}
 use Rattle.judge.specs.Reading.Filled.{filled, fill-length, fill-turn, names-filled}
 use Rattle.fields.specs.Split.{lineFeed, lines, behind, part, partEnd}
 use Rattle.fields.specs.Split.Laws.{Stand, Next, stand-start, stand-stop, stand-next, end-bounds}
-use Rattle.fields.specs.Heads.{headsOf}
 use Rattle.sheet.specs.declared.sheet.SheetFault.{SheetFault}
 use Rattle.sheet.specs.declared.sheet.SheetFault.the-variants.{ManyRules}
 use Rattle.sheet.specs.declared.sheet.SheetOutcome.the-variants.{Read, Refused}
-use Rattle.sheet.specs.declared.sheet.Checked.{Checked}
 use Rattle.sheet.specs.declared.sheet.Checked.the-variants.{Good, Bad}
 use Rattle.sheet.specs.declared.sheet.LineRead.{LineRead}
 use Rattle.sheet.specs.declared.sheet.Entry.{Entry}
 use Rattle.sheet.specs.declared.sheet.Sheet.{Sheet}
 use Rattle.sheet.specs.declared.sheet.SheetRead.{SheetRead}
-use Rattle.sheet.specs.Sheet.{maxRules, kind, lineFault, sheetLines, Placed, placedFrom, kindPlace, entryOf, noEntry, sheetWith, sheetBy}
-use Rattle.sheet.specs.Sheet.Laws.{checkedBy, LineIs, checked-line, line-kind-is, part-size}
+use Rattle.sheet.specs.Sheet.{maxRules, kind, model, lineFault, sheetLines, Placed, placedFrom, kindPlace, entryOf, noEntry, sheetWith, sheetBy}
+use Rattle.sheet.specs.Sheet.Laws.{checkedBy, LineIs, line-kind-is, line-model-is, part-size}
+
+-- an entry of the text s is that of the line l
+pub record EntryGood (s : Text) (e : Entry) (l : Text) : Type 0 where
+  pub inside : e .model .start + e .model .len ≤ length s
+  pub model-is : partAt s (e .model) ≡ model l
+  pub rule-is : e .rule ≡ reading (model l) .rule
+  pub names-are : e .names ≡ reading (model l) .names
+
+-- a sheet that was read from s: its kinds, and an entry for each line
+pub record Loaded (s : Text) (r : Sheet) : Type 0 where
+  pub few : length (lines s) ≤ maxRules
+  pub kinds-are : partsOf s (r .kinds) ≡ map kind (lines s)
+  pub entries-good : (k : ℕ) (d : Entry) → k < length (lines s) → EntryGood s (getD (r .entries) k d) (getD (lines s) k [])
+
+pub record LoadedBy (s : Text) (o : SheetRead) (r : SheetRead) : Type 0 where
+  pub reads : r ≡ o
+  pub loaded : r .outcome ≡ Read → Loaded s (r .sheet)
+
+-- a refused sheet is not loaded
+pub not-loaded : (s : Text) (r : SheetRead) (f : SheetFault) (n : ℕ) → r ≡ sheetBy [] (Refused f n) → r .outcome ≡ Read → Loaded s (r .sheet)
+not-loaded s r f n e g = let z : _≡_ {A = ℕ} 0 1 = cc (ap (λ q. q .outcome) e, g) in absurd (omega arith)
 
 -- what the loop holds before line n, which begins at `at`
 pub record Gone (x : Text) (kinds : Names) (entries : List Entry) (n at : ℕ) : Type 0 where
@@ -41,6 +58,7 @@ pub record Gone (x : Text) (kinds : Names) (entries : List Entry) (n at : ℕ) :
   pub entries-are : entries ≡ filled entryOf noEntry (placedFrom 0 (lines x)) 64 n
   pub ahead : drop n (placedFrom 0 (lines x)) ≡ placedFrom at (drop n (lines x))
   pub kinds-are : map (partAt x) (map kindPlace (take n (placedFrom 0 (lines x)))) ≡ map kind (take n (lines x))
+  pub entries-good : (k : ℕ) (d : Entry) → k < n → EntryGood x (getD entries k d) (getD (lines x) k [])
   pub answer : sheetLines 0 [] (lines x) ≡ sheetLines n (map kind (take n (lines x))) (drop n (lines x))
 
 placed-length : (p : ℕ) (ls : List Text) → length (placedFrom p ls) ≡ length ls
@@ -58,8 +76,14 @@ gone-start x s e b =
       entries-are = ap (λ r. r .entries) e;
       ahead = refl;
       kinds-are = refl;
+      entries-good = λ k d h. absurd (omega arith);
       answer = refl;
     }
+
+-- the entry of a good line
+entry-good : (x : Text) (at end : ℕ) → at ≤ end → end ≤ length x → (ks : List Text) → checkedBy (lineFault ks (part x at end)) ≡ Good
+    → EntryGood x (entryOf (record { start = at; line = part x at end })) (part x at end)
+entry-good x at end o h ks e = let m = line-model-is x at end o h ks e in record { inside = m .1; model-is = m .0; rule-is = refl; names-are = refl }
 
 module _ (x : Text) (kinds : Names) (entries : List Entry) (n at : ℕ) (w : Gone x kinds entries n at) where
   ps : List Placed
@@ -120,6 +144,10 @@ module _ (x : Text) (kinds : Names) (entries : List Entry) (n at : ℕ) (w : Gon
       line-more : map kind (take (n + 1) (lines x)) ≡ map kind (take n (lines x)) ++ (kind (part x at end) ∷ [])
       line-more = rw (add-one, take-suc (lines x) n [] (v .counted), map-append, v .line-is)
 
+      long : n < length entries
+      unfolding ps
+      long = rw (w .entries-are, length-append, fill-length entryOf noEntry ps n (omega (arith, inside)), length-replicate) (omega arith)
+
       pub gone-next : Gone x (record { places = set (kinds .places) n (r .kind); len = n + 1 }) (set entries n (r .entry)) (n + 1) (end + 1)
       unfolding ps
       gone-next =
@@ -134,9 +162,21 @@ module _ (x : Text) (kinds : Names) (entries : List Entry) (n at : ℕ) (w : Gon
             count-is = refl;
             entries-are = ap₂ (λ l k. set l n k) (w .entries-are) (i .entry-is g ∙ ap entryOf (sym at-n)) ∙ fill-turn entryOf noEntry ps 64 n (record { start = 0; line = [] }) o inside;
             ahead = rw (add-one n) (tail-eq-of-cons-eq (sym (drop-cons ps n (record { start = 0; line = [] }) inside) ∙ here));
+            entries-good = λ k d h. by-cases (decLt k n)
+                (λ o′. rw (getD-set-other entries n k (r .entry) d (λ q. omega (arith, q))) (w .entries-good k d o′))
+                (λ o′. let q : k ≡ n = omega arith in rw (q, getD-set-same entries n (r .entry) d long, v .line-is, i .entry-is g) (entry-good x at end (b .0) (b .1) (partsOf x kinds) (sym (i .checked-is) ∙ g)));
             kinds-are = rw (one-more, map-append, map-append, line-more, w .kinds-are, q);
             answer = w .answer ∙ rw (drop-cons (lines x) n [] (v .counted), lt-leb maxRules n o, v .line-is, z, line-more, add-one);
           }
+
+  pub gone-loaded : length x ≤ at → Loaded x (record { kinds = kinds; entries = entries })
+  gone-loaded h =
+      let c = stand-stop x n at (w .stand) h in
+      record {
+        few = omega (arith, w .few);
+        kinds-are = parts-are ∙ ap (map kind) (take-all n (lines x) (omega arith));
+        entries-good = λ k d o. w .entries-good k d (omega arith);
+      }
 
   pub gone-end : length x ≤ at → _≡_ {A = SheetRead} (record { outcome = Read; sheet = record { kinds = kinds; entries = entries } }) (sheetBy x (sheetLines 0 [] (lines x)))
   unfolding ps

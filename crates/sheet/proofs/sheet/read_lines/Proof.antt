@@ -7,7 +7,7 @@ use Rattle.fields.specs.Split.{lineFeed}
 use Rattle.fields.specs.Split.Laws.{end-bounds}
 use Rattle.sheet.specs.Cues.{maxFile}
 use Rattle.sheet.specs.Sheet.{sheetBy}
-use Rattle.sheet.specs.Sheet.Walk.{Gone, gone-start, gone-many, gone-bad, gone-next, gone-end}
+use Rattle.sheet.specs.Sheet.Walk.{Gone, gone-start, gone-many, gone-bad, gone-next, gone-end, gone-loaded, not-loaded}
 use borrow.Author.Needs.{needs}
 use native.Mathlib.Omega.{arith}
 use Rattle.sheet.proofs.sheet.read_lines.Statement.{statement}
@@ -42,9 +42,10 @@ refused-requires c κs = search needs
 
 returns : tie.Need-returns Inv-loop μ-loop
 returns c =
+    let at-refused = c .refused in
     let at-args = c .before .before .before .before .before .before .before .before .args in
     let at-loop = c .before .before .before .loop in
-    c .refused .ensures ∙ ap (sheetBy (at-args .text .now)) (sym (gone-many (at-args .text .now) (at-loop .kinds) (at-loop .entries) (at-loop .n) (at-loop .at) (at-loop .inv .0) (c .before .if1 .taken) (c .before .before .loop-test .taken)))
+    record { reads = at-refused .ensures ∙ ap (sheetBy (at-args .text .now)) (sym (gone-many (at-args .text .now) (at-loop .kinds) (at-loop .entries) (at-loop .n) (at-loop .at) (at-loop .inv .0) (c .before .if1 .taken) (c .before .before .loop-test .taken))); loaded = not-loaded (at-args .text .now) (at-refused .result) _ _ (at-refused .ensures) }
 
 part-end-requires : tie.Need-part-end-requires Inv-loop μ-loop
 part-end-requires c κs = search needs
@@ -70,12 +71,13 @@ refused-requires-2 c κs = search needs
 
 returns-2 : tie.Need-returns-2 Inv-loop μ-loop
 returns-2 c =
+    let at-refused2 = c .refused2 in
     let at-args = c .before .before .before .before .before .before .before .before .before .before .before .before .before .args in
     let at-loop = c .before .before .before .before .before .before .before .before .loop in
     let at-part-end = c .before .before .before .before .before .part-end in
     let at-read-line = c .before .before .before .before .read-line in
     let at-checked = c .before .before .checked in
-    c .refused2 .ensures ∙ ap (sheetBy (at-args .text .now)) (sym (gone-bad (at-args .text .now) (at-loop .kinds) (at-loop .entries) (at-loop .n) (at-loop .at) (at-loop .inv .0) (at-part-end .result) (omega (arith, c .before .before .before .before .before .before .if1 .left, (at-loop .inv .0) .few)) (c .before .before .before .before .before .before .before .loop-test .taken) (at-part-end .ensures) (at-read-line .result) (at-read-line .ensures) (at-checked .given .0 .0) (at-checked .given .1)))
+    record { reads = at-refused2 .ensures ∙ ap (sheetBy (at-args .text .now)) (sym (gone-bad (at-args .text .now) (at-loop .kinds) (at-loop .entries) (at-loop .n) (at-loop .at) (at-loop .inv .0) (at-part-end .result) (omega (arith, c .before .before .before .before .before .before .if1 .left, (at-loop .inv .0) .few)) (c .before .before .before .before .before .before .before .loop-test .taken) (at-part-end .ensures) (at-read-line .result) (at-read-line .ensures) (at-checked .given .0 .0) (at-checked .given .1))); loaded = not-loaded (at-args .text .now) (at-refused2 .result) _ _ (at-refused2 .ensures) }
 
 mul-kind : tie.Need-mul-kind Inv-loop μ-loop
 mul-kind c = omega (arith, (c .before .before .before .before .before .before .before .before .loop .inv .0) .few, c .before .before .before .before .before .before .if1 .left)
@@ -113,8 +115,10 @@ loop-again c =
 
 returns-3 : tie.Need-returns-3 Inv-loop μ-loop
 returns-3 c =
+    let at-args = c .before .before .before .before .before .before .args in
     let at-loop = c .before .loop in
-    gone-end (c .before .before .before .before .before .before .args .text .now) (at-loop .kinds) (at-loop .entries) (at-loop .n) (at-loop .at) (at-loop .inv .0) (c .loop-test .left)
+    let at-loop-test = c .loop-test in
+    record { reads = gone-end (at-args .text .now) (at-loop .kinds) (at-loop .entries) (at-loop .n) (at-loop .at) (at-loop .inv .0) (at-loop-test .left); loaded = λ e. gone-loaded (at-args .text .now) (at-loop .kinds) (at-loop .entries) (at-loop .n) (at-loop .at) (at-loop .inv .0) (at-loop-test .left) }
 
 pub read-lines-spec : {M : Type 1} → statement M
 read-lines-spec =

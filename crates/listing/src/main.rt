@@ -1,0 +1,66 @@
+// Prints the listing of cues.txt by sheet.txt, both in the folder that it is run in, or the one line of a refusal.
+
+use libc::STDOUT_FILENO;
+use sheet::listing::Listed;
+use sheet::listing::list;
+use sheet::number::cue_number;
+use sheet::number::sheet_number;
+use sheet::sheet::SheetOutcome;
+use sheet::sheet::read_sheet;
+
+fn refuse(which: &[u8], number: u64, line: u64) {
+    io::write_all(STDOUT_FILENO, b"refused\t");
+    io::write_all(STDOUT_FILENO, which);
+    io::write_all(STDOUT_FILENO, b"\t");
+    io::print_decimal(STDOUT_FILENO, number);
+    io::write_all(STDOUT_FILENO, b"\t");
+    io::print_decimal(STDOUT_FILENO, line);
+    io::write_all(STDOUT_FILENO, b"\n");
+}
+
+// There is no cue list. The sheet is tried before it.
+fn without_cues(sheet: &[u8]) {
+    let read = read_sheet(sheet);
+    let outcome = read.outcome;
+    match outcome {
+        SheetOutcome::Read => refuse(b"cues", 60, 0),
+        SheetOutcome::Refused(f, line) => refuse(b"sheet", sheet_number(f), line as u64),
+    }
+}
+
+fn with_both(sheet: &[u8], cues: &[u8]) {
+    let mut buffer = io::large_buffer();
+    match list(sheet, cues, &mut buffer[0..65535]) {
+        Listed::Written(n) => {
+            io::write_all(STDOUT_FILENO, &buffer[0..n]);
+        }
+        Listed::SheetRefused(f, line) => refuse(b"sheet", sheet_number(f), line as u64),
+        Listed::CueRefused(f, line) => refuse(b"cues", cue_number(f), line as u64),
+        Listed::TooLong => refuse(b"listing", 50, 0),
+    }
+}
+
+// A file of more than 65,535 bytes fills the buffer, and is seen as too long.
+fn with_sheet(sheet: &[u8]) {
+    let fd = os::open_read(b"cues.txt");
+    if fd < 0 {
+        without_cues(sheet);
+        return;
+    }
+    let mut cues = io::large_buffer();
+    let n = io::read_full(fd, &mut cues);
+    libc::close(fd);
+    with_both(sheet, &cues[..n]);
+}
+
+fn main() {
+    let fd = os::open_read(b"sheet.txt");
+    if fd < 0 {
+        refuse(b"sheet", 60, 0);
+        return;
+    }
+    let mut sheet = io::large_buffer();
+    let n = io::read_full(fd, &mut sheet);
+    libc::close(fd);
+    with_sheet(&sheet[..n]);
+}
