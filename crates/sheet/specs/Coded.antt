@@ -1,8 +1,8 @@
 -- A listing whose verdicts are kept as bytes, and what the parts of a listing's making know of each other.
 pub mod Laws
-use mathlib.Core.Path.{_≡_, refl, ap, sym, _∙_}
+use mathlib.Core.Path.{_≡_}
 use mathlib.Core.Bool.{cond}
-use mathlib.Core.List.{List, [], _∷_, _++_, map}
+use mathlib.Core.List.{List, [], _∷_, _++_}
 use Prim.Native.Nat.{ℕ, suc, _+_, _≤_, _<_}
 use lib.Dec.{T, eqb}
 use lib.ListN.{length, getD}
@@ -17,7 +17,7 @@ use Rattle.sheet.specs.declared.line.Said.the-variants.{Complete, Open, 
 use Rattle.sheet.specs.declared.sheet.Entry.{Entry}
 use Rattle.sheet.specs.Cues.{maxFile, children}
 use Rattle.sheet.specs.Put.{Fits}
-use Rattle.sheet.specs.Listing.{listingLine, listingBy, said}
+use Rattle.sheet.specs.Listing.{listingLine, said}
 
 abbrev pub codeOf : Said → ℕ
 codeOf Complete = 0

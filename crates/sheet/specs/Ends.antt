@@ -1,13 +1,9 @@
 -- The ends: what a listing says of each cue, by the meaning of the models. Demands 1 and 2 for sheet, cue list and listing.
-use mathlib.Core.Path.{_≡_, refl, ap, sym, _∙_}
-use mathlib.Core.Bool.{true, false, cond}
-use mathlib.Core.Option.{Option, none, some}
+use mathlib.Core.Path.{_≡_, refl, sym, _∙_}
 use mathlib.Core.List.{List, [], _∷_, map}
 use Prim.Native.Nat.{ℕ, zero, suc, _+_, _≤_, _<_}
 use native.Mathlib.Omega.{arith}
-use lib.Dec.{leb, ltb}
 use lib.ListN.{length, getD, length-map, List·getD-map}
-use borrow.Author.Tests.{ltb-false}
 use Rattle.judge.specs.declared.verdict.Verdict.{Verdict}
 use Rattle.judge.specs.declared.verdict.Verdict.the-variants.{Complete as IsComplete, Open as IsOpen, Dead as IsDead}
 use Rattle.judge.specs.declared.verdict.Judged.the-variants.{Verdict as Says-so}
@@ -15,8 +11,8 @@ use Rattle.judge.specs.Tests.{by-test}
 use Rattle.judge.specs.Bytes.{Text, sameText}
 use Rattle.judge.specs.Bytes.Laws.{same-text}
 use Rattle.judge.specs.Syntax.{Syntax, names, numberFrom, numberIn}
-use Rattle.judge.specs.Fault.{Answer, Answers, refused, accepted}
-use Rattle.judge.specs.Fault.Answered.{answer, answered}
+use Rattle.judge.specs.Fault.{Answers, accepted}
+use Rattle.judge.specs.Fault.Answered.{answered}
 use Rattle.judge.specs.Syntax.{Spelling}
 use Rattle.judge.specs.Tree.{leaves}
 use Rattle.judge.specs.Tree.Leaves.{length-leaves}
@@ -26,22 +22,19 @@ use Rattle.judge.specs.Model.{countsOf, modelOf, typeOf}
 use Rattle.judge.specs.Rule.{Means, ruleOf}
 use Rattle.judge.specs.Rule.{names as ruleNames}
 use Rattle.judge.specs.Judge.{Upto}
-use Rattle.judge.specs.Judge.Laws.{judged}
 use Rattle.judge.specs.Verdict.{Says}
 use Rattle.judge.specs.Limits.{maxRow}
-use Rattle.judge.specs.Reading.{reading, partsOf, namesOf}
 use Rattle.judge.specs.Reading.Laws.{accepted-reading, names-are}
 use Rattle.judge.specs.Ends.{some-verdict, type-conflict-free, verdict-exactly}
-use Rattle.fields.specs.Split.{lines, behind, field}
+use Rattle.fields.specs.Split.{lines, field}
 use Rattle.fields.specs.Children.{rowOf}
 use Rattle.sheet.specs.declared.line.Said.{Said}
 use Rattle.sheet.specs.declared.line.Said.the-variants.{Complete, Open, Dead, NoSheet}
-use Rattle.sheet.specs.declared.sheet.SheetFault.{SheetFault}
-use Rattle.sheet.specs.declared.sheet.SheetOutcome.the-variants.{Read, Refused}
+use Rattle.sheet.specs.declared.sheet.SheetOutcome.the-variants.{Read}
 use Rattle.sheet.specs.declared.cues.CuesRead.the-variants.{Count}
-use Rattle.sheet.specs.Cues.{maxFile, children, cuesRead}
+use Rattle.sheet.specs.Cues.{children, cuesRead}
 use Rattle.sheet.specs.Cues.Good.{good-cues}
-use Rattle.sheet.specs.Sheet.{maxRules, kind, model, modelFault, lineFault, byFault, sheetLines, sheetOutcome}
+use Rattle.sheet.specs.Sheet.{kind, model, sheetOutcome}
 use Rattle.sheet.specs.Sheet.Good.{line-accepted}
 use Rattle.sheet.specs.Listing.{saidBy, saidOf, saidAt, said}
 use Rattle.sheet.specs.Coded.Laws.{number-bound}

@@ -1,14 +1,12 @@
 -- The digits of a number, one digit more at a time, and how many there are.
-use mathlib.Core.Path.{_≡_, refl, ap, sym, _∙_}
-use mathlib.Core.Bool.{cond}
+use mathlib.Core.Path.{_≡_, ap, _∙_}
 use mathlib.Core.List.{[], _∷_, _++_}
-use Prim.Native.Nat.{ℕ, zero, suc, _+_, _-_, _/_, _%_, _^_, _≤_, _<_}
+use Prim.Native.Nat.{ℕ, zero, suc, _+_, _/_, _%_, _^_, _≤_, _<_}
 use native.Mathlib.Omega.{arith}
 use lib.Dec.{ltb}
 use lib.ListN.{length, length-append}
-use borrow.Author.Tests.{ltb-true, ltb-false, lt-ltb, le-ltb}
+use borrow.Author.Tests.{lt-ltb, le-ltb}
 use Rattle.judge.specs.Tests.{by-test}
-use Rattle.judge.specs.Bytes.{Text}
 use Rattle.judge.specs.Bytes.Numeral.{decimal, digits}
 
 decimal-room : (r n : ℕ) → n < 10 ^ suc r → decimal (suc (suc r)) n ≡ decimal (suc r) n

@@ -1,7 +1,7 @@
 -- How a loop over bytes or over fields finds names.
 use mathlib.Core.Path.{_≡_, refl, ap, sym, _∙_}
-use mathlib.Core.Bool.{Bool, true, false, cond, _&&_, _||_, true≢false, and-assoc, and-true, and-false, and-comm}
-use mathlib.Core.List.{List, [], _∷_, _++_, map, map-append, append-nil, head-eq-of-cons-eq, tail-eq-of-cons-eq}
+use mathlib.Core.Bool.{Bool, true, false, _&&_, _||_, true≢false, and-assoc, and-true, and-false}
+use mathlib.Core.List.{List, [], _∷_, _++_, map-append, append-nil, head-eq-of-cons-eq, tail-eq-of-cons-eq}
 use Prim.Native.Nat.{ℕ, suc, _+_, _-_, _≤_, _<_}
 use native.Mathlib.Omega.{arith}
 use native.Mathlib.Numerals.{add-one}
@@ -16,7 +16,7 @@ use Rattle.judge.specs.Word.{Word}
 use Rattle.judge.specs.Syntax.{numberIn}
 use Rattle.judge.specs.Limits.{maxName, maxRow}
 use Rattle.fields.specs.Split.{tab, split, part, partEnd, more, times}
-use Rattle.fields.specs.Split.Laws.{part-at, end-within, split-count}
+use Rattle.fields.specs.Split.Laws.{part-at, split-count}
 use Rattle.fields.specs.Heads.{more-step, more-none}
 use Rattle.fields.specs.declared.fault.CueFault.the-variants.{NoName, ManyChildren}
 use Rattle.fields.specs.declared.children.Children.the-variants.{Count, Refused}

@@ -6,14 +6,6 @@ use native.Mathlib.Omega.{arith}
 use borrow.Author.Needs.{needs}
 use Rattle.listing.proofs.with_both.Statement.{statement}
 use Rattle.listing.proofs.with_both.Tie as tie
-use Rattle.listing.proofs.with_both.Reads as reads
-use Rattle.listing.proofs.with_both.Lts as lts
-use Rattle.io.proofs.large_buffer.Reads as large-buffer-reads
-use Rattle.io.proofs.write_all.Reads as write-all-reads
-use Rattle.listing.proofs.refuse.Reads as refuse-reads
-use Rattle.sheet.proofs.listing.list.Reads as list-reads
-use Rattle.sheet.proofs.number.cue_number.Reads as cue-number-reads
-use Rattle.sheet.proofs.number.sheet_number.Reads as sheet-number-reads
 
 large-buffer-requires : tie.Need-large-buffer-requires
 large-buffer-requires c κs = search needs

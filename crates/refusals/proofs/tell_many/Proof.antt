@@ -5,9 +5,6 @@ use lib.ListN.{length}
 use borrow.Author.Needs.{needs}
 use Rattle.refusals.proofs.tell_many.Statement.{statement}
 use Rattle.refusals.proofs.tell_many.Tie as tie
-use Rattle.refusals.proofs.tell_many.Reads as reads
-use Rattle.refusals.proofs.tell_many.Lts as lts
-use Rattle.refusals.proofs.tell.Reads as tell-reads
 
 abbrev Inv-loop : tie.InvT-loop
 Inv-loop cues₀ i₀ t3 t4 t5 t6 cues i = (i ≤ 8203) × (length cues ≡ 8202)

@@ -1,16 +1,16 @@
 -- How a listing is made: what is said of a cue, the verdicts as bytes, and the lines one behind the other.
-use mathlib.Core.Path.{_≡_, refl, ap, ap₂, sym, subst, _∙_}
+use mathlib.Core.Path.{_≡_, refl, ap, ap₂, sym, _∙_}
 use mathlib.Core.Logic.{by-cases}
-use mathlib.Core.Bool.{Bool, true, false, cond, true≢false, false≢true}
+use mathlib.Core.Bool.{Bool, true, false, cond}
 use mathlib.Core.List.{List, [], _∷_, _++_, map, append-assoc, append-nil}
-use Prim.Native.Nat.{ℕ, zero, suc, _+_, _*_, _-_, _≤_, _<_}
+use Prim.Native.Nat.{ℕ, suc, _+_, _-_, _≤_, _<_}
 use native.Mathlib.Decide.{decLt}
 use native.Mathlib.Omega.{arith}
 use native.Mathlib.Numerals.{add-one}
-use lib.Dec.{T, eqb, ltb, leb}
+use lib.Dec.{T, eqb, leb}
 use lib.ListN.{length, take, drop, getD, set, length-append, length-map, length-take, length-drop, drop-of-length-le}
 use lib.Seq.{take-at, drop-at, take-all, take-add, drop-cons, drop-drop, drop-length, take-length, getD-set-same, getD-set-other}
-use borrow.Author.Tests.{eqb-true, eqb-false, leb-true, le-leb, lt-leb, lt-ltb, ltb-true, ltb-false}
+use borrow.Author.Tests.{eqb-true, eqb-false, leb-true, le-leb, lt-leb, lt-ltb}
 use Rattle.judge.specs.Tests.{by-test}
 use Rattle.judge.specs.declared.text.NamePlace.{NamePlace}
 use Rattle.judge.specs.Bytes.{Text, sameText}
@@ -24,7 +24,7 @@ use Rattle.fields.specs.declared.fault.CueFault.{CueFault}
 use Rattle.fields.specs.declared.children.Children.{Children}
 use Rattle.fields.specs.declared.children.Children.the-variants.{Count, Refused}
 use Rattle.fields.specs.declared.split.Heads.{Heads}
-use Rattle.fields.specs.Split.{tab, split, lines, fields, field, part, more}
+use Rattle.fields.specs.Split.{tab, split, lines, field, part}
 use Rattle.fields.specs.Split.Laws.{part-rest}
 use Rattle.fields.specs.Heads.{headsOf, fields-three, Three, more-none}
 use Rattle.fields.specs.Children.{allNames, childrenOf, rowOf, rowAfter}
@@ -35,7 +35,7 @@ use Rattle.sheet.specs.declared.sheet.Entry.{Entry}
 use Rattle.sheet.specs.declared.sheet.Sheet.{Sheet}
 use Rattle.sheet.specs.Cues.{children, cuesRead}
 use Rattle.sheet.specs.Sheet.{kind, model, sheetOutcome, sheetBy, sheetRead}
-use Rattle.sheet.specs.Sheet.Walk.{EntryGood, Loaded}
+use Rattle.sheet.specs.Sheet.Walk.{Loaded}
 use Rattle.sheet.specs.declared.sheet.SheetFault.{SheetFault}
 use Rattle.sheet.specs.declared.sheet.SheetOutcome.{SheetOutcome}
 use Rattle.sheet.specs.declared.sheet.SheetOutcome.the-variants.{Read, Refused as SheetIsRefused}

@@ -1,12 +1,12 @@
 -- What is known of the lines of a cue list that was read.
-use mathlib.Core.Path.{_≡_, refl, ap, sym, _∙_}
+use mathlib.Core.Path.{_≡_, refl}
 use mathlib.Core.Bool.{Bool, true, false, not, _&&_, _||_}
 use mathlib.Core.List.{List, [], _∷_}
 use Prim.Native.Nat.{ℕ, zero, suc, _≤_, _<_}
 use native.Mathlib.Omega.{arith}
 use lib.Dec.{T, leb, ltb, eqb}
 use lib.ListN.{length, getD}
-use borrow.Author.Tests.{ltb-true, ltb-false}
+use borrow.Author.Tests.{ltb-false}
 use Rattle.judge.specs.Tests.{by-test}
 use Rattle.judge.specs.Bytes.{Text, bytes, value, sameText}
 use Rattle.judge.specs.Bytes.Laws.{same-text}
@@ -20,7 +20,6 @@ use Rattle.sheet.specs.declared.cues.CueLine.{CueLine}
 use Rattle.sheet.specs.declared.cues.CueLine.the-variants.{Number, Bad}
 use Rattle.sheet.specs.declared.cues.CuesRead.the-variants.{Count, Refused}
 use Rattle.sheet.specs.Cues.{maxFile, isCueNumber, children, cueLine, byLine, cueLines, cuesRead}
-use Rattle.sheet.specs.Put.{Fits}
 use Rattle.sheet.specs.Coded.{GoodCues}
 
 pub record LineGood (l : Text) : Type 0 where

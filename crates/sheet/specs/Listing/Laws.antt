@@ -1,18 +1,16 @@
 -- Laws of a listing's lines: their pieces, as a writer puts them.
-use mathlib.Core.Path.{_≡_, refl, ap, sym, _∙_}
-use mathlib.Core.Bool.{true, false, true≢false}
-use mathlib.Core.List.{List, [], _∷_, _++_, append-assoc}
-use Prim.Native.Nat.{ℕ, suc, _+_, _-_, _≤_, _<_}
+use mathlib.Core.Path.{_≡_, ap}
+use mathlib.Core.List.{[], _∷_, _++_, append-assoc}
+use Prim.Native.Nat.{ℕ, _+_, _-_, _≤_, _<_}
 use native.Mathlib.Omega.{arith}
 use lib.Dec.{ltb}
-use lib.ListN.{length, take, drop, length-append, length-take, length-drop}
-use borrow.Author.Tests.{ltb-true, ltb-false, lt-ltb, le-ltb}
+use lib.ListN.{length, length-append, length-take, length-drop}
+use borrow.Author.Tests.{ltb-true, ltb-false}
 use Rattle.judge.specs.Tests.{by-test}
 use Rattle.judge.specs.Bytes.{Text}
 use Rattle.judge.specs.Bytes.Numeral.{digits}
-use Rattle.judge.specs.Limits.{maxRow}
 use Rattle.fields.specs.declared.split.Heads.{Heads}
-use Rattle.fields.specs.Split.{lineFeed, tab, fields, field, part, times}
+use Rattle.fields.specs.Split.{lineFeed, tab, fields, part}
 use Rattle.fields.specs.Heads.{headsOf, fields-few, Three}
 use Rattle.sheet.specs.declared.line.Said.{Said}
 use Rattle.sheet.specs.declared.line.Said.the-variants.{Complete, Open, Dead, NoSheet}

@@ -1,5 +1,5 @@
 -- What is known of the lines of a sheet that was read: each has a model that is accepted.
-use mathlib.Core.Path.{_≡_, refl, ap, sym, subst, _∙_}
+use mathlib.Core.Path.{_≡_, refl}
 use mathlib.Core.Option.{Option, none, some}
 use mathlib.Core.List.{List, [], _∷_, _++_}
 use Prim.Native.Nat.{ℕ, zero, suc, _<_}
@@ -14,7 +14,6 @@ use Rattle.judge.specs.Fault.Answered.{answer, answered}
 use Rattle.fields.specs.Split.{lines, behind}
 use Rattle.sheet.specs.declared.sheet.SheetFault.{SheetFault}
 use Rattle.sheet.specs.declared.sheet.SheetFault.the-variants.{LongFile, Unended, ManyRules}
-use Rattle.sheet.specs.declared.sheet.SheetOutcome.{SheetOutcome}
 use Rattle.sheet.specs.declared.sheet.SheetOutcome.the-variants.{Read, Refused}
 use Rattle.sheet.specs.Cues.{maxFile}
 use Rattle.sheet.specs.Sheet.{maxRules, kind, model, modelFault, lineFault, byFault, sheetLines, sheetOutcome}

@@ -1,13 +1,12 @@
 -- How the lines of a sheet are read.
 use mathlib.Core.Path.{_≡_, refl, ap, sym, _∙_}
-use mathlib.Core.Bool.{Bool, true, false, cond, not, _&&_, _||_, true≢false, false≢true}
+use mathlib.Core.Bool.{true, false, cond, not, _||_}
 use mathlib.Core.Option.{Option, none, some}
-use mathlib.Core.List.{List, [], _∷_, _++_, map, append-assoc}
+use mathlib.Core.List.{List, [], _∷_}
 use Prim.Native.Nat.{ℕ, zero, suc, _+_, _-_, _≤_, _<_}
 use native.Mathlib.Omega.{arith}
-use native.Mathlib.Numerals.{add-one}
-use lib.Dec.{leb, ltb, eqb, eqb·suc-zero}
-use lib.ListN.{length, take, drop, getD, replicate, set, length-take, length-drop}
+use lib.Dec.{ltb, eqb, eqb·suc-zero}
+use lib.ListN.{length, take, drop, replicate, length-take, length-drop}
 use lib.Seq.{take-nil, drop-nil, take-take, drop-drop}
 use borrow.Author.Tests.{ltb-true, ltb-false, lt-ltb, le-ltb, eqb-true, eq-eqb, ne-eqb, not-true, not-false}
 use Rattle.judge.specs.Tests.{by-test}
@@ -32,13 +31,13 @@ use Rattle.sheet.specs.declared.sheet.SheetFault.the-variants.{LongFile,
 use Rattle.sheet.specs.declared.sheet.Checked.{Checked}
 use Rattle.sheet.specs.declared.sheet.Checked.the-variants.{Good, Bad}
 use Rattle.sheet.specs.declared.sheet.LineRead.{LineRead}
-use Rattle.sheet.specs.declared.sheet.SheetOutcome.the-variants.{Read, Refused}
+use Rattle.sheet.specs.declared.sheet.SheetOutcome.the-variants.{Refused}
 use Rattle.sheet.specs.declared.sheet.Entry.{Entry}
 use Rattle.sheet.specs.declared.sheet.Sheet.{Sheet}
 use Rattle.sheet.specs.declared.sheet.SheetRead.{SheetRead}
 use Rattle.sheet.specs.Cues.{maxFile}
 use Rattle.sheet.specs.Listing.Laws.{enough}
-use Rattle.sheet.specs.Sheet.{maxRules, kind, model, among, modelFault, lineFault, Placed, kindPlace, modelPlace, entryOf, noEntry, sheetLines, sheetWith, sheetBy, sheetRead}
+use Rattle.sheet.specs.Sheet.{maxRules, kind, model, among, modelFault, lineFault, kindPlace, modelPlace, entryOf, noEntry, sheetLines, sheetWith, sheetBy, sheetRead}
 
 -- what is wrong with a line, its model left aside
 abbrev pub lineChecked : List Text → Text → Checked

@@ -1,22 +1,16 @@
 -- From the last byte to the second, then the first.
 use mathlib.Core.Path.{_≡_, refl, sym, ap₂, _∙_}
-use mathlib.Core.Bool.{Bool, true, false, _&&_, _||_}
-use Prim.Native.Nat.{ℕ, _≤_, _<_}
-use lib.Dec.{eqb, ltb}
+use mathlib.Core.Bool.{_&&_}
+use Prim.Native.Nat.{_≤_}
 use lib.ListN.{length, drop}
 use lib.Seq.{drop-length}
-use borrow.Author.Tests.{eqb-true, eqb-false, ltb-true, ltb-false}
-use Rattle.judge.specs.Tests.{by-test}
-use Rattle.judge.specs.Bytes.{Text, isInner, all}
+use Rattle.judge.specs.Bytes.{isInner, all}
 use Rattle.judge.specs.Limits.{maxName}
-use Rattle.fields.specs.Children.{shortName}
 use Rattle.fields.specs.Children.Laws.{name-refused, name-sized, name-is, inner-back}
 use borrow.Author.Needs.{needs}
 use native.Mathlib.Omega.{arith}
 use Rattle.fields.proofs.children.is_name.Statement.{statement}
 use Rattle.fields.proofs.children.is_name.Tie as tie
-use Rattle.fields.proofs.children.is_name.Reads as reads
-use Rattle.fields.proofs.children.is_name.Lts as lts
 
 abbrev Inv-loop : tie.InvT-loop
 Inv-loop text n good₀ i₀ good i = (1 ≤ i) × (i ≤ length text) × (length text ≤ maxName) × (good ≡ all isInner (drop i text))

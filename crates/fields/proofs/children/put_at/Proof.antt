@@ -4,8 +4,6 @@ use lib.Seq.{set-out}
 use borrow.Author.Needs.{needs}
 use Rattle.fields.proofs.children.put_at.Statement.{statement}
 use Rattle.fields.proofs.children.put_at.Tie as tie
-use Rattle.fields.proofs.children.put_at.Reads as reads
-use Rattle.fields.proofs.children.put_at.Lts as lts
 
 mul-row : tie.Need-mul-row
 mul-row c = search needs

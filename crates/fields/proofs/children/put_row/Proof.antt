@@ -1,11 +1,10 @@
 -- Field behind field.
-use mathlib.Core.Path.{_≡_, refl, sym, ap, _∙_}
-use mathlib.Core.List.{[]}
+use mathlib.Core.Path.{_≡_, refl, ap, _∙_}
 use Prim.Native.Nat.{_+_, _-_, _≤_}
 use lib.ListN.{length, drop, set, length-set}
 use Rattle.judge.specs.Limits.{maxRow}
 use Rattle.judge.specs.Reading.{partsOf}
-use Rattle.fields.specs.Split.{tab, split, part, more}
+use Rattle.fields.specs.Split.{tab, split, more}
 use Rattle.fields.specs.Split.Laws.{end-bounds, part-at}
 use Rattle.fields.specs.Heads.{more-step, more-none}
 use Rattle.fields.specs.Children.Laws.{met, filledRow, row-first, row-step, row-done}
@@ -13,11 +12,6 @@ use borrow.Author.Needs.{needs}
 use native.Mathlib.Omega.{arith}
 use Rattle.fields.proofs.children.put_row.Statement.{statement}
 use Rattle.fields.proofs.children.put_row.Tie as tie
-use Rattle.fields.proofs.children.put_row.Reads as reads
-use Rattle.fields.proofs.children.put_row.Lts as lts
-use Rattle.fields.proofs.children.put_at.Reads as put-at-reads
-use Rattle.fields.proofs.split.part_end.Reads as part-end-reads
-use Rattle.judge.proofs.text.number_of.Reads as number-of-reads
 
 abbrev Inv-loop : tie.InvT-loop
 Inv-loop model names children row₀ end₀ n₀ row end n = (1 ≤ n) × (n ≤ length (split tab children)) × (length (split tab children) ≤ maxRow) × (end ≤ length children) × (drop n (split tab children) ≡ more children tab end) × (row ≡ filledRow (partsOf model names) (split tab children) row₀ n) × (length row ≡ length row₀)

@@ -1,15 +1,11 @@
 -- The children are counted first, so a refusal comes before the first number is put.
-use mathlib.Core.Path.{_≡_, refl, sym, ap, _∙_}
+use mathlib.Core.Path.{refl, sym, _∙_}
 use Rattle.judge.specs.Reading.{partsOf}
 use Rattle.fields.specs.Split.{tab, split}
 use Rattle.fields.specs.Children.Laws.{counted-few, counted-put}
 use borrow.Author.Needs.{needs}
 use Rattle.fields.proofs.children.row_of.Statement.{statement}
 use Rattle.fields.proofs.children.row_of.Tie as tie
-use Rattle.fields.proofs.children.row_of.Reads as reads
-use Rattle.fields.proofs.children.row_of.Lts as lts
-use Rattle.fields.proofs.children.count_children.Reads as count-children-reads
-use Rattle.fields.proofs.children.put_row.Reads as put-row-reads
 
 count-children-requires : tie.Need-count-children-requires
 count-children-requires c κs = search needs

@@ -12,8 +12,6 @@ use native.Mathlib.Omega.{arith}
 use borrow.Author.Needs.{needs}
 use Rattle.fields.proofs.split.is_ended.Statement.{statement}
 use Rattle.fields.proofs.split.is_ended.Tie as tie
-use Rattle.fields.proofs.split.is_ended.Reads as reads
-use Rattle.fields.proofs.split.is_ended.Lts as lts
 
 none : (x : Text) → length x ≡ 0 → true ≡ sameText (behind x) []
 none [] h = refl

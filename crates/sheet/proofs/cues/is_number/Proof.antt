@@ -10,8 +10,6 @@ use borrow.Author.Needs.{needs}
 use native.Mathlib.Omega.{arith}
 use Rattle.sheet.proofs.cues.is_number.Statement.{statement}
 use Rattle.sheet.proofs.cues.is_number.Tie as tie
-use Rattle.sheet.proofs.cues.is_number.Reads as reads
-use Rattle.sheet.proofs.cues.is_number.Lts as lts
 
 abbrev Inv-loop : tie.InvT-loop
 Inv-loop text n good₀ i₀ good i = (1 ≤ length text) × (i ≤ length text) × (length text ≤ 5) × (getD text 0 0 ≡ 48 → ⊥) × (good ≡ all isDigit (drop i text))

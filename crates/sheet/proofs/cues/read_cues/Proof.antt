@@ -1,5 +1,5 @@
 -- A walk over the lines: those passed are good.
-use mathlib.Core.Path.{_≡_, refl, sym, _∙_}
+use mathlib.Core.Path.{_≡_, sym, _∙_}
 use mathlib.Core.List.{[]}
 use Prim.Native.Nat.{_-_, _≤_}
 use lib.ListN.{length, drop}
@@ -12,11 +12,6 @@ use borrow.Author.Needs.{needs}
 use native.Mathlib.Omega.{arith}
 use Rattle.sheet.proofs.cues.read_cues.Statement.{statement}
 use Rattle.sheet.proofs.cues.read_cues.Tie as tie
-use Rattle.sheet.proofs.cues.read_cues.Reads as reads
-use Rattle.sheet.proofs.cues.read_cues.Lts as lts
-use Rattle.fields.proofs.split.is_ended.Reads as is-ended-reads
-use Rattle.fields.proofs.split.part_end.Reads as part-end-reads
-use Rattle.sheet.proofs.cues.read_line.Reads as read-line-reads
 
 abbrev Inv-loop : tie.InvT-loop
 Inv-loop text number₀ n₀ at₀ number n at = Stand text n at × (n ≤ at) × (length text ≤ maxFile) × (cuesRead text ≡ cueLines n number (drop n (lines text)))

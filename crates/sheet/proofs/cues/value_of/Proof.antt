@@ -1,6 +1,6 @@
 -- Digit by digit; five bytes cannot come to more than `limit` says.
-use mathlib.Core.Path.{_≡_, refl, sym, ap, _∙_}
-use Prim.Native.Nat.{_+_, _*_, _-_, _≤_}
+use mathlib.Core.Path.{_≡_, refl, ap, _∙_}
+use Prim.Native.Nat.{_-_, _≤_}
 use native.Mathlib.Numerals.{add-one}
 use lib.ListN.{length, take}
 use lib.Seq.{take-all}
@@ -10,9 +10,6 @@ use borrow.Author.Needs.{needs}
 use native.Mathlib.Omega.{arith}
 use Rattle.sheet.proofs.cues.value_of.Statement.{statement}
 use Rattle.sheet.proofs.cues.value_of.Tie as tie
-use Rattle.sheet.proofs.cues.value_of.Reads as reads
-use Rattle.sheet.proofs.cues.value_of.Lts as lts
-use Rattle.sheet.proofs.cues.digit_value.Reads as digit-value-reads
 
 abbrev Inv-loop : tie.InvT-loop
 Inv-loop digits number₀ i₀ number i = (i ≤ length digits) × (length digits ≤ 5) × (number ≡ value (take i digits)) × (number ≤ limit i)

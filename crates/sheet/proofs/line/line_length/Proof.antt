@@ -1,5 +1,5 @@
 -- Piece by piece.
-use mathlib.Core.Path.{_≡_, sym, _∙_}
+use mathlib.Core.Path.{sym, _∙_}
 use Rattle.fields.specs.Heads.{fields-three}
 use Rattle.sheet.specs.Listing.Laws.{enough, line-length, word-short}
 use Rattle.judge.specs.Bytes.Numeral.{digits-length}
@@ -8,12 +8,6 @@ use native.Mathlib.Omega.{arith}
 use borrow.Author.Needs.{needs}
 use Rattle.sheet.proofs.line.line_length.Statement.{statement}
 use Rattle.sheet.proofs.line.line_length.Tie as tie
-use Rattle.sheet.proofs.line.line_length.Reads as reads
-use Rattle.sheet.proofs.line.line_length.Lts as lts
-use Rattle.fields.proofs.split.first_fields.Reads as first-fields-reads
-use Rattle.fields.proofs.split.times_in.Reads as times-in-reads
-use Rattle.sheet.proofs.line.number_length.Reads as number-length-reads
-use Rattle.sheet.proofs.line.word_length.Reads as word-length-reads
 
 first-fields-requires : tie.Need-first-fields-requires
 first-fields-requires c κs = search needs

@@ -3,8 +3,6 @@ use mathlib.Core.Path.{sym}
 use Rattle.sheet.specs.Number.{length-one, length-two, length-three, length-four, length-five}
 use Rattle.sheet.proofs.line.number_length.Statement.{statement}
 use Rattle.sheet.proofs.line.number_length.Tie as tie
-use Rattle.sheet.proofs.line.number_length.Reads as reads
-use Rattle.sheet.proofs.line.number_length.Lts as lts
 
 returns : tie.Need-returns
 returns c = sym (length-one (c .before .args .number) (c .if1 .taken))

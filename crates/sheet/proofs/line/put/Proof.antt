@@ -1,17 +1,14 @@
 -- Byte by byte.
 use mathlib.Core.Path.{_≡_, refl, sym, ap, _∙_}
-use mathlib.Core.List.{_++_}
 use Prim.Native.Nat.{_+_, _-_, _≤_}
 use native.Mathlib.Numerals.{add-one}
 use lib.ListN.{length, set, getD}
-use lib.Seq.{paste, paste-zero, paste-suc, length-paste, take-all}
-use Rattle.sheet.specs.Put.{Put, put-whole}
+use lib.Seq.{paste, paste-zero, paste-suc}
+use Rattle.sheet.specs.Put.{put-whole}
 use borrow.Author.Needs.{needs}
 use native.Mathlib.Omega.{arith}
 use Rattle.sheet.proofs.line.put.Statement.{statement}
 use Rattle.sheet.proofs.line.put.Tie as tie
-use Rattle.sheet.proofs.line.put.Reads as reads
-use Rattle.sheet.proofs.line.put.Lts as lts
 
 abbrev Inv-loop : tie.InvT-loop
 Inv-loop buffer₀ at bytes i₀ buffer i = (i ≤ length bytes) × (at + length bytes ≤ length buffer₀) × (length buffer ≡ length buffer₀) × (buffer ≡ paste buffer₀ at bytes i)

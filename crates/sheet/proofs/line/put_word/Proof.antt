@@ -3,9 +3,6 @@ use native.Mathlib.Omega.{arith}
 use borrow.Author.Needs.{needs}
 use Rattle.sheet.proofs.line.put_word.Statement.{statement}
 use Rattle.sheet.proofs.line.put_word.Tie as tie
-use Rattle.sheet.proofs.line.put_word.Reads as reads
-use Rattle.sheet.proofs.line.put_word.Lts as lts
-use Rattle.sheet.proofs.line.put.Reads as put-reads
 
 enum-told : tie.Need-enum-told
 enum-told c = search needs

@@ -8,13 +8,6 @@ use native.Mathlib.Omega.{arith}
 use borrow.Author.Needs.{needs}
 use Rattle.sheet.proofs.line.write_line.Statement.{statement}
 use Rattle.sheet.proofs.line.write_line.Tie as tie
-use Rattle.sheet.proofs.line.write_line.Reads as reads
-use Rattle.sheet.proofs.line.write_line.Lts as lts
-use Rattle.fields.proofs.split.first_fields.Reads as first-fields-reads
-use Rattle.fields.proofs.split.times_in.Reads as times-in-reads
-use Rattle.sheet.proofs.line.put.Reads as put-reads
-use Rattle.sheet.proofs.line.put_number.Reads as put-number-reads
-use Rattle.sheet.proofs.line.put_word.Reads as put-word-reads
 
 first-fields-requires : tie.Need-first-fields-requires
 first-fields-requires c κs = search needs

@@ -5,10 +5,6 @@ use Rattle.sheet.specs.Coded.{codeOf}
 use borrow.Author.Needs.{needs}
 use Rattle.sheet.proofs.listing.code_for.Statement.{statement}
 use Rattle.sheet.proofs.listing.code_for.Tie as tie
-use Rattle.sheet.proofs.listing.code_for.Reads as reads
-use Rattle.sheet.proofs.listing.code_for.Lts as lts
-use Rattle.sheet.proofs.listing.code_of.Reads as code-of-reads
-use Rattle.sheet.proofs.listing.say.Reads as say-reads
 
 returns : tie.Need-returns
 returns c = rw (eq-eqb _ _ (c .if1 .taken)) refl

@@ -3,8 +3,6 @@ use mathlib.Core.Path.{refl}
 use borrow.Author.Tests.{eq-eqb, ne-eqb}
 use Rattle.sheet.proofs.listing.decode.Statement.{statement}
 use Rattle.sheet.proofs.listing.decode.Tie as tie
-use Rattle.sheet.proofs.listing.decode.Reads as reads
-use Rattle.sheet.proofs.listing.decode.Lts as lts
 
 returns : tie.Need-returns
 returns c = rw (eq-eqb _ _ (c .if1 .taken)) refl

@@ -8,13 +8,6 @@ use borrow.Author.Needs.{needs}
 use Rattle.sheet.proofs.listing.list.Statement.{statement}
 use Rattle.sheet.proofs.listing.list.Tie as tie
 use Rattle.sheet.proofs.listing.list.Reads as reads
-use Rattle.sheet.proofs.listing.list.Lts as lts
-use Rattle.sheet.proofs.cues.read_cues.Reads as read-cues-reads
-use Rattle.sheet.proofs.listing.no_codes.Reads as no-codes-reads
-use Rattle.sheet.proofs.listing.say_all.Reads as say-all-reads
-use Rattle.sheet.proofs.listing.total_length.Reads as total-length-reads
-use Rattle.sheet.proofs.listing.write_lines.Reads as write-lines-reads
-use Rattle.sheet.proofs.sheet.load.Reads as load-reads
 
 load-requires : tie.Need-load-requires
 load-requires c κs = search needs

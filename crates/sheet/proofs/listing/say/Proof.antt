@@ -8,12 +8,6 @@ use native.Mathlib.Omega.{arith}
 use borrow.Author.Needs.{needs}
 use Rattle.sheet.proofs.listing.say.Statement.{statement}
 use Rattle.sheet.proofs.listing.say.Tie as tie
-use Rattle.sheet.proofs.listing.say.Reads as reads
-use Rattle.sheet.proofs.listing.say.Lts as lts
-use Rattle.fields.proofs.children.row_of.Reads as row-of-reads
-use Rattle.fields.proofs.split.first_fields.Reads as first-fields-reads
-use Rattle.judge.proofs.row.judge_row.Reads as judge-row-reads
-use Rattle.sheet.proofs.listing.said_by.Reads as said-by-reads
 
 cast-start : tie.Need-cast-start
 cast-start c = search needs

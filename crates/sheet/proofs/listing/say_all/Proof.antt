@@ -18,14 +18,6 @@ use borrow.Author.Needs.{needs}
 use native.Mathlib.Omega.{arith}
 use Rattle.sheet.proofs.listing.say_all.Statement.{statement}
 use Rattle.sheet.proofs.listing.say_all.Tie as tie
-use Rattle.sheet.proofs.listing.say_all.Reads as reads
-use Rattle.sheet.proofs.listing.say_all.Lts as lts
-use Rattle.fields.proofs.split.first_fields.Reads as first-fields-reads
-use Rattle.fields.proofs.split.part_end.Reads as part-end-reads
-use Rattle.judge.proofs.text.number_of.Reads as number-of-reads
-use Rattle.sheet.proofs.listing.code_for.Reads as code-for-reads
-use Rattle.sheet.proofs.listing.free_row.Reads as free-row-reads
-use Rattle.sheet.proofs.listing.one_less.Reads as one-less-reads
 
 abbrev Inv-loop : tie.InvT-loop
 Inv-loop sheet cues codes₀ rules kinds row₀ n₀ at₀ codes row n at = Stand cues n at × (n ≤ at) × GoodCues cues × Loaded sheet rules × (kinds ≡ rules .kinds) × (length codes ≡ 65535) × (length row ≡ maxRow) × ((i : ℕ) → i < n → getD codes i 0 ≡ codeOf (said (lines sheet) (getD (lines cues) i [])))

@@ -1,8 +1,7 @@
 -- Line by line.
-use mathlib.Core.Path.{_≡_, refl, sym, ap, _∙_}
-use mathlib.Core.List.{_++_}
+use mathlib.Core.Path.{_≡_, ap, _∙_}
 use Prim.Native.Nat.{_+_, _*_, _-_, _≤_}
-use lib.ListN.{length, take, drop, getD, length-append}
+use lib.ListN.{length, drop, getD, length-append}
 use Rattle.fields.specs.Split.{lineFeed, lines, part}
 use Rattle.fields.specs.Split.Laws.{Stand, stand-start, stand-stop, stand-next, end-bounds}
 use Rattle.sheet.specs.Listing.{listingLine}
@@ -12,11 +11,6 @@ use borrow.Author.Needs.{needs}
 use native.Mathlib.Omega.{arith}
 use Rattle.sheet.proofs.listing.total_length.Statement.{statement}
 use Rattle.sheet.proofs.listing.total_length.Tie as tie
-use Rattle.sheet.proofs.listing.total_length.Reads as reads
-use Rattle.sheet.proofs.listing.total_length.Lts as lts
-use Rattle.fields.proofs.split.part_end.Reads as part-end-reads
-use Rattle.sheet.proofs.line.line_length.Reads as line-length-reads
-use Rattle.sheet.proofs.listing.decode.Reads as decode-reads
 
 abbrev Inv-loop : tie.InvT-loop
 Inv-loop cues codes total₀ n₀ at₀ total n at = Stand cues n at × (n ≤ at) × GoodCues cues × (length codes ≡ 65535) × (total + length (listingCoded codes n (drop n (lines cues))) ≡ length (listingCoded codes 0 (lines cues))) × (total ≤ n * 66000)

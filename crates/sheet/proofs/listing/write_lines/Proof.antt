@@ -1,23 +1,18 @@
 -- Each line goes into the part that the earlier ones left free.
 use mathlib.Core.Path.{_≡_, refl, sym, ap, _∙_}
 use mathlib.Core.List.{_++_}
-use Prim.Native.Nat.{_+_, _*_, _-_, _≤_}
-use lib.ListN.{length, take, drop, getD, length-append}
+use Prim.Native.Nat.{_+_, _-_, _≤_}
+use lib.ListN.{length, take, drop}
 use Rattle.fields.specs.Split.{lineFeed, lines, part}
 use Rattle.fields.specs.Split.Laws.{Stand, stand-start, stand-stop, stand-next, end-bounds}
 use Rattle.sheet.specs.Listing.{listingLine}
-use Rattle.sheet.specs.Coded.{decoded, GoodCues, listingCoded}
+use Rattle.sheet.specs.Coded.{GoodCues, listingCoded}
 use Rattle.sheet.specs.Coded.Laws.{coded-next, coded-end, buffer-length, line-fits, room-left, lines-ahead, line-put, put-all}
 use borrow.Rule.Slice.PartMut.{same-len-mid}
 use borrow.Author.Needs.{needs}
 use native.Mathlib.Omega.{arith}
 use Rattle.sheet.proofs.listing.write_lines.Statement.{statement}
 use Rattle.sheet.proofs.listing.write_lines.Tie as tie
-use Rattle.sheet.proofs.listing.write_lines.Reads as reads
-use Rattle.sheet.proofs.listing.write_lines.Lts as lts
-use Rattle.fields.proofs.split.part_end.Reads as part-end-reads
-use Rattle.sheet.proofs.line.write_line.Reads as write-line-reads
-use Rattle.sheet.proofs.listing.decode.Reads as decode-reads
 
 abbrev Inv-loop : tie.InvT-loop
 Inv-loop buffer₀ cues codes written₀ n₀ at₀ buffer written n at = Stand cues n at × (n ≤ at) × GoodCues cues × (length codes ≡ 65535) × (length (listingCoded codes 0 (lines cues)) ≤ length buffer₀) × (written ≤ length (listingCoded codes 0 (lines cues))) × (drop written (listingCoded codes 0 (lines cues)) ≡ listingCoded codes n (drop n (lines cues))) × (buffer ≡ take written (listingCoded codes 0 (lines cues)) ++ drop written buffer₀) × (length buffer ≡ length buffer₀)

@@ -11,11 +11,6 @@ use native.Mathlib.Omega.{arith}
 use borrow.Author.Needs.{needs}
 use Rattle.sheet.proofs.sheet.check_line.Statement.{statement}
 use Rattle.sheet.proofs.sheet.check_line.Tie as tie
-use Rattle.sheet.proofs.sheet.check_line.Reads as reads
-use Rattle.sheet.proofs.sheet.check_line.Lts as lts
-use Rattle.fields.proofs.children.is_name.Reads as is-name-reads
-use Rattle.judge.proofs.text.number_of.Reads as number-of-reads
-use Rattle.judge.proofs.text.same_bytes.Reads as same-bytes-reads
 
 returns : tie.Need-returns
 returns c =

@@ -9,10 +9,6 @@ use borrow.Author.Needs.{needs}
 use Rattle.sheet.proofs.sheet.load.Statement.{statement}
 use Rattle.sheet.proofs.sheet.load.Tie as tie
 use Rattle.sheet.proofs.sheet.load.Reads as reads
-use Rattle.sheet.proofs.sheet.load.Lts as lts
-use Rattle.fields.proofs.split.is_ended.Reads as is-ended-reads
-use Rattle.sheet.proofs.sheet.read_lines.Reads as read-lines-reads
-use Rattle.sheet.proofs.sheet.refused.Reads as refused-reads
 
 refused-requires : tie.Need-refused-requires
 refused-requires c κs = search needs

@@ -3,10 +3,6 @@ use Rattle.sheet.specs.Sheet.Laws.{entry-made}
 use borrow.Author.Needs.{needs}
 use Rattle.sheet.proofs.sheet.no_entry.Statement.{statement}
 use Rattle.sheet.proofs.sheet.no_entry.Tie as tie
-use Rattle.sheet.proofs.sheet.no_entry.Reads as reads
-use Rattle.sheet.proofs.sheet.no_entry.Lts as lts
-use Rattle.judge.proofs.text.read_model.Reads as read-model-reads
-use Rattle.sheet.proofs.sheet.no_place.Reads as no-place-reads
 
 slice-aggregate-read-model : tie.Need-slice-aggregate-read-model
 slice-aggregate-read-model c = search needs

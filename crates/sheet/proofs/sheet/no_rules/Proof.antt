@@ -3,10 +3,6 @@ use Rattle.sheet.specs.Sheet.Laws.{rules-made}
 use borrow.Author.Needs.{needs}
 use Rattle.sheet.proofs.sheet.no_rules.Statement.{statement}
 use Rattle.sheet.proofs.sheet.no_rules.Tie as tie
-use Rattle.sheet.proofs.sheet.no_rules.Reads as reads
-use Rattle.sheet.proofs.sheet.no_rules.Lts as lts
-use Rattle.sheet.proofs.sheet.no_entry.Reads as no-entry-reads
-use Rattle.sheet.proofs.sheet.no_kinds.Reads as no-kinds-reads
 
 no-entry-requires : tie.Need-no-entry-requires
 no-entry-requires c κs = search needs

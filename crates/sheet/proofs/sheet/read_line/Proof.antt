@@ -3,17 +3,11 @@ use mathlib.Core.Path.{sym, ap, _∙_}
 use Rattle.judge.specs.Reading.{reading, partsOf}
 use Rattle.fields.specs.Split.{part}
 use Rattle.sheet.specs.declared.sheet.SheetFault.the-variants.{Model}
-use Rattle.sheet.specs.Sheet.Laws.{LineIs, line-bad, line-read, line-model, part-size, line-sizes, third-model, line-kind, line-entry, is-bad}
+use Rattle.sheet.specs.Sheet.Laws.{line-bad, line-read, line-model, part-size, line-sizes, third-model, line-kind, line-entry, is-bad}
 use native.Mathlib.Omega.{arith}
 use borrow.Author.Needs.{needs}
 use Rattle.sheet.proofs.sheet.read_line.Statement.{statement}
 use Rattle.sheet.proofs.sheet.read_line.Tie as tie
-use Rattle.sheet.proofs.sheet.read_line.Reads as reads
-use Rattle.sheet.proofs.sheet.read_line.Lts as lts
-use Rattle.fields.proofs.split.first_fields.Reads as first-fields-reads
-use Rattle.judge.proofs.text.read_model.Reads as read-model-reads
-use Rattle.sheet.proofs.sheet.bad_line.Reads as bad-line-reads
-use Rattle.sheet.proofs.sheet.check_line.Reads as check-line-reads
 
 sub-line : tie.Need-sub-line
 sub-line c = search needs

@@ -1,6 +1,5 @@
 -- A walk over the lines: those passed are good and in their places.
-use mathlib.Core.Path.{_≡_, sym, ap, _∙_}
-use mathlib.Core.List.{[]}
+use mathlib.Core.Path.{sym, ap, _∙_}
 use Prim.Native.Nat.{_-_, _≤_}
 use lib.ListN.{length}
 use Rattle.fields.specs.Split.{lineFeed}
@@ -13,11 +12,6 @@ use native.Mathlib.Omega.{arith}
 use Rattle.sheet.proofs.sheet.read_lines.Statement.{statement}
 use Rattle.sheet.proofs.sheet.read_lines.Tie as tie
 use Rattle.sheet.proofs.sheet.read_lines.Reads as reads
-use Rattle.sheet.proofs.sheet.read_lines.Lts as lts
-use Rattle.fields.proofs.split.part_end.Reads as part-end-reads
-use Rattle.sheet.proofs.sheet.no_rules.Reads as no-rules-reads
-use Rattle.sheet.proofs.sheet.read_line.Reads as read-line-reads
-use Rattle.sheet.proofs.sheet.refused.Reads as refused-reads
 
 abbrev Inv-loop : tie.InvT-loop
 Inv-loop text kinds₀ entries₀ n₀ at₀ kinds entries n at = Gone text kinds entries n at × (length text ≤ maxFile)

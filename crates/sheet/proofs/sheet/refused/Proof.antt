@@ -3,9 +3,6 @@ use Rattle.sheet.specs.Sheet.Laws.{refused-made}
 use borrow.Author.Needs.{needs}
 use Rattle.sheet.proofs.sheet.refused.Statement.{statement}
 use Rattle.sheet.proofs.sheet.refused.Tie as tie
-use Rattle.sheet.proofs.sheet.refused.Reads as reads
-use Rattle.sheet.proofs.sheet.refused.Lts as lts
-use Rattle.sheet.proofs.sheet.no_rules.Reads as no-rules-reads
 
 no-rules-requires : tie.Need-no-rules-requires
 no-rules-requires c κs = search needs
