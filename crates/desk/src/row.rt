@@ -79,7 +79,7 @@ fn put(row: &mut [u16], at: usize, number: u16)
 }
 
 // How many children there are, their numbers among the n names going into the row; or what is wrong with them.
-pub fn read_row(
+pub(crate) fn read_row(
     model: &[u8],
     spots: &[u32; MAX_ATOMS],
     n: usize,

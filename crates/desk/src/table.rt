@@ -40,7 +40,7 @@ fn wide(number: u8) -> usize
 }
 
 // The hash of a text with one byte more.
-pub fn mix(hash: usize, byte: u8) -> usize
+pub(crate) fn mix(hash: usize, byte: u8) -> usize
     requires { ⌜ hash < slots ⌝ }
     ensures { λ r. ⌜ (r ≡ mixed hash byte) × (r < slots) ⌝ }
 {
@@ -60,7 +60,7 @@ fn hash(text: &[u8]) -> usize
 }
 
 // Links the n names at these spots: a slot has the number of the first name of that hash, or 0, and a name the number of the next one of its hash.
-pub fn link(
+pub(crate) fn link(
     model: &[u8],
     spots: &[u32; MAX_ATOMS],
     n: usize,
@@ -83,7 +83,7 @@ pub fn link(
 }
 
 // The number of a name by its hash: from 1, and 0 where it is none of the n names.
-pub fn find(
+pub(crate) fn find(
     model: &[u8],
     spots: &[u32; MAX_ATOMS],
     n: usize,
@@ -111,7 +111,7 @@ pub fn find(
 }
 
 // The spots of a model's names.
-pub fn spots_of(names: Names, spots: &mut [u32; MAX_ATOMS])
+pub(crate) fn spots_of(names: Names, spots: &mut [u32; MAX_ATOMS])
     requires { ⌜ (length (now spots) ≡ maxAtoms) × (names .len ≤ maxAtoms) ⌝ }
     ensures { λ r. ⌜ (length (now (spots .exit)) ≡ maxAtoms) × (take (names .len) (now (spots .exit)) ≡ map spotOf (take (names .len) (names .places))) ⌝ }
 {
