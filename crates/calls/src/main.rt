@@ -4,14 +4,14 @@
 ghost use mathlib.Core.Path.{_≡_};
 ghost use Rattle.judge.specs.Judge.{judgeNumber};
 use judge::fault::JudgeFault;
-use judge::rule::NameNumber;
-use judge::rule::Rule;
-use judge::session::FREE;
-use judge::session::Outcome;
-use judge::session::Session;
+use model::rule::NameNumber;
+use model::rule::Rule;
+use sessions::session::FREE;
+use sessions::session::Outcome;
+use sessions::session::Session;
 use judge::text::read_model;
 use judge::verdict::Judged;
-use judge::verdict::Verdict;
+use model::verdict::Verdict;
 use libc::STDOUT_FILENO;
 
 fn text(bytes: &[u8]) {

@@ -5,10 +5,10 @@ use mathlib.Core.List.{List, [], _∷_}
 use Prim.Native.Nat.{ℕ, zero, suc, _+_, _-_}
 use lib.Dec.{T}
 use lib.ListN.{length, take, drop, getD}
-use Rattle.judge.specs.Bytes.{Text}
-use Rattle.judge.specs.Syntax.{Syntax, names, numberIn}
-use Rattle.judge.specs.Fault.{nameAt, nameFrom}
-use Rattle.judge.specs.Fault.Ties.{places}
+use Rattle.fields.specs.Bytes.{Text}
+use Rattle.model.specs.Syntax.{Syntax, names, numberIn}
+use Rattle.model.specs.Fault.{nameAt, nameFrom}
+use Rattle.model.specs.Fault.Ties.{places}
 use Rattle.desk.specs.declared.child.Located.{Located}
 use Rattle.desk.specs.declared.child.Located.the-variants.{InModel, InChildren, NoModel, NoChildren}
 use Rattle.desk.specs.Desk.{childrenIn, child, Reply, noModel, noChildren, good, replyNumber, Replies, reply}

@@ -7,22 +7,23 @@ use mathlib.Core.List.{List, [], _∷_}
 use Prim.Native.Nat.{ℕ, _≤_, _<_}
 use lib.Dec.{leb, ltb}
 use lib.ListN.{length}
-use Rattle.judge.specs.declared.fault.ModelFault.{ModelFault}
-use Rattle.judge.specs.declared.verdict.Verdict.{Verdict}
-use Rattle.judge.specs.declared.verdict.Verdict.the-variants.{Complete, Open, Dead}
-use Rattle.judge.specs.Word.{Word}
-use Rattle.judge.specs.Verdict.{Says}
-use Rattle.judge.specs.Verdict.Laws.{verdict}
-use Rattle.judge.specs.Bytes.{Text}
-use Rattle.judge.specs.Syntax.{Syntax, names}
-use Rattle.judge.specs.Fault.{modelNumber, Answer, Answers, refused, accepted}
-use Rattle.judge.specs.Fault.Answered.{answer}
-use Rattle.judge.specs.Model.{modelOf, typeOf}
-use Rattle.judge.specs.Limits.{maxRow}
+use Rattle.model.specs.declared.fault.ModelFault.{ModelFault}
+use Rattle.model.specs.declared.verdict.Verdict.{Verdict}
+use Rattle.model.specs.declared.verdict.Verdict.the-variants.{Complete, Open, Dead}
+use Rattle.model.specs.Word.{Word}
+use Rattle.model.specs.Verdict.{Says}
+use Rattle.model.specs.Verdict.Laws.{verdict}
+use Rattle.fields.specs.Bytes.{Text}
+use Rattle.model.specs.Syntax.{Syntax, names}
+use Rattle.model.specs.Fault.{modelNumber, Answer, Answers, refused, accepted}
+use Rattle.model.specs.Fault.Answered.{answer}
+use Rattle.model.specs.Model.{modelOf, typeOf}
+use Rattle.fields.specs.Limits.{maxRow}
 use Rattle.fields.specs.declared.fault.CueFault.{CueFault}
 use Rattle.fields.specs.declared.fault.CueFault.the-variants.{LongFile, Unended, BadFields, BadNumber, NotAbove, NoName, ManyChildren, NoChild}
 use Rattle.fields.specs.Split.{tab, split}
-use Rattle.fields.specs.Children.{cueNumber, allNames, rowOf}
+use Rattle.fields.specs.Children.{cueNumber, allNames}
+use Rattle.judge.specs.Named.{rowOf}
 
 -- no bytes, no children
 abbrev pub childrenIn : Text → List Text

@@ -2,8 +2,8 @@
 use mathlib.Core.Path.{_≡_}
 use mathlib.Core.Logic.{_↔_}
 use Prim.Native.Nat.{ℕ}
-use Rattle.judge.specs.declared.verdict.Verdict.{Verdict}
-use Rattle.judge.specs.Bytes.{Text}
+use Rattle.model.specs.declared.verdict.Verdict.{Verdict}
+use Rattle.fields.specs.Bytes.{Text}
 use Rattle.desk.specs.Desk.{Reply, replyNumber, verdictNumber, DeskJudges, deskAnswer}
 use Rattle.desk.specs.Desk.Laws.{answer-exactly}
 use Rattle.desk.specs.Child.{Part, Finds, found}

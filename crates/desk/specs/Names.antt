@@ -6,11 +6,11 @@ use native.Mathlib.Omega.{arith}
 use lib.Dec.{T}
 use lib.ListN.{length, getD, length-map}
 use lib.Seq.{take-at}
-use Rattle.judge.specs.Bytes.{Text}
-use Rattle.judge.specs.Bytes.Laws.{front-take}
-use Rattle.judge.specs.Syntax.{Syntax, names}
-use Rattle.judge.specs.Fault.{nameAt, nameFrom, Answers, accepted}
-use Rattle.judge.specs.Fault.Ties.{places, in-places}
+use Rattle.fields.specs.Bytes.{Text}
+use Rattle.fields.specs.Bytes.Laws.{front-take}
+use Rattle.model.specs.Syntax.{Syntax, names}
+use Rattle.model.specs.Fault.{nameAt, nameFrom, Answers, accepted}
+use Rattle.model.specs.Fault.Ties.{places, in-places}
 use Rattle.judge.specs.Reading.{namePlace, partAt}
 use Rattle.judge.specs.Reading.Laws.{names-are}
 use Rattle.judge.specs.Reading.Search.{in-list}

@@ -6,12 +6,13 @@ use mathlib.Core.List.{List, []}
 use Prim.Native.Nat.{ℕ, _-_, _≤_}
 use lib.Dec.{leb, ltb, eqb}
 use lib.ListN.{length, take, drop, getD}
-use Rattle.judge.specs.Bytes.{Text, isLetter, front}
-use Rattle.judge.specs.Limits.{maxName}
+use Rattle.fields.specs.Bytes.{Text, isLetter, front}
+use Rattle.fields.specs.Limits.{maxName}
 use Rattle.fields.specs.declared.children.Children.{Children}
 use Rattle.fields.specs.declared.children.Children.the-variants.{Count, Refused}
 use Rattle.fields.specs.Split.{tab, split, other, partEnd}
-use Rattle.fields.specs.Children.{shortName, allNames, childrenOf, rowOf}
+use Rattle.fields.specs.Children.{shortName, allNames, childrenOf}
+use Rattle.judge.specs.Named.{rowOf}
 use Rattle.desk.specs.declared.row.Child.{Child}
 use Rattle.desk.specs.Table.{hashOf}
 

@@ -10,45 +10,46 @@ use lib.Dec.{leb, eqb}
 use lib.ListN.{length, take, getD, length-map, length-take, length-append, length-replicate, List·getD-append}
 use lib.Seq.{getD-take}
 use borrow.Author.Tests.{leb-true, le-leb, le-ltb, lt-ltb}
-use Rattle.judge.specs.Tests.{by-test}
-use Rattle.judge.specs.declared.fault.ModelFault.{ModelFault}
-use Rattle.judge.specs.declared.fault.ModelFault.the-variants.{Size}
-use Rattle.judge.specs.declared.rule.Rule.{Rule}
+use Rattle.fields.specs.Tests.{by-test}
+use Rattle.model.specs.declared.fault.ModelFault.{ModelFault}
+use Rattle.model.specs.declared.fault.ModelFault.the-variants.{Size}
+use Rattle.model.specs.declared.rule.Rule.{Rule}
 use Rattle.judge.specs.declared.text.NamePlace.{NamePlace}
 use Rattle.judge.specs.declared.text.Names.{Names}
 use Rattle.judge.specs.declared.text.Outcome.the-variants.{Read, Refused as Unread}
 use Rattle.judge.specs.declared.text.Reading.{Reading}
 use Rattle.judge.specs.declared.fault.JudgeFault.{JudgeFault}
-use Rattle.judge.specs.declared.verdict.Verdict.{Verdict as Said}
+use Rattle.model.specs.declared.verdict.Verdict.{Verdict as Said}
 use Rattle.judge.specs.declared.verdict.Judged.{Judged}
 use Rattle.judge.specs.declared.verdict.Judged.the-variants.{Verdict, Refused as NotJudged}
-use Rattle.judge.specs.Word.{Word}
-use Rattle.judge.specs.Verdict.Laws.{verdict}
-use Rattle.judge.specs.Bytes.{Text, sameText}
-use Rattle.judge.specs.Tree.{leaves, atoms}
-use Rattle.judge.specs.Tree.Leaves.{length-leaves}
-use Rattle.judge.specs.Tree.Map.{weight-map}
-use Rattle.judge.specs.Syntax.{Syntax, names, numberFrom, numberIn}
-use Rattle.judge.specs.Fault.{modelNumber, Answer, Answers, refused, accepted}
-use Rattle.judge.specs.Fault.Answered.{answer, answered, name-inside}
-use Rattle.judge.specs.Fault.Ties.{places}
-use Rattle.judge.specs.Accept.Laws.{accepted-within}
-use Rattle.judge.specs.Model.{countsOf, modelOf}
-use Rattle.judge.specs.Rule.{ruleOf, names as ruleNames}
-use Rattle.judge.specs.Rule.Names.{names-model}
-use Rattle.judge.specs.Rule.Decide.{readable, readable-is, ruleType, rule-type}
+use Rattle.model.specs.Word.{Word}
+use Rattle.model.specs.Verdict.Laws.{verdict}
+use Rattle.fields.specs.Bytes.{Text, sameText}
+use Rattle.model.specs.Tree.{leaves, atoms}
+use Rattle.model.specs.Tree.Leaves.{length-leaves}
+use Rattle.model.specs.Tree.Map.{weight-map}
+use Rattle.model.specs.Syntax.{Syntax, names, numberFrom, numberIn}
+use Rattle.model.specs.Fault.{modelNumber, Answer, Answers, refused, accepted}
+use Rattle.model.specs.Fault.Answered.{answer, answered, name-inside}
+use Rattle.model.specs.Fault.Ties.{places}
+use Rattle.model.specs.Accept.Laws.{accepted-within}
+use Rattle.model.specs.Model.{countsOf, modelOf}
+use Rattle.model.specs.Rule.{ruleOf, names as ruleNames}
+use Rattle.model.specs.Rule.Names.{names-model}
+use Rattle.model.specs.Rule.Decide.{readable, readable-is, ruleType, rule-type}
 use Rattle.judge.specs.Judge.Laws.{upto, judged}
 use Rattle.judge.specs.Reading.{namePlace, noPlace, namesOf, refusal, readingBy, reading, partAt, partsOf}
 use Rattle.judge.specs.Reading.Laws.{names-are}
 use Rattle.judge.specs.Reading.Search.{name-fits}
-use Rattle.judge.specs.Limits.{maxAtoms, maxRow, maxText}
+use Rattle.fields.specs.Limits.{maxAtoms, maxRow, maxText}
 use Rattle.fields.specs.declared.fault.CueFault.{CueFault}
 use Rattle.fields.specs.declared.fault.CueFault.the-variants.{NoName, ManyChildren}
 use Rattle.fields.specs.declared.children.Children.{Children}
 use Rattle.fields.specs.declared.children.Children.the-variants.{Count, Refused}
 use Rattle.fields.specs.Split.{tab, split, times}
 use Rattle.fields.specs.Split.Laws.{split-count}
-use Rattle.fields.specs.Children.{cueNumber, allNames, childrenOf, rowOf}
+use Rattle.fields.specs.Children.{cueNumber, allNames, childrenOf}
+use Rattle.judge.specs.Named.{rowOf}
 use Rattle.desk.specs.Names.{mapped-at, names-many, begins-at}
 use Rattle.desk.specs.Table.{spotOf, spotPart, spotParts, Spots}
 use Rattle.desk.specs.Row.{Filled, RowRead}

@@ -7,8 +7,8 @@ use Prim.Native.Nat.{ℕ, suc, _+_, _*_, _/_, _%_, _≤_, _<_}
 use lib.Dec.{eqb}
 use lib.ListN.{length, take, drop, getD}
 use Rattle.judge.specs.declared.text.NamePlace.{NamePlace}
-use Rattle.judge.specs.Bytes.{Text}
-use Rattle.judge.specs.Limits.{maxAtoms}
+use Rattle.fields.specs.Bytes.{Text}
+use Rattle.fields.specs.Limits.{maxAtoms}
 
 -- where a name stands, in one number
 abbrev pub spotOf : NamePlace → ℕ

@@ -3,10 +3,10 @@
 ghost use mathlib.Core.Path.{_≡_};
 ghost use Prim.Native.Nat.{_≤_, _<_, min};
 ghost use lib.ListN.{length};
-ghost use Rattle.judge.specs.Fault.{modelNumber};
-ghost use Rattle.judge.specs.Limits.{maxRow};
-ghost use Rattle.judge.specs.Rule.Decide.{ruleType};
-ghost use Rattle.judge.specs.Verdict.Laws.{verdict};
+ghost use Rattle.model.specs.Fault.{modelNumber};
+ghost use Rattle.fields.specs.Limits.{maxRow};
+ghost use Rattle.model.specs.Rule.Decide.{ruleType};
+ghost use Rattle.model.specs.Verdict.Laws.{verdict};
 ghost use Rattle.fields.specs.Split.{tab, split};
 ghost use Rattle.fields.specs.Children.{cueNumber};
 ghost use Rattle.desk.specs.Desk.{maxChildrenText, verdictNumber, deskAnswer};
@@ -18,15 +18,15 @@ use crate::table::spots_of;
 use fields::children::Children;
 use fields::children::MAX_ROW;
 use fields::fault::CueFault;
-use judge::fault::ModelFault;
+use model::fault::ModelFault;
 use judge::row::judge_row;
-use judge::rule::MAX_ATOMS;
-use judge::rule::Rule;
+use model::rule::MAX_ATOMS;
+use model::rule::Rule;
 use judge::text::Names;
 use judge::text::Outcome;
 use judge::text::read_model;
 use judge::verdict::Judged;
-use judge::verdict::Verdict;
+use model::verdict::Verdict;
 
 pub const MAX_CHILDREN_TEXT: usize = 65535;
 

@@ -15,7 +15,7 @@ use fields::children::count_children;
 use fields::fault::CueFault;
 use fields::split::TAB;
 use fields::split::part_end;
-use judge::fault::ModelFault;
+use model::fault::ModelFault;
 use judge::text::Names;
 use judge::text::Outcome;
 use judge::text::number_of;

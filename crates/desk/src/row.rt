@@ -3,7 +3,7 @@
 ghost use mathlib.Core.Path.{_≡_};
 ghost use Prim.Native.Nat.{_≤_, _<_, min};
 ghost use lib.ListN.{length, set};
-ghost use Rattle.judge.specs.Limits.{maxRow};
+ghost use Rattle.fields.specs.Limits.{maxRow};
 ghost use Rattle.fields.specs.Split.{tab, split};
 ghost use Rattle.desk.specs.Desk.{maxChildrenText};
 ghost use Rattle.desk.specs.Table.{spotParts, Spots, Table};
@@ -16,9 +16,9 @@ use fields::children::MAX_NAME;
 use fields::children::MAX_ROW;
 use fields::fault::CueFault;
 use fields::split::TAB;
-use judge::rule::MAX_ATOMS;
-use judge::text::is_inner;
-use judge::text::is_letter;
+use model::rule::MAX_ATOMS;
+use fields::bytes::is_inner;
+use fields::bytes::is_letter;
 
 // Where a child ends, the hash of its bytes, and whether it is a name of 1 to 32 characters.
 pub struct Child {

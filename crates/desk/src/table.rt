@@ -4,13 +4,13 @@ ghost use mathlib.Core.Path.{_≡_};
 ghost use mathlib.Core.List.{map};
 ghost use Prim.Native.Nat.{_/_, _%_, _≤_, _<_};
 ghost use lib.ListN.{length, replicate, take};
-ghost use Rattle.judge.specs.Limits.{maxAtoms};
-ghost use Rattle.judge.specs.Syntax.{numberIn};
+ghost use Rattle.fields.specs.Limits.{maxAtoms};
+ghost use Rattle.model.specs.Syntax.{numberIn};
 ghost use Rattle.desk.specs.Table.{spotOf, spotParts, Spots, hashOf, mixed, slots, Table};
-use judge::rule::MAX_ATOMS;
+use model::rule::MAX_ATOMS;
 use judge::text::NamePlace;
 use judge::text::Names;
-use judge::text::same_bytes;
+use fields::bytes::same_bytes;
 
 pub const SLOTS: usize = 128;
 

@@ -8,8 +8,8 @@ use native.Mathlib.Numerals.{add-one}
 use lib.Dec.{ltb}
 use lib.ListN.{length, drop, getD}
 use borrow.Author.Tests.{ltb-true, ltb-false, lt-ltb, le-ltb}
-use Rattle.judge.specs.Tests.{by-test}
-use Rattle.judge.specs.Bytes.{Text}
+use Rattle.fields.specs.Tests.{by-test}
+use Rattle.fields.specs.Bytes.{Text}
 use Rattle.fields.specs.declared.split.Heads.{Heads}
 use Rattle.fields.specs.Split.{tab, split, fields, field, part, partEnd, more}
 use Rattle.fields.specs.Split.Laws.{part-at, end-within, end-bounds}

@@ -3,7 +3,7 @@
 ghost use mathlib.Core.Path.{_≡_};
 ghost use mathlib.Core.Bool.{not};
 ghost use mathlib.Core.List.{[]};
-ghost use Rattle.judge.specs.Bytes.{sameText};
+ghost use Rattle.fields.specs.Bytes.{sameText};
 ghost use Rattle.fields.specs.Split.{tab, behind, partEnd, times};
 ghost use Rattle.fields.specs.Heads.{fieldBehind, headsOf};
 

@@ -19,23 +19,23 @@ pub mod Laws
 use mathlib.Core.List.{List, [], _++_, map}
 use Prim.Native.Nat.{ℕ, _-_}
 use lib.ListN.{length, replicate, take, drop}
-use Rattle.judge.specs.declared.fault.ModelFault.{ModelFault}
-use Rattle.judge.specs.declared.rule.Sign.the-variants.{None}
-use Rattle.judge.specs.declared.rule.Mark.the-variants.{Plain}
-use Rattle.judge.specs.declared.rule.Node.{Node as RuleNode}
-use Rattle.judge.specs.declared.rule.Rule.{Rule}
+use Rattle.model.specs.declared.fault.ModelFault.{ModelFault}
+use Rattle.model.specs.declared.rule.Sign.the-variants.{None}
+use Rattle.model.specs.declared.rule.Mark.the-variants.{Plain}
+use Rattle.model.specs.declared.rule.Node.{Node as RuleNode}
+use Rattle.model.specs.declared.rule.Rule.{Rule}
 use Rattle.judge.specs.declared.text.NamePlace.{NamePlace}
 use Rattle.judge.specs.declared.text.Names.{Names}
 use Rattle.judge.specs.declared.text.Outcome.the-variants.{Read, Refused}
 use Rattle.judge.specs.declared.text.Reading.{Reading}
-use Rattle.judge.specs.Bytes.{Text}
-use Rattle.judge.specs.Tree.{group, marked, none}
-use Rattle.judge.specs.Fault.{nameFrom, Answer, refused, accepted}
-use Rattle.judge.specs.Fault.Answered.{answer}
-use Rattle.judge.specs.Fault.Ties.{places}
-use Rattle.judge.specs.Model.{modelOf}
-use Rattle.judge.specs.Rule.{unused, ruleOf}
-use Rattle.judge.specs.Limits.{maxAtoms, maxNodes}
+use Rattle.fields.specs.Bytes.{Text}
+use Rattle.model.specs.Tree.{group, marked, none}
+use Rattle.model.specs.Fault.{nameFrom, Answer, refused, accepted}
+use Rattle.model.specs.Fault.Answered.{answer}
+use Rattle.model.specs.Fault.Ties.{places}
+use Rattle.model.specs.Model.{modelOf}
+use Rattle.model.specs.Rule.{unused, ruleOf}
+use Rattle.fields.specs.Limits.{maxAtoms, maxNodes}
 
 abbrev pub namePlace : Text → ℕ → NamePlace
 namePlace x p = record { start = p; len = length (nameFrom x p) }

@@ -1,10 +1,7 @@
-// The judge: rules, and what they say of rows.
+// The judge: model texts, and what they say of rows.
 
-mod check;
+pub mod named;
 pub mod fault;
-pub mod nodes;
 pub mod row;
-pub mod rule;
-pub mod session;
 pub mod text;
 pub mod verdict;

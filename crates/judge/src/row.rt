@@ -6,34 +6,33 @@ ghost use lib.Dec.{eqb};
 ghost use mathlib.Core.List.{[]};
 ghost use Prim.Native.Nat.{_+_, _≤_, _<_, max, min};
 ghost use lib.ListN.{length, getD};
-ghost use Rattle.judge.specs.Limits.{maxAtoms, maxNodes, maxRow};
-ghost use Rattle.judge.specs.Types.Decide.{under, joined, begun};
-ghost use Rattle.judge.specs.Types.Attribute.{emptyAttribute, atomAttribute, pairAttribute, countedAttribute, markedAttribute};
-ghost use Rattle.judge.specs.Model.{operator};
-ghost use Rattle.judge.specs.Rule.{names};
+ghost use Rattle.fields.specs.Limits.{maxAtoms, maxNodes, maxRow};
+ghost use Rattle.model.specs.Types.Decide.{under, joined, begun};
+ghost use Rattle.judge.specs.Judge.Attribute.{emptyAttribute, atomAttribute, pairAttribute, countedAttribute, markedAttribute};
+ghost use Rattle.model.specs.Model.{operator};
+ghost use Rattle.model.specs.Rule.{names};
 ghost use Rattle.judge.specs.Judge.Tally.{unseen, noting, Tallied};
 ghost use Rattle.judge.specs.Judge.Root.{partAttribute, grownAttribute, rootAttribute};
-ghost use Rattle.judge.specs.Verdict.Laws.{verdictOf, verdict};
-ghost use Rattle.judge.specs.Rule.Decide.{readable, ruleType};
+ghost use Rattle.model.specs.Verdict.Laws.{verdictOf, verdict};
+ghost use Rattle.model.specs.Rule.Decide.{readable, ruleType};
 ghost use Rattle.judge.specs.Judge.Laws.{upto, judged};
 ghost use Rattle.judge.specs.Judge.Pass.{seenVerdict};
-use crate::check::atoms_of;
-use crate::check::members_of;
-use crate::check::name_count;
-use crate::check::smaller;
-use crate::check::well_formed;
+use model::check::atoms_of;
+use model::check::members_of;
+use model::nodes::names;
+use fields::limits::lesser;
+use model::check::is_readable;
 use crate::fault::JudgeFault;
-use crate::rule::Kind;
-use crate::rule::MAX_ATOMS;
-use crate::rule::MAX_NODES;
-use crate::rule::Mark;
-use crate::rule::Rule;
-use crate::rule::Sign;
-use crate::rule::Upper;
+use fields::limits::MAX_ROW;
+use model::rule::Kind;
+use model::rule::MAX_ATOMS;
+use model::rule::MAX_NODES;
+use model::rule::Mark;
+use model::rule::Rule;
+use model::rule::Sign;
+use model::rule::Upper;
 use crate::verdict::Judged;
-use crate::verdict::Verdict;
-
-pub const MAX_ROW: usize = 4096;
+use model::verdict::Verdict;
 
 // How often a name stands in the row, its first place or the row's length, and one past its last place or 0.
 pub struct Seen {
@@ -251,14 +250,14 @@ fn root(rule: Rule, length: u16, seen: [Seen; MAX_ATOMS + 1]) -> Attribute
     let none = empty(length);
     let mut stack = [none; MAX_NODES];
     let mut top = MAX_NODES;
-    let mut name = name_count(rule);
+    let mut name = names(rule);
     let mut i = rule.len;
     while 0 < i {
         i -= 1;
         let node = rule.nodes[i];
         let kind = node.kind;
         let mark = node.mark;
-        let end = smaller(members_of(kind), MAX_NODES - top) + top;
+        let end = lesser(members_of(kind), MAX_NODES - top) + top;
         let here = seen[name];
         let mut x = begin(length, kind, here);
         let mut at = top;
@@ -306,7 +305,7 @@ pub(crate) fn verdict_by(rule: Rule, row: &[u16]) -> Verdict
     requires { ⌜ (readable rule ≡ true) × (length (now row) ≤ maxRow) × (upto (names rule) (now row) ≡ true) ⌝ }
     ensures { λ r. ⌜ r ≡ verdict (ruleType rule) (now (row .entry)) ⌝ }
 {
-    let tally = tally_row(row, name_count(rule));
+    let tally = tally_row(row, names(rule));
     let seen = tally.seen;
     verdict_seen(rule, row.len() as u16, seen)
 }
@@ -315,10 +314,10 @@ pub(crate) fn verdict_by(rule: Rule, row: &[u16]) -> Verdict
 pub fn judge_row(rule: Rule, row: &[u16]) -> Judged
     ensures { λ r. ⌜ r ≡ judged rule (now (row .entry)) ⌝ }
 {
-    let good = well_formed(rule);
+    let good = is_readable(rule);
     if good {
         if row.len() <= MAX_ROW {
-            let tally = tally_row(row, name_count(rule));
+            let tally = tally_row(row, names(rule));
             if tally.named {
                 let seen = tally.seen;
                 return Judged::Verdict(verdict_seen(rule, row.len() as u16, seen));

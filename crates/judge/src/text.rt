@@ -6,33 +6,37 @@ ghost use mathlib.Core.List.{[], _∷_, map, tail};
 ghost use Prim.Native.Nat.{_+_, _*_, _-_, _≤_, _<_, min};
 ghost use lib.Dec.{T};
 ghost use lib.ListN.{length, take, getD};
-ghost use Rattle.judge.specs.Bytes.{isLetter, isDigit, isInner, sameText};
-ghost use Rattle.judge.specs.Fault.{is, nameFrom};
-ghost use Rattle.judge.specs.Fault.Ties.{capped, places};
-ghost use Rattle.judge.specs.declared.rule.Kind.the-variants.{Atom, Group};
+ghost use Rattle.fields.specs.Bytes.{isLetter};
+ghost use Rattle.model.specs.Fault.{is, nameFrom};
+ghost use Rattle.model.specs.Fault.Ties.{capped, places};
+ghost use Rattle.model.specs.declared.rule.Kind.the-variants.{Atom, Group};
 ghost use Rattle.judge.specs.Reading.{ruleWith, namesWith, refusal, reading, partsOf};
 ghost use Rattle.judge.specs.Reading.Packed.{word, nodeOf, plain, optional, isSign, signBy, kindBy, markBy, placeOf};
 ghost use Rattle.judge.specs.Reading.Search.{among, Comparable};
-ghost use Rattle.judge.specs.Rule.{unused};
-ghost use Rattle.judge.specs.Syntax.{numberIn};
-ghost use Rattle.judge.specs.Syntax.Machine.{here};
+ghost use Rattle.model.specs.Rule.{unused};
+ghost use Rattle.model.specs.Syntax.{numberIn};
+ghost use Rattle.model.specs.Syntax.Machine.{here};
 ghost use Rattle.judge.specs.Reading.Walk.{Marking, joins, stackOf, Expecting, Ready, Inside, Member, GroupRead};
 ghost use Rattle.judge.specs.Reading.Atom.{NameRead, AtomRead};
 ghost use Rattle.judge.specs.Reading.Lexeme.{numeralAt, countAt, onwardAt, betweenAt};
-use crate::fault::ModelFault;
-use crate::rule::Kind;
-use crate::rule::MAX_ATOMS;
-use crate::rule::MAX_NODES;
-use crate::rule::Mark;
-use crate::rule::NameNumber;
-use crate::rule::Node;
-use crate::rule::Rule;
-use crate::rule::Sign;
-use crate::rule::Upper;
+use fields::bytes::is_digit;
+use fields::bytes::is_inner;
+use fields::bytes::is_letter;
+use fields::bytes::same_bytes;
+use fields::limits::MAX_NAME;
+use fields::limits::lesser;
+use model::fault::ModelFault;
+use model::rule::Kind;
+use model::rule::MAX_ATOMS;
+use model::rule::MAX_NODES;
+use model::rule::Mark;
+use model::rule::NameNumber;
+use model::rule::Node;
+use model::rule::Rule;
+use model::rule::Sign;
+use model::rule::Upper;
 
 pub const MAX_TEXT: usize = 4096;
-
-pub const MAX_NAME: usize = 32;
 
 pub const MAX_COUNT: u32 = 60000;
 
@@ -85,24 +89,6 @@ enum Counted {
     Counts(u16, Upper, usize),
     Bad(usize),
     Wrong(usize),
-}
-
-pub fn is_letter(b: u8) -> bool
-    ensures { λ r. ⌜ r ≡ isLetter b ⌝ }
-{
-    (b'a' <= b) & (b <= b'z')
-}
-
-pub fn is_digit(b: u8) -> bool
-    ensures { λ r. ⌜ r ≡ isDigit b ⌝ }
-{
-    (b'0' <= b) & (b <= b'9')
-}
-
-pub fn is_inner(b: u8) -> bool
-    ensures { λ r. ⌜ r ≡ isInner b ⌝ }
-{
-    is_letter(b) | is_digit(b) | (b == b'-')
 }
 
 // Is the byte at `at` there, and is it b?
@@ -319,22 +305,6 @@ fn unpacked(word: u64) -> Node
         ),
         mark: mark_of(word / 128 % 2),
     }
-}
-
-pub fn same_bytes(a: &[u8], b: &[u8]) -> bool
-    ensures { λ r. ⌜ r ≡ sameText (now (a .entry)) (now (b .entry)) ⌝ }
-{
-    if a.len() != b.len() {
-        return false;
-    }
-    let mut i: usize = 0;
-    while i < a.len() {
-        if a[i] != b[i] {
-            return false;
-        }
-        i += 1;
-    }
-    true
 }
 
 // Is the name from start to end among the first n names?
@@ -630,12 +600,6 @@ pub fn read_model(text: &[u8]) -> Reading
         }
         Got::Fault(f, p) => refused(f, p),
     }
-}
-
-fn lesser(a: usize, b: usize) -> usize
-    ensures { λ r. ⌜ r ≡ min a b ⌝ }
-{
-    if a < b { a } else { b }
 }
 
 // The number of a name: from 1, of the first place whose part of the text is that name; 0 where there is none.

@@ -1,13 +1,7 @@
-// What is said of a row.
+// What a judged row is answered.
 
 use crate::fault::JudgeFault;
-
-// It is in the model; it is not, but some longer row that begins with it is; neither.
-pub enum Verdict {
-    Complete,
-    Open,
-    Dead,
-}
+use model::verdict::Verdict;
 
 pub enum Judged {
     Verdict(Verdict),

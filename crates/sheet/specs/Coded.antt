@@ -6,9 +6,9 @@ use mathlib.Core.List.{List, [], _∷_, _++_}
 use Prim.Native.Nat.{ℕ, suc, _+_, _≤_, _<_}
 use lib.Dec.{T, eqb}
 use lib.ListN.{length, getD}
-use Rattle.judge.specs.Bytes.{Text}
-use Rattle.judge.specs.Word.{Word}
-use Rattle.judge.specs.Limits.{maxRow}
+use Rattle.fields.specs.Bytes.{Text}
+use Rattle.model.specs.Word.{Word}
+use Rattle.fields.specs.Limits.{maxRow}
 use Rattle.judge.specs.Reading.{reading, partAt}
 use Rattle.fields.specs.Split.{lines, behind}
 use Rattle.fields.specs.Children.{allNames}

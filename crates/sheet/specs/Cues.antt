@@ -7,8 +7,8 @@ use Prim.Native.Nat.{ℕ, suc}
 use Prim.Native.Char.{code}
 use lib.Dec.{leb, ltb, eqb}
 use lib.ListN.{length, drop, getD}
-use Rattle.judge.specs.Bytes.{Text, bytes, isDigit, all, value, sameText}
-use Rattle.judge.specs.Limits.{maxRow}
+use Rattle.fields.specs.Bytes.{Text, bytes, isDigit, all, value, sameText}
+use Rattle.fields.specs.Limits.{maxRow}
 use Rattle.fields.specs.declared.fault.CueFault.{CueFault}
 use Rattle.fields.specs.declared.fault.CueFault.the-variants.{LongFile, Unended, BadFields, BadNumber, NotAbove, NoName, ManyChildren}
 use Rattle.fields.specs.Split.{lines, behind, fields, field}

@@ -4,30 +4,30 @@ use mathlib.Core.List.{List, [], _∷_, map}
 use Prim.Native.Nat.{ℕ, zero, suc, _+_, _≤_, _<_}
 use native.Mathlib.Omega.{arith}
 use lib.ListN.{length, getD, length-map, List·getD-map}
-use Rattle.judge.specs.declared.verdict.Verdict.{Verdict}
-use Rattle.judge.specs.declared.verdict.Verdict.the-variants.{Complete as IsComplete, Open as IsOpen, Dead as IsDead}
+use Rattle.model.specs.declared.verdict.Verdict.{Verdict}
+use Rattle.model.specs.declared.verdict.Verdict.the-variants.{Complete as IsComplete, Open as IsOpen, Dead as IsDead}
 use Rattle.judge.specs.declared.verdict.Judged.the-variants.{Verdict as Says-so}
-use Rattle.judge.specs.Tests.{by-test}
-use Rattle.judge.specs.Bytes.{Text, sameText}
-use Rattle.judge.specs.Bytes.Laws.{same-text}
-use Rattle.judge.specs.Syntax.{Syntax, names, numberFrom, numberIn}
-use Rattle.judge.specs.Fault.{Answers, accepted}
-use Rattle.judge.specs.Fault.Answered.{answered}
-use Rattle.judge.specs.Syntax.{Spelling}
-use Rattle.judge.specs.Tree.{leaves}
-use Rattle.judge.specs.Tree.Leaves.{length-leaves}
-use Rattle.judge.specs.Tree.Map.{weight-map}
-use Rattle.judge.specs.Rule.Names.{names-model}
-use Rattle.judge.specs.Model.{countsOf, modelOf, typeOf}
-use Rattle.judge.specs.Rule.{Means, ruleOf}
-use Rattle.judge.specs.Rule.{names as ruleNames}
+use Rattle.fields.specs.Tests.{by-test}
+use Rattle.fields.specs.Bytes.{Text, sameText}
+use Rattle.fields.specs.Bytes.Laws.{same-text}
+use Rattle.model.specs.Syntax.{Syntax, names, numberFrom, numberIn}
+use Rattle.model.specs.Fault.{Answers, accepted}
+use Rattle.model.specs.Fault.Answered.{answered}
+use Rattle.model.specs.Syntax.{Spelling}
+use Rattle.model.specs.Tree.{leaves}
+use Rattle.model.specs.Tree.Leaves.{length-leaves}
+use Rattle.model.specs.Tree.Map.{weight-map}
+use Rattle.model.specs.Rule.Names.{names-model}
+use Rattle.model.specs.Model.{countsOf, modelOf, typeOf}
+use Rattle.model.specs.Rule.{Means, ruleOf}
+use Rattle.model.specs.Rule.{names as ruleNames}
 use Rattle.judge.specs.Judge.{Upto}
-use Rattle.judge.specs.Verdict.{Says}
-use Rattle.judge.specs.Limits.{maxRow}
+use Rattle.model.specs.Verdict.{Says}
+use Rattle.fields.specs.Limits.{maxRow}
 use Rattle.judge.specs.Reading.Laws.{accepted-reading, names-are}
-use Rattle.judge.specs.Ends.{some-verdict, type-conflict-free, verdict-exactly}
+use Rattle.model.specs.Ends.{some-verdict, type-conflict-free, verdict-exactly}
 use Rattle.fields.specs.Split.{lines, field}
-use Rattle.fields.specs.Children.{rowOf}
+use Rattle.judge.specs.Named.{rowOf}
 use Rattle.sheet.specs.declared.line.Said.{Said}
 use Rattle.sheet.specs.declared.line.Said.the-variants.{Complete, Open, Dead, NoSheet}
 use Rattle.sheet.specs.declared.sheet.SheetOutcome.the-variants.{Read}

@@ -5,16 +5,17 @@ use mathlib.Core.List.{List, [], _∷_, _++_, map}
 use Prim.Native.Nat.{ℕ, zero, suc}
 use lib.Dec.{leb}
 use lib.ListN.{length, drop, getD}
-use Rattle.judge.specs.declared.verdict.Verdict.the-variants.{Complete as IsComplete, Open as IsOpen, Dead as IsDead}
+use Rattle.model.specs.declared.verdict.Verdict.the-variants.{Complete as IsComplete, Open as IsOpen, Dead as IsDead}
 use Rattle.judge.specs.declared.verdict.Judged.{Judged}
 use Rattle.judge.specs.declared.verdict.Judged.the-variants.{Verdict, Refused as RowRefused}
-use Rattle.judge.specs.Bytes.{Text, bytes}
-use Rattle.judge.specs.Bytes.Numeral.{digits}
-use Rattle.judge.specs.Syntax.{numberIn}
+use Rattle.fields.specs.Bytes.{Text, bytes}
+use Rattle.fields.specs.Bytes.Numeral.{digits}
+use Rattle.model.specs.Syntax.{numberIn}
 use Rattle.judge.specs.Judge.Laws.{judged}
 use Rattle.judge.specs.Reading.{reading, partsOf}
 use Rattle.fields.specs.Split.{lineFeed, tab, lines, field}
-use Rattle.fields.specs.Children.{cueNumber, rowOf}
+use Rattle.fields.specs.Children.{cueNumber}
+use Rattle.judge.specs.Named.{rowOf}
 use Rattle.sheet.specs.declared.line.Said.{Said}
 use Rattle.sheet.specs.declared.line.Said.the-variants.{Complete, Open, Dead, NoSheet}
 use Rattle.sheet.specs.declared.cues.CuesRead.{CuesRead}

@@ -6,8 +6,8 @@ use native.Mathlib.Omega.{arith}
 use native.Mathlib.Numerals.{add-one}
 use lib.ListN.{length, take, drop, set, length-append, length-take, length-drop}
 use lib.Seq.{take-at, drop-at, drop-drop, set-split, paste, take-length}
-use Rattle.judge.specs.Bytes.{Text}
-use Rattle.judge.specs.Limits.{maxRow}
+use Rattle.fields.specs.Bytes.{Text}
+use Rattle.fields.specs.Limits.{maxRow}
 use Rattle.fields.specs.Split.{fields}
 use Rattle.sheet.specs.Cues.{maxFile, children}
 

@@ -10,9 +10,9 @@ use Prim.Native.Nat.{ℕ, suc, _+_, _-_}
 use lib.Dec.{leb, ltb, eqb}
 use lib.ListN.{length, replicate}
 use Rattle.judge.specs.declared.text.NamePlace.{NamePlace}
-use Rattle.judge.specs.Bytes.{Text, bytes, sameText}
-use Rattle.judge.specs.Fault.{Answer, refused, accepted, modelNumber}
-use Rattle.judge.specs.Fault.Answered.{answer}
+use Rattle.fields.specs.Bytes.{Text, bytes, sameText}
+use Rattle.model.specs.Fault.{Answer, refused, accepted, modelNumber}
+use Rattle.model.specs.Fault.Answered.{answer}
 use Rattle.judge.specs.Reading.{noPlace, namesWith, reading}
 use Rattle.fields.specs.Split.{lines, behind, fields, field}
 use Rattle.fields.specs.Children.{shortName}

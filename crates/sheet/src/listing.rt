@@ -25,7 +25,7 @@ use crate::sheet::SheetOutcome;
 use crate::sheet::load;
 use fields::children::Children;
 use fields::children::MAX_ROW;
-use fields::children::row_of;
+use judge::named::row_of;
 use fields::fault::CueFault;
 use fields::split::LINE_FEED;
 use fields::split::first_fields;
@@ -33,7 +33,7 @@ use fields::split::part_end;
 use judge::row::judge_row;
 use judge::text::number_of;
 use judge::verdict::Judged;
-use judge::verdict::Verdict;
+use model::verdict::Verdict;
 
 // How long the listing is that was written; or what is wrong with the sheet or with the cue list, and on which line; or that the listing is longer
 // than the buffer (`listedNumber` in specs/Listing.antt).

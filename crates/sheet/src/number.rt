@@ -1,12 +1,12 @@
 // The numbers of document 01's table.
 
 ghost use mathlib.Core.Path.{_≡_};
-ghost use Rattle.judge.specs.Fault.{modelNumber};
+ghost use Rattle.model.specs.Fault.{modelNumber};
 ghost use Rattle.fields.specs.Children.{cueNumber};
 ghost use Rattle.sheet.specs.Sheet.{sheetNumber};
 use crate::sheet::SheetFault;
 use fields::fault::CueFault;
-use judge::fault::ModelFault;
+use model::fault::ModelFault;
 
 fn model_number(fault: ModelFault) -> u64
     ensures { λ r. ⌜ r ≡ modelNumber fault ⌝ }

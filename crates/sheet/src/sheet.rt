@@ -20,14 +20,14 @@ use fields::split::LINE_FEED;
 use fields::split::first_fields;
 use fields::split::is_ended;
 use fields::split::part_end;
-use judge::fault::ModelFault;
-use judge::rule::Rule;
+use model::fault::ModelFault;
+use model::rule::Rule;
 use judge::text::NamePlace;
 use judge::text::Names;
 use judge::text::Outcome;
 use judge::text::number_of;
 use judge::text::read_model;
-use judge::text::same_bytes;
+use fields::bytes::same_bytes;
 
 pub const MAX_RULES: usize = 64;
 

@@ -11,23 +11,23 @@ use lib.Dec.{T, leb, ltb}
 use lib.ListN.{length, take, drop, getD, length-drop, length-take, length-append}
 use lib.Seq.{drop-cons}
 use borrow.Author.Tests.{leb-true, lt-leb, le-ltb, lt-ltb, ltb-true, ltb-false}
-use Rattle.judge.specs.Tests.{by-test}
-use Rattle.judge.specs.declared.fault.ModelFault.{ModelFault}
-use Rattle.judge.specs.declared.fault.ModelFault.the-variants.{Repeated}
+use Rattle.fields.specs.Tests.{by-test}
+use Rattle.model.specs.declared.fault.ModelFault.{ModelFault}
+use Rattle.model.specs.declared.fault.ModelFault.the-variants.{Repeated}
 use Rattle.judge.specs.declared.text.Names.{Names}
 use Rattle.judge.specs.declared.text.Outcome.the-variants.{Read, Refused as Unread}
 use Rattle.judge.specs.declared.text.Reading.{Reading}
-use Rattle.judge.specs.Bytes.{Text, sameText}
-use Rattle.judge.specs.Bytes.Laws.{same-text}
-use Rattle.judge.specs.Syntax.{Syntax, text, names, numberFrom, numberIn}
-use Rattle.judge.specs.Fault.{nameAt, nameFrom, tally, modelNumber, Answer, Answers, refused, accepted}
-use Rattle.judge.specs.Fault.Answered.{answer, answered, name-inside}
-use Rattle.judge.specs.Fault.Ties.{places}
-use Rattle.judge.specs.Accept.Starts.{name-at}
+use Rattle.fields.specs.Bytes.{Text, sameText}
+use Rattle.fields.specs.Bytes.Laws.{same-text}
+use Rattle.model.specs.Syntax.{Syntax, text, names, numberFrom, numberIn}
+use Rattle.model.specs.Fault.{nameAt, nameFrom, tally, modelNumber, Answer, Answers, refused, accepted}
+use Rattle.model.specs.Fault.Answered.{answer, answered, name-inside}
+use Rattle.model.specs.Fault.Ties.{places}
+use Rattle.model.specs.Accept.Starts.{name-at}
 use Rattle.judge.specs.Reading.{noPlace, namesOf, readingBy, reading, partsOf}
 use Rattle.judge.specs.Reading.Laws.{names-are}
 use Rattle.judge.specs.Reading.Search.{name-fits}
-use Rattle.judge.specs.Limits.{maxRow}
+use Rattle.fields.specs.Limits.{maxRow}
 use Rattle.fields.specs.declared.fault.CueFault.{CueFault}
 use Rattle.fields.specs.declared.fault.CueFault.the-variants.{LongFile, NoName, ManyChildren, NoChild}
 use Rattle.fields.specs.declared.children.Children.{Children}

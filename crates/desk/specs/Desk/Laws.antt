@@ -7,21 +7,21 @@ use native.Mathlib.Omega.{arith}
 use lib.Dec.{leb, ltb, eqb}
 use lib.ListN.{length}
 use borrow.Author.Tests.{ltb-true, ltb-false, leb-true, leb-false}
-use Rattle.judge.specs.Tests.{by-test}
-use Rattle.judge.specs.declared.fault.ModelFault.{ModelFault}
-use Rattle.judge.specs.declared.fault.ModelFault.the-variants.{Size, Spelling, LongName, WrongCount, TooDeep, ManyAtoms, ManyNodes, Repeated}
-use Rattle.judge.specs.declared.verdict.Verdict.{Verdict}
-use Rattle.judge.specs.declared.verdict.Verdict.the-variants.{Complete, Open, Dead}
-use Rattle.judge.specs.Verdict.{Says}
-use Rattle.judge.specs.Verdict.Laws.{verdict, verdict-is}
-use Rattle.judge.specs.Bytes.{Text}
-use Rattle.judge.specs.Syntax.{Syntax}
-use Rattle.judge.specs.Fault.{modelNumber, Answer, Answers, refused, accepted}
-use Rattle.judge.specs.Fault.Answered.{number-injective, answer, answered, answer-is}
-use Rattle.judge.specs.Accept.Laws.{accepted-counts}
-use Rattle.judge.specs.Model.{modelOf, typeOf}
-use Rattle.judge.specs.Model.Types.{type-conflict-free}
-use Rattle.judge.specs.Limits.{maxRow}
+use Rattle.fields.specs.Tests.{by-test}
+use Rattle.model.specs.declared.fault.ModelFault.{ModelFault}
+use Rattle.model.specs.declared.fault.ModelFault.the-variants.{Size, Spelling, LongName, WrongCount, TooDeep, ManyAtoms, ManyNodes, Repeated}
+use Rattle.model.specs.declared.verdict.Verdict.{Verdict}
+use Rattle.model.specs.declared.verdict.Verdict.the-variants.{Complete, Open, Dead}
+use Rattle.model.specs.Verdict.{Says}
+use Rattle.model.specs.Verdict.Laws.{verdict, verdict-is}
+use Rattle.fields.specs.Bytes.{Text}
+use Rattle.model.specs.Syntax.{Syntax}
+use Rattle.model.specs.Fault.{modelNumber, Answer, Answers, refused, accepted}
+use Rattle.model.specs.Fault.Answered.{number-injective, answer, answered, answer-is}
+use Rattle.model.specs.Accept.Laws.{accepted-counts}
+use Rattle.model.specs.Model.{modelOf, typeOf}
+use Rattle.model.specs.Model.Types.{type-conflict-free}
+use Rattle.fields.specs.Limits.{maxRow}
 use Rattle.fields.specs.declared.fault.CueFault.{CueFault}
 use Rattle.fields.specs.declared.fault.CueFault.the-variants.{LongFile, Unended, BadFields, BadNumber, NotAbove, NoName, ManyChildren, NoChild}
 use Rattle.fields.specs.Children.{cueNumber, allNames}

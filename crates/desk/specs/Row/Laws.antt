@@ -9,16 +9,17 @@ use lib.Dec.{ltb, eqb}
 use lib.ListN.{length, take, drop, getD, set, length-set, length-drop, drop-of-length-le}
 use lib.Seq.{drop-cons, take-suc, take-suc-set, take-all, take-length, getD-drop}
 use borrow.Author.Tests.{eqb-false, eq-eqb, ne-eqb, le-leb, lt-leb, ltb-true, ltb-false}
-use Rattle.judge.specs.Tests.{by-test}
-use Rattle.judge.specs.Bytes.{Text, isLetter, isInner, all, front}
-use Rattle.judge.specs.Bytes.Laws.{front-take}
-use Rattle.judge.specs.Syntax.{numberIn}
-use Rattle.judge.specs.Limits.{maxName, maxRow}
+use Rattle.fields.specs.Tests.{by-test}
+use Rattle.fields.specs.Bytes.{Text, isLetter, isInner, all, front}
+use Rattle.fields.specs.Bytes.Laws.{front-take}
+use Rattle.model.specs.Syntax.{numberIn}
+use Rattle.fields.specs.Limits.{maxName, maxRow}
 use Rattle.fields.specs.declared.fault.CueFault.the-variants.{NoName, ManyChildren}
 use Rattle.fields.specs.declared.children.Children.the-variants.{Count, Refused}
 use Rattle.fields.specs.Split.{tab, split, other, partEnd, more}
 use Rattle.fields.specs.Split.Laws.{part-at, end-within}
-use Rattle.fields.specs.Children.{shortName, allNames, childrenOf, rowOf}
+use Rattle.fields.specs.Children.{shortName, allNames, childrenOf}
+use Rattle.judge.specs.Named.{rowOf}
 use Rattle.fields.specs.Children.Laws.{name-refused, name-sized, name-is}
 use Rattle.desk.specs.declared.row.Child.{Child}
 use Rattle.desk.specs.Table.{slots, mixed, hashFrom, hashOf}

@@ -11,11 +11,11 @@ use lib.Dec.{eqb}
 use lib.ListN.{length, take, drop, getD, set, length-set, length-take, length-drop, length-map, drop-of-length-le, replicate, length-replicate, getD-replicate}
 use lib.Seq.{take-suc, take-suc-set, getD-take, drop-cons, drop-drop, drop-length, getD-drop, getD-set-same, getD-set-other}
 use borrow.Author.Tests.{eqb-true, eqb-false, eq-eqb, ne-eqb}
-use Rattle.judge.specs.Tests.{by-test}
-use Rattle.judge.specs.Bytes.{Text, sameText}
-use Rattle.judge.specs.Bytes.Laws.{same-text}
-use Rattle.judge.specs.Syntax.{numberFrom, numberIn}
-use Rattle.judge.specs.Limits.{maxAtoms}
+use Rattle.fields.specs.Tests.{by-test}
+use Rattle.fields.specs.Bytes.{Text, sameText}
+use Rattle.fields.specs.Bytes.Laws.{same-text}
+use Rattle.model.specs.Syntax.{numberFrom, numberIn}
+use Rattle.fields.specs.Limits.{maxAtoms}
 use Rattle.judge.specs.declared.text.NamePlace.{NamePlace}
 use Rattle.desk.specs.Names.{mapped-at}
 use Rattle.desk.specs.Table.{spotOf, spotPart, spotParts, Spots, slots, mixed, hashFrom, hashOf, firstFrom, Linked, Table}

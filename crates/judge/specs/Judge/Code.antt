@@ -6,22 +6,21 @@ use native.Mathlib.Omega.{arith}
 use borrow.Author.Tests.{le-leb, lt-leb}
 use lib.ListN.{length, getD}
 use Rattle.judge.specs.declared.fault.JudgeFault.the-variants.{NoModel, LongRow, NoName}
-use Rattle.judge.specs.declared.rule.Rule.{Rule}
+use Rattle.model.specs.declared.rule.Rule.{Rule}
 use Rattle.judge.specs.declared.row.Tally.{Tally}
-use Rattle.judge.specs.declared.verdict.Verdict.{Verdict as Said}
+use Rattle.model.specs.declared.verdict.Verdict.{Verdict as Said}
 use Rattle.judge.specs.declared.verdict.Judged.the-variants.{Verdict, Refused}
-use Rattle.judge.specs.Limits.{maxAtoms, maxNodes, maxRow}
-use Rattle.judge.specs.Word.{Word}
-use Rattle.judge.specs.Verdict.Laws.{verdict}
-use Rattle.judge.specs.Tree.{atoms, nodes}
-use Rattle.judge.specs.Model.Laws.{length-encode}
-use Rattle.judge.specs.Rule.{names}
-use Rattle.judge.specs.Rule.Names.{names-model}
-use Rattle.judge.specs.Rule.Test.{wellFormed}
-use Rattle.judge.specs.Rule.Decide.{readable, ruleType}
+use Rattle.fields.specs.Limits.{maxAtoms, maxNodes, maxRow}
+use Rattle.model.specs.Word.{Word}
+use Rattle.model.specs.Verdict.Laws.{verdict}
+use Rattle.model.specs.Tree.{atoms, nodes}
+use Rattle.model.specs.Model.Laws.{length-encode}
+use Rattle.model.specs.Rule.{names}
+use Rattle.model.specs.Rule.Names.{names-model}
+use Rattle.model.specs.Rule.Decide.{readable, ruleType, readable-formed}
 use Rattle.judge.specs.Judge.Laws.{upto, judged}
 use Rattle.judge.specs.Judge.Tally.{unseen, Tallied}
-use Rattle.judge.specs.Judge.Pass.{seenVerdict, readable-formed, verdict-seen, readable-tested}
+use Rattle.judge.specs.Judge.Pass.{seenVerdict, verdict-seen}
 
 -- the limits that the passes ask for
 pub readable-within : (r : Rule) → readable r ≡ true → (r .len ≤ maxNodes) × (names r ≤ maxAtoms)
@@ -37,10 +36,10 @@ pub verdict-tallied : (r : Rule) → readable r ≡ true → (w : Word) → upto
     → seenVerdict r (length w) (λ k. getD (t .seen) k (unseen 0)) ≡ verdict (ruleType r) w
 verdict-tallied r e w h m f t g = verdict-seen r e w h (λ k. getD (t .seen) k (unseen 0)) (λ k l. g .seen-is k (omega arith))
 
--- the test of 40, and an array of nodes that is as long as it should be
-module _ (r : Rule) (good : Bool) (l : length (r .nodes) ≡ maxNodes) (e : good ≡ wellFormed r) where
+-- the test of 40
+module _ (r : Rule) (good : Bool) (e : good ≡ readable r) where
   tested : (b : Bool) → good ≡ b → readable r ≡ b
-  tested b f = readable-tested r good b l e f
+  tested b f = sym e ∙ f
 
   pub within : good ≡ true → (r .len ≤ maxNodes) × (names r ≤ maxAtoms)
   within f = readable-within r (tested true f)

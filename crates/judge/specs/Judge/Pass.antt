@@ -9,31 +9,30 @@ use native.Mathlib.Omega.{arith}
 use lib.Dec.{eqb, leb}
 use borrow.Author.Tests.{eqb-true, eq-eqb, ne-eqb, leb-true}
 use lib.ListN.{length, getD}
-use Rattle.judge.specs.declared.rule.Kind.{Kind}
-use Rattle.judge.specs.declared.rule.Kind.the-variants.{Atom, Group}
-use Rattle.judge.specs.declared.rule.Mark.{Mark}
-use Rattle.judge.specs.declared.rule.Node.{Node}
-use Rattle.judge.specs.declared.rule.Rule.{Rule}
+use Rattle.model.specs.declared.rule.Kind.{Kind}
+use Rattle.model.specs.declared.rule.Kind.the-variants.{Atom, Group}
+use Rattle.model.specs.declared.rule.Mark.{Mark}
+use Rattle.model.specs.declared.rule.Node.{Node}
+use Rattle.model.specs.declared.rule.Rule.{Rule}
 use Rattle.judge.specs.declared.row.Seen.{Seen}
 use Rattle.judge.specs.declared.row.Attribute.{Attribute}
-use Rattle.judge.specs.declared.verdict.Verdict.{Verdict}
-use Rattle.judge.specs.Limits.{maxNodes}
-use Rattle.judge.specs.Tests.{by-test}
-use Rattle.judge.specs.Word.{Word, Names, only}
-use Rattle.judge.specs.Word.Projection.{keep, count}
-use Rattle.judge.specs.Types.{symbols}
-use Rattle.judge.specs.Types.Decide.{over?, holds?, extends?}
-use Rattle.judge.specs.Types.Attribute.{emptyAttribute, attributeBy, attribute, attribute-is, attribute-atom, attribute-group, attribute-mark, seen, attributeOf}
-use Rattle.judge.specs.Verdict.Laws.{verdictOf, verdict}
-use Rattle.judge.specs.Tree.{Formed, atoms, nodes}
-use Rattle.judge.specs.Model.{Model, typeBy, typeOf}
-use Rattle.judge.specs.Model.Eval.{after, after-from, step, eval, eval-map, number, number-from, number-range}
-use Rattle.judge.specs.Model.Types.{CountsFit, type-conflict-free, type-symbols}
-use Rattle.judge.specs.Rule.{ruleOf, names}
-use Rattle.judge.specs.Rule.Laws.{used, rule-eval}
-use Rattle.judge.specs.Rule.Names.{names-number, names-model}
-use Rattle.judge.specs.Rule.Test.{WellFormed, wellFormed, well-formed-is}
-use Rattle.judge.specs.Rule.Decide.{readable, ruleType, rule-type}
+use Rattle.model.specs.declared.verdict.Verdict.{Verdict}
+use Rattle.fields.specs.Limits.{maxNodes}
+use Rattle.fields.specs.Tests.{by-test}
+use Rattle.model.specs.Word.{Word, Names, only}
+use Rattle.model.specs.Word.Projection.{keep, count}
+use Rattle.model.specs.Types.{symbols}
+use Rattle.model.specs.Types.Decide.{over?, holds?, extends?}
+use Rattle.judge.specs.Judge.Attribute.{emptyAttribute, attributeBy, attribute, attribute-is, attribute-atom, attribute-group, attribute-mark, seen, attributeOf}
+use Rattle.model.specs.Verdict.Laws.{verdictOf, verdict}
+use Rattle.model.specs.Tree.{Formed, atoms, nodes}
+use Rattle.model.specs.Model.{Model, typeBy, typeOf}
+use Rattle.model.specs.Model.Eval.{after, after-from, step, eval, eval-map, number, number-from, number-range}
+use Rattle.model.specs.Model.Types.{CountsFit, type-conflict-free, type-symbols}
+use Rattle.model.specs.Rule.{ruleOf, names}
+use Rattle.model.specs.Rule.Laws.{used, rule-eval}
+use Rattle.model.specs.Rule.Names.{names-number, names-model}
+use Rattle.model.specs.Rule.Decide.{readable, readable-formed, ruleType, rule-type}
 use Rattle.judge.specs.Judge.Laws.{upto}
 use Rattle.judge.specs.Judge.Root.{rootAttribute}
 
@@ -85,12 +84,6 @@ module _ (t : Model) (f : Formed CountsFit t) (w : Word) where
       rw (over-known (symbols (typeOf t)) (atoms t) (type-symbols t f) w (rw (names-model t) at h), root-model)
       (unfold seen attributeOf in refl)
 
-pub readable-formed : (r : Rule) → readable r ≡ true → WellFormed r
-unfolding readable
-readable-formed r e =
-    let h = and-eq-true-iff (eqb (length (r .nodes)) maxNodes) (wellFormed r) .0 e in
-    well-formed-is r (eqb-true (length (r .nodes)) maxNodes (h .0)) .0 (h .1)
-
 pub verdict-seen : (r : Rule) → readable r ≡ true → (w : Word) → upto (names r) w ≡ true → (s : ℕ → Seen)
     → ((k : ℕ) → k ≤ names r → s k ≡ seen w k) → seenVerdict r (length w) s ≡ verdict (ruleType r) w
 verdict-seen r e w h s g =
@@ -100,8 +93,3 @@ verdict-seen r e w h s g =
     let b : seenVerdict r (length w) (seen w) ≡ verdict (ruleType r) w =
     rw (v .rule-is, rule-type t) (verdict-model t (v .formed) w (rw (v .rule-is) at h)) in
     rw (a, g 0 (omega arith)) b
-
--- what a test of the code says of a rule, whose array of nodes is as long as it should be
-pub readable-tested : (r : Rule) (b c : Bool) → length (r .nodes) ≡ maxNodes → b ≡ wellFormed r → b ≡ c → readable r ≡ c
-unfolding readable
-readable-tested r b c l e f = rw (eq-eqb (length (r .nodes)) maxNodes l) (sym e ∙ f)

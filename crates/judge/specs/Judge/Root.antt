@@ -11,23 +11,23 @@ use lib.Dec.{eqb}
 use borrow.Author.Tests.{eq-eqb, ne-eqb}
 use lib.ListN.{length, take, drop, getD, set, length-set, length-take, length-drop, drop-of-length-le}
 use lib.Seq.{take-suc, drop-cons, take-all, getD-drop, length-take-le}
-use Rattle.judge.specs.declared.rule.Upper.{Upper}
-use Rattle.judge.specs.declared.rule.Mark.{Mark}
-use Rattle.judge.specs.declared.rule.Kind.{Kind}
-use Rattle.judge.specs.declared.rule.Kind.the-variants.{Atom, Group}
-use Rattle.judge.specs.declared.rule.Node.{Node}
-use Rattle.judge.specs.declared.rule.Rule.{Rule}
+use Rattle.model.specs.declared.rule.Upper.{Upper}
+use Rattle.model.specs.declared.rule.Mark.{Mark}
+use Rattle.model.specs.declared.rule.Kind.{Kind}
+use Rattle.model.specs.declared.rule.Kind.the-variants.{Atom, Group}
+use Rattle.model.specs.declared.rule.Node.{Node}
+use Rattle.model.specs.declared.rule.Rule.{Rule}
 use Rattle.judge.specs.declared.row.Seen.{Seen}
 use Rattle.judge.specs.declared.row.Attribute.{Attribute}
-use Rattle.judge.specs.Limits.{maxNodes}
-use Rattle.judge.specs.Stack.{slice-back, first-entries, replaced}
-use Rattle.judge.specs.Types.{Operator}
-use Rattle.judge.specs.Types.Attribute.{emptyAttribute, atomAttribute, pairAttribute, countedAttribute, markedAttribute, joinedAttributeFrom, joinedAttribute, attributeBy}
-use Rattle.judge.specs.Model.{operator}
-use Rattle.judge.specs.Model.Eval.{after, needed, step, eval, number, number-next, after-from}
-use Rattle.judge.specs.Rule.{atomsIn}
-use Rattle.judge.specs.Rule.Laws.{used}
-use Rattle.judge.specs.Rule.Names.{names-number}
+use Rattle.fields.specs.Limits.{maxNodes}
+use Rattle.fields.specs.Stack.{slice-back, first-entries, replaced}
+use Rattle.model.specs.Types.{Operator}
+use Rattle.judge.specs.Judge.Attribute.{emptyAttribute, atomAttribute, pairAttribute, countedAttribute, markedAttribute, joinedAttributeFrom, joinedAttribute, attributeBy}
+use Rattle.model.specs.Model.{operator}
+use Rattle.model.specs.Model.Eval.{after, needed, step, eval, number, number-next, after-from}
+use Rattle.model.specs.Rule.{atomsIn}
+use Rattle.model.specs.Rule.Laws.{used}
+use Rattle.model.specs.Rule.Names.{names-number}
 
 -- of the first node of a rule, in a row of n children
 abbrev pub rootAttribute : Rule → ℕ → (ℕ → Seen) → Attribute

@@ -12,13 +12,13 @@ use lib.Seq.{take-suc, getD-set-same, getD-set-other, length-take-le}
 use borrow.Author.Tests.{le-leb, lt-leb}
 use Rattle.judge.specs.declared.row.Seen.{Seen}
 use Rattle.judge.specs.declared.row.Tally.{Tally}
-use Rattle.judge.specs.Tests.{by-test}
-use Rattle.judge.specs.Word.{Word, Names, only}
-use Rattle.judge.specs.Word.Laws.{only-is, only-self}
-use Rattle.judge.specs.Word.Projection.{count, keep}
-use Rattle.judge.specs.Word.Order.{touched}
-use Rattle.judge.specs.Word.Span.{first, behind, first-untouched, touched-more, count-more, first-more, behind-more}
-use Rattle.judge.specs.Types.Attribute.{seen}
+use Rattle.fields.specs.Tests.{by-test}
+use Rattle.model.specs.Word.{Word, Names, only}
+use Rattle.model.specs.Word.Laws.{only-is, only-self}
+use Rattle.model.specs.Word.Projection.{count, keep}
+use Rattle.model.specs.Word.Order.{touched}
+use Rattle.model.specs.Word.Span.{first, behind, first-untouched, touched-more, count-more, first-more, behind-more}
+use Rattle.judge.specs.Judge.Attribute.{seen}
 use Rattle.judge.specs.Judge.Laws.{upto}
 
 -- of a row of n children, none of which is the name

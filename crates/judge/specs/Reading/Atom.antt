@@ -8,32 +8,32 @@ use Prim.Native.Char.{code}
 use native.Mathlib.Omega.{arith}
 use native.Mathlib.Numerals.{add-one}
 use lib.ListN.{length, drop, set, getD, length-append, length-map}
-use Rattle.judge.specs.declared.fault.ModelFault.{ModelFault}
-use Rattle.judge.specs.declared.fault.ModelFault.the-variants.{Size, Spelling as Misspelling, LongName, WrongCount, TooDeep, ManyAtoms, ManyNodes, Repeated}
-use Rattle.judge.specs.declared.rule.Upper.{Upper}
-use Rattle.judge.specs.declared.rule.Upper.the-variants.{Number}
-use Rattle.judge.specs.declared.rule.Mark.the-variants.{Plain}
-use Rattle.judge.specs.declared.rule.Kind.the-variants.{Atom}
+use Rattle.model.specs.declared.fault.ModelFault.{ModelFault}
+use Rattle.model.specs.declared.fault.ModelFault.the-variants.{Size, Spelling as Misspelling, LongName, WrongCount, TooDeep, ManyAtoms, ManyNodes, Repeated}
+use Rattle.model.specs.declared.rule.Upper.{Upper}
+use Rattle.model.specs.declared.rule.Upper.the-variants.{Number}
+use Rattle.model.specs.declared.rule.Mark.the-variants.{Plain}
+use Rattle.model.specs.declared.rule.Kind.the-variants.{Atom}
 use Rattle.judge.specs.declared.text.Cursor.{Cursor}
 use Rattle.judge.specs.declared.text.Counted.{Counted}
 use Rattle.judge.specs.declared.text.Counted.the-variants.{Counts, Bad, Wrong}
 use Rattle.judge.specs.declared.text.Got.{Got}
 use Rattle.judge.specs.declared.text.Got.the-variants.{Past, Fault as Faulty}
-use Rattle.judge.specs.Bytes.{Text, isLetter, isInner}
-use Rattle.judge.specs.Bytes.Laws.{cond-true, T-true, letter-inner}
-use Rattle.judge.specs.Tree.{marked}
-use Rattle.judge.specs.Tree.Map.{weight-map, membersWeight-map}
-use Rattle.judge.specs.Syntax.{Count, unwritten}
-use Rattle.judge.specs.Syntax.Machine.{atom, Frame, opened, signed, naming, at, stepAfter, step, here}
-use Rattle.judge.specs.Syntax.Complete.{node-step, behindAtom}
-use Rattle.judge.specs.Syntax.Counters.{stackWeight, frameWeight, Even, even}
-use Rattle.judge.specs.Model.{countsOf}
-use Rattle.judge.specs.Model.Laws.{length-encode, length-encodeAll}
-use Rattle.judge.specs.Limits.{maxName, maxAtoms, maxNodes}
-use Rattle.judge.specs.Fault.{is, nameAt, nodeAt, nameFrom, tally, Fault, modelNumber, refused, Answers}
-use Rattle.judge.specs.Fault.Answered.{byte-inside}
-use Rattle.judge.specs.Fault.Places.{LetterFault, letter-faults, letter-next, letter-faultless, found-by, clean-more}
-use Rattle.judge.specs.Fault.Ties.{places, places-tally}
+use Rattle.fields.specs.Bytes.{Text, isLetter, isInner}
+use Rattle.fields.specs.Bytes.Laws.{cond-true, T-true, letter-inner}
+use Rattle.model.specs.Tree.{marked}
+use Rattle.model.specs.Tree.Map.{weight-map, membersWeight-map}
+use Rattle.model.specs.Syntax.{Count, unwritten}
+use Rattle.model.specs.Syntax.Machine.{atom, Frame, opened, signed, naming, at, stepAfter, step, here}
+use Rattle.model.specs.Syntax.Complete.{node-step, behindAtom}
+use Rattle.model.specs.Syntax.Counters.{stackWeight, frameWeight, Even, even}
+use Rattle.model.specs.Model.{countsOf}
+use Rattle.model.specs.Model.Laws.{length-encode, length-encodeAll}
+use Rattle.fields.specs.Limits.{maxName, maxAtoms, maxNodes}
+use Rattle.model.specs.Fault.{is, nameAt, nodeAt, nameFrom, tally, Fault, modelNumber, refused, Answers}
+use Rattle.model.specs.Fault.Answered.{byte-inside}
+use Rattle.model.specs.Fault.Places.{LetterFault, letter-faults, letter-next, letter-faultless, found-by, clean-more}
+use Rattle.model.specs.Fault.Ties.{places, places-tally}
 use Rattle.judge.specs.Reading.{namePlace}
 use Rattle.judge.specs.Reading.Lexeme.{countAt}
 use Rattle.judge.specs.Reading.Lexeme.Laws.{front-step}

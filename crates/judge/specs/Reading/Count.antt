@@ -13,28 +13,28 @@ use lib.ListN.{length, drop, getD}
 use lib.Seq.{drop-cons}
 use mir.Facts.{yes-and}
 use borrow.Author.Tests.{ltb-true, ltb-false, eqb-true, lt-ltb}
-use Rattle.judge.specs.declared.fault.ModelFault.the-variants.{Spelling, WrongCount}
-use Rattle.judge.specs.declared.rule.Upper.{Upper}
-use Rattle.judge.specs.declared.rule.Upper.the-variants.{Number, Unbounded}
-use Rattle.judge.specs.declared.rule.Mark.the-variants.{Plain}
+use Rattle.model.specs.declared.fault.ModelFault.the-variants.{Spelling, WrongCount}
+use Rattle.model.specs.declared.rule.Upper.{Upper}
+use Rattle.model.specs.declared.rule.Upper.the-variants.{Number, Unbounded}
+use Rattle.model.specs.declared.rule.Mark.the-variants.{Plain}
 use Rattle.judge.specs.declared.text.Numeral.{Numeral}
 use Rattle.judge.specs.declared.text.Numeral.the-variants.{Value, Bad as NoNumeral}
 use Rattle.judge.specs.declared.text.Counted.{Counted}
 use Rattle.judge.specs.declared.text.Counted.the-variants.{Counts, Bad, Wrong}
-use Rattle.judge.specs.Bytes.{Text, isDigit, value, front}
-use Rattle.judge.specs.Bytes.Laws.{cond-true, T-true}
-use Rattle.judge.specs.Tests.{by-test}
-use Rattle.judge.specs.Tree.{marked}
-use Rattle.judge.specs.Syntax.{Count, between, onward}
-use Rattle.judge.specs.Syntax.Machine.{atom, Frame, Part, low, dot, dots, high, star, naming, counting, after, State, at, grows, some-digit, step, result}
-use Rattle.judge.specs.Syntax.Counters.{isExpect}
-use Rattle.judge.specs.Syntax.Complete.{behindAtom}
-use Rattle.judge.specs.Model.{countsOf}
-use Rattle.judge.specs.Limits.{maxCount}
-use Rattle.judge.specs.Fault.{is, wrong, refused, Answers}
-use Rattle.judge.specs.Fault.Answered.{byte-inside}
-use Rattle.judge.specs.Fault.Places.{wrong-answers}
-use Rattle.judge.specs.Fault.Ties.{capped, wrongPair, capped-wrong, capped-over}
+use Rattle.fields.specs.Bytes.{Text, isDigit, value, front}
+use Rattle.fields.specs.Bytes.Laws.{cond-true, T-true}
+use Rattle.fields.specs.Tests.{by-test}
+use Rattle.model.specs.Tree.{marked}
+use Rattle.model.specs.Syntax.{Count, between, onward}
+use Rattle.model.specs.Syntax.Machine.{atom, Frame, Part, low, dot, dots, high, star, naming, counting, after, State, at, grows, some-digit, step, result}
+use Rattle.model.specs.Syntax.Counters.{isExpect}
+use Rattle.model.specs.Syntax.Complete.{behindAtom}
+use Rattle.model.specs.Model.{countsOf}
+use Rattle.fields.specs.Limits.{maxCount}
+use Rattle.model.specs.Fault.{is, wrong, refused, Answers}
+use Rattle.model.specs.Fault.Answered.{byte-inside}
+use Rattle.model.specs.Fault.Places.{wrong-answers}
+use Rattle.model.specs.Fault.Ties.{capped, wrongPair, capped-wrong, capped-over}
 use Rattle.judge.specs.Reading.Lexeme.{digits, numeralAt, onwardAt, betweenAt, boundedAt, countAt}
 use Rattle.judge.specs.Reading.Lexeme.Laws.{stands-inside, above-of}
 use Rattle.judge.specs.Reading.At.{At, Quiet, next, step-on, bad, run-front, front-over}

@@ -6,11 +6,11 @@ use native.Mathlib.Omega.{arith}
 use native.Mathlib.Numerals.{add-one}
 use lib.ListN.{length, take, getD, set, replicate, length-take, length-map}
 use lib.Seq.{take-suc, set-at, append-snoc}
-use Rattle.judge.specs.declared.rule.Node.{Node}
-use Rattle.judge.specs.declared.rule.Rule.{Rule}
+use Rattle.model.specs.declared.rule.Node.{Node}
+use Rattle.model.specs.declared.rule.Rule.{Rule}
 use Rattle.judge.specs.declared.text.NamePlace.{NamePlace}
 use Rattle.judge.specs.declared.text.Names.{Names}
-use Rattle.judge.specs.Rule.{unused}
+use Rattle.model.specs.Rule.{unused}
 use Rattle.judge.specs.Reading.{ruleWith, namesWith, noPlace}
 
 module _ {A B : Type 0} (f : A → B) (u : B) (w : List A) where

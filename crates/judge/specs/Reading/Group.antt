@@ -12,29 +12,29 @@ use lib.Dec.{T, eqb, eqb→eq}
 use lib.ListN.{length, set, getD, length-append, List·getD-eq-default}
 use mir.Facts.{and-yes, or-yes, or-no}
 use borrow.Author.Tests.{eqb-true, eq-eqb, ne-eqb}
-use Rattle.judge.specs.declared.fault.ModelFault.{ModelFault}
-use Rattle.judge.specs.declared.fault.ModelFault.the-variants.{Size, Spelling as Misspelling, LongName, WrongCount, TooDeep, ManyAtoms, ManyNodes, Repeated}
-use Rattle.judge.specs.declared.rule.Sign.the-variants.{None}
-use Rattle.judge.specs.declared.rule.Mark.the-variants.{Plain}
-use Rattle.judge.specs.declared.rule.Kind.the-variants.{Group}
-use Rattle.judge.specs.declared.rule.Node.{Node as RuleNode}
+use Rattle.model.specs.declared.fault.ModelFault.{ModelFault}
+use Rattle.model.specs.declared.fault.ModelFault.the-variants.{Size, Spelling as Misspelling, LongName, WrongCount, TooDeep, ManyAtoms, ManyNodes, Repeated}
+use Rattle.model.specs.declared.rule.Sign.the-variants.{None}
+use Rattle.model.specs.declared.rule.Mark.the-variants.{Plain}
+use Rattle.model.specs.declared.rule.Kind.the-variants.{Group}
+use Rattle.model.specs.declared.rule.Node.{Node as RuleNode}
 use Rattle.judge.specs.declared.text.Cursor.{Cursor}
 use Rattle.judge.specs.declared.text.Got.{Got}
 use Rattle.judge.specs.declared.text.Got.the-variants.{Past, Fault as Faulty}
-use Rattle.judge.specs.Types.{Operator, sequence, choice, interleaving}
-use Rattle.judge.specs.Bytes.{Text, isLetter}
-use Rattle.judge.specs.Bytes.Laws.{T-true}
-use Rattle.judge.specs.Tests.{by-test}
-use Rattle.judge.specs.Tree.{leaf, group, marked, Members, none, _▹_, size}
-use Rattle.judge.specs.Tree.Map.{size-map}
-use Rattle.judge.specs.Syntax.{Spelling, Syntax}
-use Rattle.judge.specs.Syntax.Machine.{snoc, signOf, byteOf, Frame, opened, signed, expect, after, State, dead, at, close, shut, step, here, result}
-use Rattle.judge.specs.Syntax.Complete.{behind}
-use Rattle.judge.specs.Model.{countsOf}
-use Rattle.judge.specs.Limits.{maxNodes}
-use Rattle.judge.specs.Fault.{is, Fault, modelNumber, refused, Answers}
-use Rattle.judge.specs.Fault.Places.{BracketFault, bracket-faults, bracket-next, bracket-faultless, found-by, clean-more, end-faultless}
-use Rattle.judge.specs.Rule.{unused}
+use Rattle.model.specs.Types.{Operator, sequence, choice, interleaving}
+use Rattle.fields.specs.Bytes.{Text, isLetter}
+use Rattle.fields.specs.Bytes.Laws.{T-true}
+use Rattle.fields.specs.Tests.{by-test}
+use Rattle.model.specs.Tree.{leaf, group, marked, Members, none, _▹_, size}
+use Rattle.model.specs.Tree.Map.{size-map}
+use Rattle.model.specs.Syntax.{Spelling, Syntax}
+use Rattle.model.specs.Syntax.Machine.{snoc, signOf, byteOf, Frame, opened, signed, expect, after, State, dead, at, close, shut, step, here, result}
+use Rattle.model.specs.Syntax.Complete.{behind}
+use Rattle.model.specs.Model.{countsOf}
+use Rattle.fields.specs.Limits.{maxNodes}
+use Rattle.model.specs.Fault.{is, Fault, modelNumber, refused, Answers}
+use Rattle.model.specs.Fault.Places.{BracketFault, bracket-faults, bracket-next, bracket-faultless, found-by, clean-more, end-faultless}
+use Rattle.model.specs.Rule.{unused}
 use Rattle.judge.specs.Reading.Lexeme.Laws.{stands-inside}
 use Rattle.judge.specs.Reading.Packed.{nodeOf, plain, signBy, isSign}
 use Rattle.judge.specs.Reading.Buffer.{holds-count, holds-more, holds-set}

@@ -11,24 +11,24 @@ use lib.Seq.{take-suc, take-all, take-append-seam}
 use Rattle.judge.specs.declared.text.NamePlace.{NamePlace}
 use Rattle.judge.specs.declared.text.Outcome.the-variants.{Read}
 use Rattle.judge.specs.declared.text.Reading.{Reading}
-use Rattle.judge.specs.Bytes.{Text, isInner, sameText}
-use Rattle.judge.specs.Bytes.Laws.{front-take, same-text}
-use Rattle.judge.specs.Tests.{by-test}
-use Rattle.judge.specs.Tree.{leaves, atoms, Formed}
-use Rattle.judge.specs.Tree.Leaves.{length-leaves}
-use Rattle.judge.specs.Tree.Map.{weight-map}
-use Rattle.judge.specs.Syntax.{Spelling, Syntax, names, numberFrom, numberIn, text, SpellingFormed}
-use Rattle.judge.specs.Model.{countsOf, modelOf}
-use Rattle.judge.specs.Fault.{nameAt, nameFrom, tally, Answer, refused, accepted, Answers}
-use Rattle.judge.specs.Fault.Answered.{answer, answered, answer-is, name-inside}
-use Rattle.judge.specs.Fault.Ties.{places}
-use Rattle.judge.specs.Accept.{Within}
-use Rattle.judge.specs.Accept.Laws.{within-accepted, accepted-within}
-use Rattle.judge.specs.Accept.Places.{tally-passes}
-use Rattle.judge.specs.Accept.Starts.{name-at, name-place}
-use Rattle.judge.specs.Rule.{ruleOf, Readable, names as ruleNames}
-use Rattle.judge.specs.Rule.Names.{names-model}
-use Rattle.judge.specs.Limits.{maxAtoms}
+use Rattle.fields.specs.Bytes.{Text, isInner, sameText}
+use Rattle.fields.specs.Bytes.Laws.{front-take, same-text}
+use Rattle.fields.specs.Tests.{by-test}
+use Rattle.model.specs.Tree.{leaves, atoms, Formed}
+use Rattle.model.specs.Tree.Leaves.{length-leaves}
+use Rattle.model.specs.Tree.Map.{weight-map}
+use Rattle.model.specs.Syntax.{Spelling, Syntax, names, numberFrom, numberIn, text, SpellingFormed}
+use Rattle.model.specs.Model.{countsOf, modelOf}
+use Rattle.model.specs.Fault.{nameAt, nameFrom, tally, Answer, refused, accepted, Answers}
+use Rattle.model.specs.Fault.Answered.{answer, answered, answer-is, name-inside}
+use Rattle.model.specs.Fault.Ties.{places}
+use Rattle.model.specs.Accept.{Within}
+use Rattle.model.specs.Accept.Laws.{within-accepted, accepted-within}
+use Rattle.model.specs.Accept.Places.{tally-passes}
+use Rattle.model.specs.Accept.Starts.{name-at, name-place}
+use Rattle.model.specs.Rule.{ruleOf, Readable, names as ruleNames}
+use Rattle.model.specs.Rule.Names.{names-model}
+use Rattle.fields.specs.Limits.{maxAtoms}
 use Rattle.judge.specs.Reading.{namePlace, noPlace, namesOf, readingBy, reading, partAt, partsOf}
 
 -- the parts of a text where its names stand

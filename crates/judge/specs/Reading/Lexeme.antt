@@ -6,15 +6,15 @@ use Prim.Native.Nat.{ℕ, _+_}
 use Prim.Native.Char.{code}
 use lib.Dec.{ltb, eqb}
 use lib.ListN.{length, drop, getD}
-use Rattle.judge.specs.declared.rule.Upper.the-variants.{Number, Unbounded}
+use Rattle.model.specs.declared.rule.Upper.the-variants.{Number, Unbounded}
 use Rattle.judge.specs.declared.text.Numeral.{Numeral}
 use Rattle.judge.specs.declared.text.Numeral.the-variants.{Value, Bad as NoNumeral}
 use Rattle.judge.specs.declared.text.Counted.{Counted}
 use Rattle.judge.specs.declared.text.Counted.the-variants.{Counts, Bad, Wrong}
-use Rattle.judge.specs.Bytes.{Text, isDigit, value, front}
-use Rattle.judge.specs.Fault.{is}
-use Rattle.judge.specs.Fault.Ties.{capped}
-use Rattle.judge.specs.Limits.{maxCount}
+use Rattle.fields.specs.Bytes.{Text, isDigit, value, front}
+use Rattle.model.specs.Fault.{is}
+use Rattle.model.specs.Fault.Ties.{capped}
+use Rattle.fields.specs.Limits.{maxCount}
 
 -- the digits of the numeral that a text begins with; none where it begins with none
 abbrev pub digits : Text → Text

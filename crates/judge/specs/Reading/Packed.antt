@@ -7,14 +7,14 @@ use Prim.Native.Char.{code}
 use native.Mathlib.Omega.{arith}
 use lib.Dec.{T, eqb, eqb→eq}
 use mir.Facts.{or-yes}
-use Rattle.judge.specs.declared.rule.Upper.the-variants.{Number, Unbounded}
-use Rattle.judge.specs.declared.rule.Sign.{Sign}
-use Rattle.judge.specs.declared.rule.Sign.the-variants.{None, Sequence, Choice, Interleaving}
-use Rattle.judge.specs.declared.rule.Mark.{Mark}
-use Rattle.judge.specs.declared.rule.Mark.the-variants.{Plain, Optional}
-use Rattle.judge.specs.declared.rule.Kind.{Kind}
-use Rattle.judge.specs.declared.rule.Kind.the-variants.{Atom, Group}
-use Rattle.judge.specs.declared.rule.Node.{Node}
+use Rattle.model.specs.declared.rule.Upper.the-variants.{Number, Unbounded}
+use Rattle.model.specs.declared.rule.Sign.{Sign}
+use Rattle.model.specs.declared.rule.Sign.the-variants.{None, Sequence, Choice, Interleaving}
+use Rattle.model.specs.declared.rule.Mark.{Mark}
+use Rattle.model.specs.declared.rule.Mark.the-variants.{Plain, Optional}
+use Rattle.model.specs.declared.rule.Kind.{Kind}
+use Rattle.model.specs.declared.rule.Kind.the-variants.{Atom, Group}
+use Rattle.model.specs.declared.rule.Node.{Node}
 use Rattle.judge.specs.declared.text.NamePlace.{NamePlace}
 
 -- the number of a node without a mark

@@ -13,13 +13,13 @@ use lib.Seq.{drop-cons, getD-take, take-all, take-nil}
 use mir.Facts.{or-yes}
 use borrow.Author.Tests.{eq-eqb, ne-eqb}
 use Rattle.judge.specs.declared.text.NamePlace.{NamePlace}
-use Rattle.judge.specs.Bytes.{Text, isInner, sameText}
-use Rattle.judge.specs.Bytes.Laws.{T-true, front-take, same-text}
-use Rattle.judge.specs.Fault.{nameAt, nameFrom, Twice}
-use Rattle.judge.specs.Fault.Ties.{places, in-places, twice-there, twice-only}
-use Rattle.judge.specs.Limits.{maxAtoms}
+use Rattle.fields.specs.Bytes.{Text, isInner, sameText}
+use Rattle.fields.specs.Bytes.Laws.{T-true, front-take, same-text}
+use Rattle.model.specs.Fault.{nameAt, nameFrom, Twice}
+use Rattle.model.specs.Fault.Ties.{places, in-places, twice-there, twice-only}
+use Rattle.fields.specs.Limits.{maxAtoms}
 use Rattle.judge.specs.declared.text.Names.{Names}
-use Rattle.judge.specs.Syntax.{numberFrom}
+use Rattle.model.specs.Syntax.{numberFrom}
 use Rattle.judge.specs.Reading.{namePlace, noPlace, partAt, partsOf}
 use Rattle.judge.specs.Reading.Packed.{placeOf}
 use Rattle.judge.specs.Reading.Lexeme.Laws.{front-short}
@@ -36,23 +36,6 @@ pub record Comparable (x : Text) (names : List ℕ) (n start end : ℕ) : Type 0
   pub held : map placeOf (take n names) ≡ map (namePlace x) (places x start)
   pub begins : start < length x
   pub ends : end ≡ start + length (nameFrom x start)
-
--- comparing two texts byte by byte
-pub same-lengths : (a b : Text) → (length a ≡ length b → ⊥) → false ≡ sameText a b
-same-lengths [] [] n = absurd (n refl)
-same-lengths [] (c ∷ b) n = refl
-same-lengths (c ∷ a) [] n = refl
-same-lengths (c ∷ a) (d ∷ b) n = rw (← same-lengths a b (λ e. n (ap suc e))) (sym (and-false (eqb c d)))
-
-module _ (a b : Text) (i : ℕ) where
-  pub same-step : i < length a → i < length b → getD a i 0 ≡ getD b i 0 → sameText (drop (i + 1) a) (drop (i + 1) b) ≡ sameText (drop i a) (drop i b)
-  same-step h k e = rw (drop-cons a i 0 h, drop-cons b i 0 k, eq-eqb (getD a i 0) (getD b i 0) e, add-one)
-
-  pub same-differ : i < length a → i < length b → (getD a i 0 ≡ getD b i 0 → ⊥) → false ≡ sameText (drop i a) (drop i b)
-  same-differ h k n = rw (drop-cons a i 0 h, drop-cons b i 0 k, ne-eqb (getD a i 0) (getD b i 0) n)
-
-  pub same-end : length a ≤ i → length b ≤ i → true ≡ sameText (drop i a) (drop i b)
-  same-end h k = rw (drop-of-length-le a {i = i} h, drop-of-length-le b {i = i} k)
 
 -- equal images: element by element
 pub images : {A B C : Type 0} (f : A → C) (g : B → C) (l : List A) (m : List B) → map f l ≡ map g m → (i : ℕ) (d : A) (e : B) → i < length l → f (getD l i d) ≡ g (getD m i e)

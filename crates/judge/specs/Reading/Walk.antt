@@ -8,25 +8,25 @@ use native.Mathlib.Omega.{arith}
 use lib.Dec.{eqb}
 use lib.ListN.{length, set, getD}
 use borrow.Author.Tests.{eqb-true}
-use Rattle.judge.specs.declared.fault.ModelFault.{ModelFault}
-use Rattle.judge.specs.declared.rule.Sign.{Sign}
-use Rattle.judge.specs.declared.rule.Mark.{Mark}
-use Rattle.judge.specs.declared.rule.Mark.the-variants.{Plain, Optional}
-use Rattle.judge.specs.declared.rule.Kind.{Kind}
-use Rattle.judge.specs.declared.rule.Kind.the-variants.{Atom, Group}
-use Rattle.judge.specs.declared.rule.Node.{Node as RuleNode}
+use Rattle.model.specs.declared.fault.ModelFault.{ModelFault}
+use Rattle.model.specs.declared.rule.Sign.{Sign}
+use Rattle.model.specs.declared.rule.Mark.{Mark}
+use Rattle.model.specs.declared.rule.Mark.the-variants.{Plain, Optional}
+use Rattle.model.specs.declared.rule.Kind.{Kind}
+use Rattle.model.specs.declared.rule.Kind.the-variants.{Atom, Group}
+use Rattle.model.specs.declared.rule.Node.{Node as RuleNode}
 use Rattle.judge.specs.declared.text.Cursor.{Cursor}
 use Rattle.judge.specs.declared.text.Got.{Got}
 use Rattle.judge.specs.declared.text.Got.the-variants.{Past, Fault as Faulty}
-use Rattle.judge.specs.Bytes.{Text}
-use Rattle.judge.specs.Tree.{Node, leaf, group, marked, Members, size, mapMembers}
-use Rattle.judge.specs.Syntax.{Count, unwritten, between, onward, Spelling, Syntax}
-use Rattle.judge.specs.Syntax.Machine.{byteOf, Frame, opened, signed, expect, after, State, dead, at, close, shut, stepAfter, step}
-use Rattle.judge.specs.Syntax.Complete.{behindAtom, behindNode, behind, after-parts}
-use Rattle.judge.specs.Syntax.Counters.{isExpect}
-use Rattle.judge.specs.Model.{countsOf, modelOf, encode, encodeAll}
-use Rattle.judge.specs.Rule.{unused}
-use Rattle.judge.specs.Fault.{is, refused, Answers}
+use Rattle.fields.specs.Bytes.{Text}
+use Rattle.model.specs.Tree.{Node, leaf, group, marked, Members, size, mapMembers}
+use Rattle.model.specs.Syntax.{Count, unwritten, between, onward, Spelling, Syntax}
+use Rattle.model.specs.Syntax.Machine.{byteOf, Frame, opened, signed, expect, after, State, dead, at, close, shut, stepAfter, step}
+use Rattle.model.specs.Syntax.Complete.{behindAtom, behindNode, behind, after-parts}
+use Rattle.model.specs.Syntax.Counters.{isExpect}
+use Rattle.model.specs.Model.{countsOf, modelOf, encode, encodeAll}
+use Rattle.model.specs.Rule.{unused}
+use Rattle.model.specs.Fault.{is, refused, Answers}
 use Rattle.judge.specs.Reading.{namePlace}
 use Rattle.judge.specs.Reading.Packed.{nodeOf, placeOf, plain, optional}
 use Rattle.judge.specs.Reading.Lexeme.Laws.{stands-inside}

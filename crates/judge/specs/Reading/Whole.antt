@@ -10,28 +10,28 @@ use lib.Dec.{T, ltb, eqb, eqb→eq, ltb→lt, nltb→le}
 use lib.ListN.{length, take, replicate}
 use lib.Seq.{take-length}
 use mir.Facts.{or-yes, or-no, eqb-no}
-use Rattle.judge.specs.declared.fault.ModelFault.{ModelFault}
-use Rattle.judge.specs.declared.fault.ModelFault.the-variants.{Size, Spelling as Misspelling}
-use Rattle.judge.specs.declared.rule.Mark.the-variants.{Plain, Optional}
-use Rattle.judge.specs.declared.rule.Rule.{Rule}
+use Rattle.model.specs.declared.fault.ModelFault.{ModelFault}
+use Rattle.model.specs.declared.fault.ModelFault.the-variants.{Size, Spelling as Misspelling}
+use Rattle.model.specs.declared.rule.Mark.the-variants.{Plain, Optional}
+use Rattle.model.specs.declared.rule.Rule.{Rule}
 use Rattle.judge.specs.declared.text.Cursor.{Cursor}
 use Rattle.judge.specs.declared.text.Names.{Names}
 use Rattle.judge.specs.declared.text.Outcome.the-variants.{Read}
 use Rattle.judge.specs.declared.text.Reading.{Reading}
 use Rattle.judge.specs.declared.text.Got.{Got}
 use Rattle.judge.specs.declared.text.Got.the-variants.{Past, Fault as Faulty}
-use Rattle.judge.specs.Bytes.{Text}
-use Rattle.judge.specs.Tree.{leaf, group, marked}
-use Rattle.judge.specs.Syntax.{Count, unwritten, between, onward, Syntax}
-use Rattle.judge.specs.Syntax.Machine.{atom, at, run, start, whole, result}
-use Rattle.judge.specs.Syntax.Complete.{behindAtom, behind}
-use Rattle.judge.specs.Model.{modelOf}
-use Rattle.judge.specs.Rule.{ruleOf}
-use Rattle.judge.specs.Limits.{maxText}
-use Rattle.judge.specs.Fault.{refused, accepted, Answers}
-use Rattle.judge.specs.Fault.Answered.{answer-is}
-use Rattle.judge.specs.Fault.Ties.{places}
-use Rattle.judge.specs.Fault.Places.{size-answers, dead-answers, accepted-answers}
+use Rattle.fields.specs.Bytes.{Text}
+use Rattle.model.specs.Tree.{leaf, group, marked}
+use Rattle.model.specs.Syntax.{Count, unwritten, between, onward, Syntax}
+use Rattle.model.specs.Syntax.Machine.{atom, at, run, start, whole, result}
+use Rattle.model.specs.Syntax.Complete.{behindAtom, behind}
+use Rattle.model.specs.Model.{modelOf}
+use Rattle.model.specs.Rule.{ruleOf}
+use Rattle.fields.specs.Limits.{maxText}
+use Rattle.model.specs.Fault.{refused, accepted, Answers}
+use Rattle.model.specs.Fault.Answered.{answer-is}
+use Rattle.model.specs.Fault.Ties.{places}
+use Rattle.model.specs.Fault.Places.{size-answers, dead-answers, accepted-answers}
 use Rattle.judge.specs.Reading.{namePlace, ruleWith, namesWith, namesOf, refusal, readingBy, reading}
 use Rattle.judge.specs.Reading.Packed.{nodeOf, placeOf}
 use Rattle.judge.specs.Reading.At.{next}

@@ -11,13 +11,13 @@ use lib.Dec.{T, eqb, leb}
 use lib.ListN.{length, take, drop, getD, set, length-append, length-map, length-take, length-drop, drop-of-length-le}
 use lib.Seq.{take-at, drop-at, take-all, take-add, drop-cons, drop-drop, drop-length, take-length, getD-set-same, getD-set-other}
 use borrow.Author.Tests.{eqb-true, eqb-false, leb-true, le-leb, lt-leb, lt-ltb}
-use Rattle.judge.specs.Tests.{by-test}
+use Rattle.fields.specs.Tests.{by-test}
 use Rattle.judge.specs.declared.text.NamePlace.{NamePlace}
-use Rattle.judge.specs.Bytes.{Text, sameText}
-use Rattle.judge.specs.Syntax.{numberFrom, numberIn}
-use Rattle.judge.specs.Bytes.Laws.{T-true}
-use Rattle.judge.specs.Word.{Word}
-use Rattle.judge.specs.Limits.{maxRow}
+use Rattle.fields.specs.Bytes.{Text, sameText}
+use Rattle.model.specs.Syntax.{numberFrom, numberIn}
+use Rattle.fields.specs.Bytes.Laws.{T-true}
+use Rattle.model.specs.Word.{Word}
+use Rattle.fields.specs.Limits.{maxRow}
 use Rattle.judge.specs.Judge.Laws.{judged}
 use Rattle.judge.specs.Reading.{reading, partAt, partsOf}
 use Rattle.fields.specs.declared.fault.CueFault.{CueFault}
@@ -27,7 +27,8 @@ use Rattle.fields.specs.declared.split.Heads.{Heads}
 use Rattle.fields.specs.Split.{tab, split, lines, field, part}
 use Rattle.fields.specs.Split.Laws.{part-rest}
 use Rattle.fields.specs.Heads.{headsOf, fields-three, Three, more-none}
-use Rattle.fields.specs.Children.{allNames, childrenOf, rowOf, rowAfter}
+use Rattle.fields.specs.Children.{allNames, childrenOf}
+use Rattle.judge.specs.Named.{rowOf, rowAfter}
 use Rattle.fields.specs.Children.Laws.{counted}
 use Rattle.sheet.specs.declared.line.Said.{Said}
 use Rattle.sheet.specs.declared.line.Said.the-variants.{Complete, Open, Dead, NoSheet}
@@ -45,7 +46,7 @@ use Rattle.sheet.specs.declared.listing.Listed.the-variants.{Written, Sh
 use Rattle.sheet.specs.Listing.{listingLine, listingBy, saidBy, saidOf, said, listing, listed, bySheet, byCues, bufferAfter}
 use Rattle.sheet.specs.Put.{Put, Fits}
 use Rattle.sheet.specs.Listing.Laws.{enough, line-length, word-short}
-use Rattle.judge.specs.Bytes.Numeral.{digits-length}
+use Rattle.fields.specs.Bytes.Numeral.{digits-length}
 use borrow.Rule.Slice.PartMut.{putMid}
 use Rattle.sheet.specs.Coded.{codeOf, decoded, listingCoded, Ready, Coded}
 

@@ -7,10 +7,10 @@ use native.Mathlib.Omega.{arith}
 use lib.Dec.{T, leb, ltb, eqb}
 use lib.ListN.{length, getD}
 use borrow.Author.Tests.{ltb-false}
-use Rattle.judge.specs.Tests.{by-test}
-use Rattle.judge.specs.Bytes.{Text, bytes, value, sameText}
-use Rattle.judge.specs.Bytes.Laws.{same-text}
-use Rattle.judge.specs.Limits.{maxRow}
+use Rattle.fields.specs.Tests.{by-test}
+use Rattle.fields.specs.Bytes.{Text, bytes, value, sameText}
+use Rattle.fields.specs.Bytes.Laws.{same-text}
+use Rattle.fields.specs.Limits.{maxRow}
 use Rattle.fields.specs.declared.fault.CueFault.{CueFault}
 use Rattle.fields.specs.declared.fault.CueFault.the-variants.{BadFields, BadNumber, NotAbove, NoName, ManyChildren}
 use Rattle.fields.specs.Split.{split, butLast, lines, behind, fields, field}

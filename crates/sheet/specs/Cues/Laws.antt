@@ -9,11 +9,11 @@ use lib.Dec.{leb, ltb, eqb}
 use lib.ListN.{length, take, drop, getD}
 use lib.Seq.{take-suc, drop-cons, drop-length}
 use borrow.Author.Tests.{eqb-true, eqb-false, eq-eqb, ne-eqb, ltb-true, ltb-false, lt-ltb, le-ltb, le-leb, lt-leb, leb-true}
-use Rattle.judge.specs.Tests.{by-test}
-use Rattle.judge.specs.Stack.{drop-back}
-use Rattle.judge.specs.Bytes.{Text, bytes, isDigit, all, value, sameText}
-use Rattle.judge.specs.Bytes.Laws.{value-snoc}
-use Rattle.judge.specs.Limits.{maxRow}
+use Rattle.fields.specs.Tests.{by-test}
+use Rattle.fields.specs.Stack.{drop-back}
+use Rattle.fields.specs.Bytes.{Text, bytes, isDigit, all, value, sameText}
+use Rattle.fields.specs.Bytes.Laws.{value-snoc}
+use Rattle.fields.specs.Limits.{maxRow}
 use Rattle.fields.specs.declared.fault.CueFault.{CueFault}
 use Rattle.fields.specs.declared.fault.CueFault.the-variants.{LongFile, Unended, BadFields, BadNumber, NotAbove, NoName, ManyChildren}
 use Rattle.fields.specs.declared.split.Heads.{Heads}

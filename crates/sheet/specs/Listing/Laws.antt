@@ -6,9 +6,9 @@ use native.Mathlib.Omega.{arith}
 use lib.Dec.{ltb}
 use lib.ListN.{length, length-append, length-take, length-drop}
 use borrow.Author.Tests.{ltb-true, ltb-false}
-use Rattle.judge.specs.Tests.{by-test}
-use Rattle.judge.specs.Bytes.{Text}
-use Rattle.judge.specs.Bytes.Numeral.{digits}
+use Rattle.fields.specs.Tests.{by-test}
+use Rattle.fields.specs.Bytes.{Text}
+use Rattle.fields.specs.Bytes.Numeral.{digits}
 use Rattle.fields.specs.declared.split.Heads.{Heads}
 use Rattle.fields.specs.Split.{lineFeed, tab, fields, part}
 use Rattle.fields.specs.Heads.{headsOf, fields-few, Three}

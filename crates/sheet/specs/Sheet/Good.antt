@@ -6,11 +6,11 @@ use Prim.Native.Nat.{ℕ, zero, suc, _<_}
 use native.Mathlib.Omega.{arith}
 use lib.Dec.{leb, ltb}
 use lib.ListN.{length, getD}
-use Rattle.judge.specs.Tests.{by-test}
-use Rattle.judge.specs.Bytes.{Text, sameText}
-use Rattle.judge.specs.Syntax.{Syntax}
-use Rattle.judge.specs.Fault.{Answer, Answers, refused, accepted}
-use Rattle.judge.specs.Fault.Answered.{answer, answered}
+use Rattle.fields.specs.Tests.{by-test}
+use Rattle.fields.specs.Bytes.{Text, sameText}
+use Rattle.model.specs.Syntax.{Syntax}
+use Rattle.model.specs.Fault.{Answer, Answers, refused, accepted}
+use Rattle.model.specs.Fault.Answered.{answer, answered}
 use Rattle.fields.specs.Split.{lines, behind}
 use Rattle.sheet.specs.declared.sheet.SheetFault.{SheetFault}
 use Rattle.sheet.specs.declared.sheet.SheetFault.the-variants.{LongFile, Unended, ManyRules}

@@ -9,17 +9,17 @@ use lib.Dec.{ltb, eqb, eqb·suc-zero}
 use lib.ListN.{length, take, drop, replicate, length-take, length-drop}
 use lib.Seq.{take-nil, drop-nil, take-take, drop-drop}
 use borrow.Author.Tests.{ltb-true, ltb-false, lt-ltb, le-ltb, eqb-true, eq-eqb, ne-eqb, not-true, not-false}
-use Rattle.judge.specs.Tests.{by-test}
+use Rattle.fields.specs.Tests.{by-test}
 use Rattle.judge.specs.declared.text.NamePlace.{NamePlace}
 use Rattle.judge.specs.declared.text.Names.{Names}
 use Rattle.judge.specs.declared.text.Reading.{Reading}
 use Rattle.judge.specs.declared.text.Outcome.the-variants.{Read as ModelRead, Refused as ModelRefused}
-use Rattle.judge.specs.declared.fault.ModelFault.{ModelFault}
-use Rattle.judge.specs.Bytes.{Text, bytes, sameText}
-use Rattle.judge.specs.Bytes.Laws.{same-text}
-use Rattle.judge.specs.Syntax.{numberFrom, numberIn}
-use Rattle.judge.specs.Fault.{Answer, refused, accepted}
-use Rattle.judge.specs.Fault.Answered.{answer}
+use Rattle.model.specs.declared.fault.ModelFault.{ModelFault}
+use Rattle.fields.specs.Bytes.{Text, bytes, sameText}
+use Rattle.fields.specs.Bytes.Laws.{same-text}
+use Rattle.model.specs.Syntax.{numberFrom, numberIn}
+use Rattle.model.specs.Fault.{Answer, refused, accepted}
+use Rattle.model.specs.Fault.Answered.{answer}
 use Rattle.judge.specs.Reading.{noPlace, namesWith, readingBy, reading, partAt, partsOf}
 use Rattle.fields.specs.declared.split.Heads.{Heads}
 use Rattle.fields.specs.Split.{tab, split, lines, behind, fields, field, part}

@@ -11,7 +11,7 @@ use lib.ListN.{length, take, drop, getD, set, replicate, length-append, length-r
 use lib.Seq.{take-suc, take-all, take-at, drop-cons, drop-length, getD-set-same, getD-set-other}
 use borrow.Author.Tests.{le-leb, lt-leb}
 use Rattle.judge.specs.declared.text.Names.{Names}
-use Rattle.judge.specs.Bytes.{Text}
+use Rattle.fields.specs.Bytes.{Text}
 use Rattle.judge.specs.Reading.{noPlace, namesWith, reading, partAt, partsOf}
 use Rattle.judge.specs.Reading.Filled.{filled, fill-length, fill-turn, names-filled}
 use Rattle.fields.specs.Split.{lineFeed, lines, behind, part, partEnd}

@@ -3,7 +3,7 @@ use mathlib.Core.Path.{_≡_, sym, _∙_}
 use Prim.Native.Nat.{_-_, _<_}
 use native.Mathlib.Omega.{arith}
 use lib.ListN.{length, take, drop}
-use Rattle.judge.specs.Stack.{unmapped}
+use Rattle.fields.specs.Stack.{unmapped}
 use Rattle.judge.specs.Reading.{partsOf}
 use Rattle.judge.specs.Reading.Search.{parts-many}
 use Rattle.fields.specs.Split.{tab, split}

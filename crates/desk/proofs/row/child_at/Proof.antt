@@ -10,7 +10,7 @@ use Rattle.desk.proofs.row.child_at.Tie as tie
 use Rattle.desk.proofs.row.child_at.Reads as reads
 use Rattle.desk.proofs.row.child_at.Lts as lts
 use Rattle.desk.proofs.row.ended.Reads as ended-reads
-use Rattle.judge.proofs.text.is_inner.Reads as is-inner-reads
+use Rattle.fields.proofs.bytes.is_inner.Reads as is-inner-reads
 use Rattle.desk.proofs.table.mix.Reads as mix-reads
 
 abbrev Inv-loop : tie.InvT-loop

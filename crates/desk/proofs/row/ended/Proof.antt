@@ -7,7 +7,7 @@ use Rattle.desk.proofs.row.ended.Statement.{statement}
 use Rattle.desk.proofs.row.ended.Tie as tie
 use Rattle.desk.proofs.row.ended.Reads as reads
 use Rattle.desk.proofs.row.ended.Lts as lts
-use Rattle.judge.proofs.text.is_letter.Reads as is-letter-reads
+use Rattle.fields.proofs.bytes.is_letter.Reads as is-letter-reads
 
 sub-len : tie.Need-sub-len
 sub-len c = search needs

@@ -6,7 +6,7 @@ use Prim.Native.Nat.{_+_, _-_, _≤_}
 use native.Mathlib.Omega.{arith}
 use lib.ListN.{length, length-set}
 use borrow.Author.Needs.{needs}
-use Rattle.judge.specs.Syntax.{numberIn}
+use Rattle.model.specs.Syntax.{numberIn}
 use Rattle.desk.specs.Table.{spotParts}
 use Rattle.desk.specs.Row.{Passed}
 use Rattle.desk.proofs.row.read_row.Statement.{statement}

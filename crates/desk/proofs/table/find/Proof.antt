@@ -3,7 +3,7 @@ use mathlib.Core.Path.{sym, ap, subst, _∙_}
 use Prim.Native.Nat.{_-_, _<_}
 use native.Mathlib.Omega.{arith}
 use borrow.Author.Needs.{needs}
-use Rattle.judge.specs.Bytes.{sameText}
+use Rattle.fields.specs.Bytes.{sameText}
 use Rattle.desk.specs.Table.{spotParts}
 use Rattle.desk.specs.Table.Laws.{Stands, ahead, walk-starts, walk-finds, walk-goes, walk-ends, spots-few, spot-named, spot-within, stands-at}
 use Rattle.desk.proofs.table.find.Statement.{statement}
@@ -13,7 +13,7 @@ use Rattle.desk.proofs.table.find.Lts as lts
 use Rattle.desk.proofs.table.len_of.Reads as len-of-reads
 use Rattle.desk.proofs.table.start_of.Reads as start-of-reads
 use Rattle.desk.proofs.table.wide.Reads as wide-reads
-use Rattle.judge.proofs.text.same_bytes.Reads as same-bytes-reads
+use Rattle.fields.proofs.bytes.same_bytes.Reads as same-bytes-reads
 
 abbrev Inv-loop : tie.InvT-loop
 Inv-loop model spots n heads next name hash k₀ k = Stands (spotParts model spots n) name k

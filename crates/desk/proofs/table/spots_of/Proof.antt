@@ -5,8 +5,8 @@ use Prim.Native.Nat.{_+_, _-_, _≤_}
 use lib.ListN.{length, take, set, length-set}
 use native.Mathlib.Omega.{arith}
 use borrow.Author.Needs.{needs}
-use Rattle.judge.specs.Stack.{unmapped}
-use Rattle.judge.specs.Limits.{maxAtoms}
+use Rattle.fields.specs.Stack.{unmapped}
+use Rattle.fields.specs.Limits.{maxAtoms}
 use Rattle.judge.specs.Reading.{noPlace}
 use Rattle.desk.specs.Table.{spotOf}
 use Rattle.desk.specs.Table.Laws.{spots-next}

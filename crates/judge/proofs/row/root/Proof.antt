@@ -4,7 +4,7 @@ use native.Mathlib.Omega.{arith}
 use mathlib.Core.Path.{_≡_, refl, _∙_}
 use Prim.Native.Nat.{_-_, _≤_, _+_}
 use lib.ListN.{length, take, drop, getD}
-use Rattle.judge.specs.Stack.{unmapped}
+use Rattle.fields.specs.Stack.{unmapped}
 use Rattle.judge.specs.Judge.Tally.{unseen}
 use Rattle.judge.specs.Judge.Root.{partAttribute, part-none, part-turn, name-turn, Passed, pass-none, pass-turn, pass-top, pass-empty}
 use Rattle.judge.proofs.row.root.Statement.{statement}
@@ -27,8 +27,8 @@ abbrev μ-loop : tie.MeasureT-loop
 empty-requires : tie.Need-empty-requires Inv-loop2 μ-loop2 Inv-loop μ-loop
 empty-requires c κs = search needs
 
-name-count-requires : tie.Need-name-count-requires Inv-loop2 μ-loop2 Inv-loop μ-loop
-name-count-requires c κs = search needs
+names-requires : tie.Need-names-requires Inv-loop2 μ-loop2 Inv-loop μ-loop
+names-requires c κs = search needs
 
 loop-holds : tie.Need-loop-holds Inv-loop2 μ-loop2 Inv-loop μ-loop
 loop-holds c =
@@ -37,7 +37,7 @@ loop-holds c =
       search needs,
       search needs,
       search needs,
-      pass-none (a .length) (λ k. getD (a .t3) k (unseen 0)) (a .t1 .nodes) (a .t1 .len) _ _ refl (c .name-count .ensures),
+      pass-none (a .length) (λ k. getD (a .t3) k (unseen 0)) (a .t1 .nodes) (a .t1 .len) _ _ refl (c .names .ensures),
     )
 
 sub-i : tie.Need-sub-i Inv-loop2 μ-loop2 Inv-loop μ-loop
@@ -52,11 +52,11 @@ element-copy-out-node c = search needs
 members-of-requires : tie.Need-members-of-requires Inv-loop2 μ-loop2 Inv-loop μ-loop
 members-of-requires c κs = search needs
 
-sub-smaller : tie.Need-sub-smaller Inv-loop2 μ-loop2 Inv-loop μ-loop
-sub-smaller c = search needs
+sub-lesser : tie.Need-sub-lesser Inv-loop2 μ-loop2 Inv-loop μ-loop
+sub-lesser c = search needs
 
-smaller-requires : tie.Need-smaller-requires Inv-loop2 μ-loop2 Inv-loop μ-loop
-smaller-requires c κs = search needs
+lesser-requires : tie.Need-lesser-requires Inv-loop2 μ-loop2 Inv-loop μ-loop
+lesser-requires c κs = search needs
 
 add-end : tie.Need-add-end Inv-loop2 μ-loop2 Inv-loop μ-loop
 add-end c = search needs
@@ -131,14 +131,14 @@ loop-again c =
     let s = c .before .before .before .before .before .before in
     let u = c .before .before .before .loop2 in
     let v = s .before .before .before .before .loop in
-    let z : u .at ≡ s .smaller .result + v .top = omega arith in (
+    let z : u .at ≡ s .lesser .result + v .top = omega arith in (
       search needs,
       omega arith,
       omega arith,
       omega arith,
       pass-turn (a .length) (λ k. getD (a .t3) k (unseen 0)) (r .nodes) (r .len) (v .i) _ (v .stack) (v .top) (v .name) _ _ _ (u .x) _
           (omega arith) (omega arith) (omega arith) (omega arith) (omega arith)
-          (s .before .members-of .ensures) (s .smaller .ensures) (c .before .atoms-of .ensures .0)
+          (s .before .members-of .ensures) (s .lesser .ensures) (c .before .atoms-of .ensures .0)
           (rw z at (u .inv .2)) (c .marked .ensures) (v .inv .4),
     )
 
@@ -170,14 +170,14 @@ root-spec =
     Inv-loop
     μ-loop
     empty-requires
-    name-count-requires
+    names-requires
     loop-holds
     sub-i
     mul-node
     element-copy-out-node
     members-of-requires
-    sub-smaller
-    smaller-requires
+    sub-lesser
+    lesser-requires
     add-end
     mul-here
     array-copy-out-here

@@ -6,8 +6,8 @@ use Rattle.judge.specs.Judge.Code.{verdict-tallied, readable-within}
 use Rattle.judge.proofs.row.verdict_by.Statement.{statement}
 use Rattle.judge.proofs.row.verdict_by.Tie as tie
 
-name-count-requires : tie.Need-name-count-requires
-name-count-requires c κs = search needs
+names-requires : tie.Need-names-requires
+names-requires c κs = search needs
 
 tally-row-requires : tie.Need-tally-row-requires
 tally-row-requires c κs =
@@ -29,13 +29,13 @@ returns c =
     let n = t .before in
     let a = n .before .before in
     c .verdict-seen .ensures
-    ∙ verdict-tallied (a .args .rule) (a .pre .0) (a .args .row .now) (a .pre .2) _ (n .name-count .ensures) (t .tally-row .result) (t .tally-row .ensures)
+    ∙ verdict-tallied (a .args .rule) (a .pre .0) (a .args .row .now) (a .pre .2) _ (n .names .ensures) (t .tally-row .result) (t .tally-row .ensures)
 
 pub verdict-by-spec : {M : Type 1} → statement M
 verdict-by-spec =
     tie.close
     (tie.spec
-    name-count-requires
+    names-requires
     tally-row-requires
     cast-verdict-seen
     verdict-seen-requires

@@ -3,7 +3,7 @@ use mathlib.Core.Path.{sym, ap, _∙_}
 use mathlib.Core.List.{tail}
 use native.Mathlib.Omega.{arith}
 use borrow.Author.Needs.{needs}
-use Rattle.judge.specs.Syntax.Machine.{here}
+use Rattle.model.specs.Syntax.Machine.{here}
 use Rattle.judge.specs.Reading.Walk.{stackOf, member-fault, group-fault}
 use Rattle.judge.specs.Reading.Group.{member-stops, member-bad, too-deep, many-groups, goes-in, closed-fits, group-member, sign-known, members-fit, node-fits, empty-inside, group-empty, group-ready, member-fits, group-stops, past-inside, group-ends, group-bad, group-joins, group-on}
 use mathlib.Core.Bool.{_&&_}
@@ -20,7 +20,7 @@ use Rattle.judge.proofs.text.member.Reads as member
 use Rattle.judge.proofs.text.member.Kinds as member-kinds
 use Rattle.judge.proofs.text.+group+member.Lts-member as member-lts
 use Rattle.judge.proofs.text.atom.Reads as atom-reads
-use Rattle.judge.proofs.text.is_letter.Reads as is-letter-reads
+use Rattle.fields.proofs.bytes.is_letter.Reads as is-letter-reads
 use Rattle.judge.proofs.text.mark.Reads as mark-reads
 use Rattle.judge.proofs.text.packed_group.Reads as packed-group-reads
 use Rattle.judge.proofs.text.parts.Reads as parts-reads

@@ -3,8 +3,8 @@ use Prim.Native.Nat.{_≤_, _+_, _-_}
 use mathlib.Core.Path.{_≡_, sym, ap, _∙_}
 use lib.ListN.{length}
 use native.Mathlib.Omega.{arith}
-use Rattle.judge.specs.Bytes.{isInner}
-use Rattle.judge.specs.Fault.{nameFrom}
+use Rattle.fields.specs.Bytes.{isInner}
+use Rattle.model.specs.Fault.{nameFrom}
 use Rattle.judge.specs.Reading.Lexeme.Laws.{front-step, front-stop, front-out}
 use Rattle.judge.proofs.text.name_end.Statement.{statement}
 use Rattle.judge.proofs.text.name_end.Tie as tie

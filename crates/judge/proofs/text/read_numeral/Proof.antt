@@ -5,7 +5,7 @@ use mathlib.Core.Bool.{true}
 use lib.ListN.{length, getD}
 use native.Mathlib.Omega.{arith}
 use borrow.Author.Tests.{ne-eqb}
-use Rattle.judge.specs.Bytes.{isDigit}
+use Rattle.fields.specs.Bytes.{isDigit}
 use Rattle.judge.specs.Reading.Lexeme.Laws.{Rest, digit-low, no-numeral, no-numeral-out, zero-alone, rest-first, rest-more, rest-stop, rest-out}
 use Rattle.judge.proofs.text.read_numeral.Statement.{statement}
 use Rattle.judge.proofs.text.read_numeral.Tie as tie

@@ -3,8 +3,8 @@ use Prim.Native.Nat.{_≤_, _-_}
 use mathlib.Core.Path.{_≡_, refl, sym, _∙_}
 use native.Mathlib.Omega.{arith}
 use lib.ListN.{drop}
-use Rattle.judge.specs.Fault.{nameFrom}
-use Rattle.judge.specs.Fault.Ties.{places}
+use Rattle.model.specs.Fault.{nameFrom}
+use Rattle.model.specs.Fault.Ties.{places}
 use Rattle.judge.specs.Reading.Search.{among, name-fits, name-part, earlier-fits, search-found, search-next, search-end}
 use Rattle.judge.proofs.text.repeated.Statement.{statement}
 use Rattle.judge.proofs.text.repeated.Tie as tie

@@ -12,9 +12,9 @@ use mir.Facts.{and-yes, or-no}
 use lib.ListN.{length, drop, getD, drop-of-length-le, List·getD-eq-default}
 use lib.Seq.{drop-cons}
 use Rattle.judge.specs.declared.text.Numeral.the-variants.{Value, Bad as NoNumeral}
-use Rattle.judge.specs.Bytes.{Text, isDigit, value, valueFrom, front}
-use Rattle.judge.specs.Fault.{is}
-use Rattle.judge.specs.Fault.Ties.{capped, capped-digit}
+use Rattle.fields.specs.Bytes.{Text, isDigit, value, valueFrom, front}
+use Rattle.model.specs.Fault.{is}
+use Rattle.model.specs.Fault.Ties.{capped, capped-digit}
 use Rattle.judge.specs.Reading.Lexeme.{digits, numeralAt}
 
 module _ (f : ℕ → Bool) (x : Text) (i : ℕ) where

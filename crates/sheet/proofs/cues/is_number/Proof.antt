@@ -4,7 +4,7 @@ use mathlib.Core.Bool.{_&&_}
 use Prim.Native.Nat.{_≤_}
 use lib.ListN.{length, drop, getD}
 use lib.Seq.{drop-length}
-use Rattle.judge.specs.Bytes.{isDigit, all}
+use Rattle.fields.specs.Bytes.{isDigit, all}
 use Rattle.sheet.specs.Cues.Laws.{number-refused, number-sized, number-zero, number-is, digits-back}
 use borrow.Author.Needs.{needs}
 use native.Mathlib.Omega.{arith}

@@ -3,7 +3,7 @@ use mathlib.Core.Path.{_≡_, sym, _∙_}
 use mathlib.Core.List.{[]}
 use Prim.Native.Nat.{_-_, _≤_}
 use lib.ListN.{length, drop}
-use Rattle.judge.specs.Bytes.Laws.{same-text}
+use Rattle.fields.specs.Bytes.Laws.{same-text}
 use Rattle.fields.specs.Split.{lineFeed, lines, behind, part}
 use Rattle.fields.specs.Split.Laws.{end-bounds, Stand, stand-start, stand-stop, stand-next}
 use Rattle.sheet.specs.Cues.{maxFile, cueLines, cuesRead}

@@ -4,7 +4,7 @@ use Prim.Native.Nat.{_-_, _≤_}
 use native.Mathlib.Numerals.{add-one}
 use lib.ListN.{length, take}
 use lib.Seq.{take-all}
-use Rattle.judge.specs.Bytes.{value}
+use Rattle.fields.specs.Bytes.{value}
 use Rattle.sheet.specs.Cues.Laws.{value-more, limit, limit-small}
 use borrow.Author.Needs.{needs}
 use native.Mathlib.Omega.{arith}

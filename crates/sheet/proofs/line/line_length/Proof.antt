@@ -2,7 +2,7 @@
 use mathlib.Core.Path.{sym, _∙_}
 use Rattle.fields.specs.Heads.{fields-three}
 use Rattle.sheet.specs.Listing.Laws.{enough, line-length, word-short}
-use Rattle.judge.specs.Bytes.Numeral.{digits-length}
+use Rattle.fields.specs.Bytes.Numeral.{digits-length}
 use Rattle.sheet.specs.Cues.Laws.{children-count}
 use native.Mathlib.Omega.{arith}
 use borrow.Author.Needs.{needs}

@@ -3,9 +3,9 @@ use mathlib.Core.Path.{_≡_, refl, sym, ap, _∙_}
 use mathlib.Core.List.{[]}
 use Prim.Native.Nat.{ℕ, _+_, _-_, _≤_, _<_}
 use lib.ListN.{length, getD, length-set}
-use Rattle.judge.specs.Syntax.{numberIn}
+use Rattle.model.specs.Syntax.{numberIn}
 use Rattle.judge.specs.Reading.{partsOf}
-use Rattle.judge.specs.Limits.{maxRow}
+use Rattle.fields.specs.Limits.{maxRow}
 use Rattle.fields.specs.Split.{lineFeed, lines, part}
 use Rattle.fields.specs.Split.Laws.{Stand, stand-start, stand-stop, stand-next, end-bounds}
 use Rattle.fields.specs.Heads.{fields-three}

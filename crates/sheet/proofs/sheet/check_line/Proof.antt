@@ -1,7 +1,7 @@
 -- Test by test, in the order of the numbers.
 use mathlib.Core.Path.{sym, ap, _∙_}
-use Rattle.judge.specs.Bytes.{bytes, sameText}
-use Rattle.judge.specs.Syntax.{numberIn}
+use Rattle.fields.specs.Bytes.{bytes, sameText}
+use Rattle.model.specs.Syntax.{numberIn}
 use Rattle.judge.specs.Reading.{partsOf}
 use Rattle.fields.specs.Heads.{fields-few, fields-three}
 use Rattle.fields.specs.Children.{shortName}

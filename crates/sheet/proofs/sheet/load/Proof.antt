@@ -1,7 +1,7 @@
 -- Size and last line, then the lines.
 use mathlib.Core.Path.{sym, _∙_}
 use mathlib.Core.List.{[]}
-use Rattle.judge.specs.Bytes.Laws.{same-text}
+use Rattle.fields.specs.Bytes.Laws.{same-text}
 use Rattle.fields.specs.Split.{behind}
 use Rattle.sheet.specs.Sheet.Walk.{not-loaded}
 use Rattle.sheet.specs.Sheet.Laws.{sheet-long, sheet-unended, sheet-begin}

@@ -1,0 +1,64 @@
+-- The book is a function of what it is fed: it gives one reply to each call, and there is one book after it.
+use mathlib.Core.Path.{_≡_, refl, sym, ap, _∙_}
+use mathlib.Core.List.{List, [], _∷_, _++_}
+use Prim.Native.Nat.{ℕ}
+use native.Mathlib.Omega.{arith}
+use lib.ListN.{length, length-append}
+use Rattle.model.specs.declared.rule.Rule.{Rule}
+use Rattle.model.specs.Word.{Word}
+use Rattle.model.specs.Verdict.Laws.{says-once}
+use Rattle.model.specs.Rule.{names}
+use Rattle.model.specs.Rule.Laws.{means-once}
+use Rattle.sessions.specs.Book.{Call, takingBack, Reply, says, nothing, Book, book, Enters, no-model, opens, no-name, no-room, adds, no-children, takes, judges, Keeps, done, next}
+
+-- no word that ends in x is empty
+pub ends-not-empty : (w : Word) (x : ℕ) → ¬ w ++ (x ∷ []) ≡ []
+ends-not-empty w x e = let l = length-append w (x ∷ []) in let z = ap length e in omega arith
+
+-- what stands before the last symbol is told by the word
+pub before-last : (v w : Word) (x y : ℕ) → v ++ (x ∷ []) ≡ w ++ (y ∷ []) → v ≡ w
+before-last [] [] x y e = refl
+before-last [] (b ∷ w) x y e = let z : [] ≡ w ++ (y ∷ []) = cc in absurd (ends-not-empty w y (sym z))
+before-last (a ∷ v) [] x y e = let z : v ++ (x ∷ []) ≡ [] = cc in absurd (ends-not-empty v x z)
+before-last (a ∷ v) (b ∷ w) x y e =
+    let t : v ++ (x ∷ []) ≡ w ++ (y ∷ []) = cc in
+    let h : a ≡ b = cc in
+    let i = before-last v w x y t in cc
+
+module _ {n : ℕ} where
+  enters-same : {b b′ c d : Book} {q : Call} {a a′ : Reply} → b ≡ b′ → Enters n b q a c → Enters n b′ q a′ d → (a ≡ a′) × (c ≡ d)
+  enters-same e (no-model h) (no-model k) = (refl, e)
+  enters-same e (no-model h) (opens k) = absurd (h k)
+  enters-same e (opens h) (no-model k) = absurd (k h)
+  enters-same e (opens h) (opens k) = (refl, refl)
+  enters-same e (no-name h) (no-name k) = (refl, e)
+  enters-same e (no-name h) (no-room k l) = let i = ap (λ (b : Book). names (b .rule)) e in absurd (omega arith)
+  enters-same e (no-name h) (adds k l) = let i = ap (λ (b : Book). names (b .rule)) e in absurd (omega arith)
+  enters-same e (no-room h i) (no-name k) = let j = ap (λ (b : Book). names (b .rule)) e in absurd (omega arith)
+  enters-same e (no-room h i) (no-room k l) = (refl, e)
+  enters-same e (no-room h i) (adds k l) = absurd (l (sym (ap (λ (b : Book). length (b .row)) e) ∙ i))
+  enters-same e (adds h i) (no-name k) = let j = ap (λ (b : Book). names (b .rule)) e in absurd (omega arith)
+  enters-same e (adds h i) (no-room k l) = absurd (i (ap (λ (b : Book). length (b .row)) e ∙ l))
+  enters-same e (adds {x = x} h i) (adds k l) = (refl, ap (λ (b : Book). book (b .rule) (b .row ++ (x ∷ []))) e)
+  enters-same e no-children no-children = (refl, e)
+  enters-same e no-children (takes {w = w} x) = absurd (ends-not-empty w x (sym (ap (λ (b : Book). b .row) e)))
+  enters-same e (takes {w = w} x) no-children = absurd (ends-not-empty w x (ap (λ (b : Book). b .row) e))
+  enters-same e (takes {w = v} x) (takes {w = w} y) =
+      let i = before-last v w x y (ap (λ (b : Book). b .row) e) in
+      let j = ap (λ (b : Book). b .rule) e in (refl, cc)
+  enters-same e (judges {w = w} {A = A} {v = u} m h) (judges {v = v} m′ k) =
+      let a = means-once m (rw (sym (ap (λ (b : Book). b .rule) e)) at m′) in
+      (ap says (says-once A w u v h (rw (sym a, sym (ap (λ (b : Book). b .row) e)) at k)), e)
+
+  -- the last number goes
+  pub takes-last : {r : Rule} (u w : Word) (x : ℕ) → u ≡ w ++ (x ∷ []) → Enters n (book r u) takingBack nothing (book r w)
+  takes-last u w x e = rw e (takes x)
+
+  pub enters-once : {b c d : Book} {q : Call} {a a′ : Reply} → Enters n b q a c → Enters n b q a′ d → (a ≡ a′) × (c ≡ d)
+  enters-once h k = enters-same refl h k
+
+  pub keeps-once : {b c d : Book} {qs : List Call} {rs rs′ : List Reply} → Keeps n b qs rs c → Keeps n b qs rs′ d → (rs ≡ rs′) × (c ≡ d)
+  keeps-once done done = (refl, refl)
+  keeps-once (next h hs) (next k ks) =
+      let e = enters-once h k in
+      let i = keeps-once hs (rw (sym (e .1)) at ks) in (cc, i .1)

@@ -1,0 +1,171 @@
+-- Each call does what the book does.
+use mathlib.Core.Path.{_≡_, refl, ap, _∙_}
+use mathlib.Core.Logic.{_↔_}
+use mathlib.Core.Bool.{true}
+use mathlib.Core.List.{[], _∷_, _++_, append-assoc}
+use Prim.Native.Nat.{ℕ, zero, suc, _+_, _-_, _≤_, _<_}
+use native.Mathlib.Nat.{sub-zero}
+use native.Mathlib.Omega.{arith}
+use lib.Dec.{leb, ltb}
+use lib.ListN.{length, set, replicate, length-append, length-replicate}
+use lib.Seq.{take-at, drop-at, set-at}
+use borrow.Author.Tests.{leb-true, leb-false, ltb-true, ltb-false}
+use Rattle.judge.specs.declared.fault.JudgeFault.the-variants.{NoModel}
+use Rattle.model.specs.declared.rule.Rule.{Rule}
+use Rattle.sessions.specs.declared.session.Outcome.the-variants.{Done}
+use Rattle.fields.specs.Tests.{by-test, untold}
+use Rattle.model.specs.Word.{Word}
+use Rattle.model.specs.Verdict.Laws.{verdict-says}
+use Rattle.model.specs.Rule.{Readable, names}
+use Rattle.model.specs.Rule.Decide.{readable, readable-is, ruleType, type-means, means-conflict-free}
+use Rattle.judge.specs.Judge.{Upto}
+use Rattle.sessions.specs.Book.{Call, opening, adding, takingBack, asking, nothing, refuses, Book, book, room, Enters, no-model, opens, no-name, no-room, adds, no-children, judges}
+use Rattle.sessions.specs.Book.Laws.{takes-last}
+use Rattle.sessions.specs.Session.{free, intact, checked, outcome}
+use Rattle.sessions.specs.Session.Calls.{World, plays, replyTo, shown}
+use Rattle.sessions.specs.Session.Laws.{AllFree, intact-tells}
+
+replicate-free : (n : ℕ) → AllFree (replicate n free)
+replicate-free zero = tt
+replicate-free (suc n) = (refl, replicate-free n)
+
+-- a word with a symbol more, and the trail that shows it
+length-longer : (w : Word) (x : ℕ) → length (w ++ (x ∷ [])) ≡ length w + 1
+length-longer w x = length-append w (x ∷ [])
+
+filled : (n : ℕ) (w : Word) (x : ℕ) → length w < n →
+    set (w ++ replicate (n - length w) free) (length w) x ≡ (w ++ (x ∷ [])) ++ replicate (n - length (w ++ (x ∷ []))) free
+filled n w x h =
+    let e : n - length w ≡ suc (n - (length w + 1)) = omega arith in
+    rw (e, length-longer w x, set-at w free (replicate (n - (length w + 1)) free) x (length w) refl, append-assoc)
+
+freed : (n : ℕ) (u w : Word) (x : ℕ) → u ≡ w ++ (x ∷ []) → length u ≤ n →
+    set (u ++ replicate (n - length u) free) (length u - 1) free ≡ w ++ replicate (n - length w) free
+freed n u w x i h =
+    let l : length u ≡ length w + 1 = ap length i ∙ length-longer w x in
+    let e : n - length w ≡ suc (n - (length w + 1)) = omega arith in
+    rw (l, i, append-assoc, set-at w x (replicate (n - (length w + 1)) free) free (length w + 1 - 1) (omega arith), e)
+
+upto-append : (m : ℕ) (v w : Word) → Upto m (v ++ w) ↔ (Upto m v × Upto m w)
+upto-append m [] w = (λ h. (tt, h), λ h. h .1)
+upto-append m (x ∷ v) w =
+    (λ h. let i = upto-append m v w .0 (h .1) in ((h .0, i .0), i .1), λ h. (h .0 .0, upto-append m v w .1 (h .0 .1, h .1)))
+
+below-apart : (m n : ℕ) → m < n → ¬ m ≡ n
+below-apart m n h e = omega arith
+
+empty : (w : Word) → length w ≤ 0 → w ≡ []
+empty [] h = refl
+empty (x ∷ w) h = absurd (omega arith)
+
+-- a word with symbols has a last one
+last : (w : Word) → 0 < length w → (v : Word) × (x : ℕ) × (w ≡ v ++ (x ∷ []))
+last [] h = absurd (omega arith)
+last (x ∷ []) h = ([], x, refl)
+last (x ∷ y ∷ w) h = let i = last (y ∷ w) (omega arith) in (x ∷ i .0, i .1, ap (λ (l : Word). x ∷ l) (i .2))
+
+-- what a book in a trail of n places keeps to
+pub record Kept (n : ℕ) (b : Book) : Type 0 where
+  pub known : Readable (b .rule)
+  pub named : Upto (names (b .rule)) (b .row)
+  pub fits : length (b .row) ≤ room n
+
+kept-fresh : (n : ℕ) (r : Rule) → Readable r → Kept n (book r [])
+kept-fresh n r h = record { known = h; named = tt; fits = omega arith }
+
+-- opening shows a fresh book, whatever session and trail there were
+opened : (w : World) (r : Rule) → readable r ≡ true → plays (opening r) w ≡ shown (length (w .trail)) (book r [])
+unfolding outcome
+opened w r e = rw (e, sub-zero)
+
+-- an opening that was not refused
+pub record Opened (w : World) (r : Rule) : Type 0 where
+  pub kept : Kept (length (w .trail)) (book r [])
+  pub shows : plays (opening r) w ≡ shown (length (w .trail)) (book r [])
+
+pub done-opened : (w : World) (r : Rule) → replyTo (opening r) w ≡ nothing → Opened w r
+unfolding outcome
+done-opened w r i = by-test (readable r)
+    (λ e. record { kept = kept-fresh (length (w .trail)) r (readable-is r .0 e); shows = opened w r e })
+    (λ e. let z : refuses NoModel ≡ nothing = rw e at i in let y : _≡_ {A = ℕ} 0 1 = cc in absurd (omega arith))
+
+-- a call on the world that shows a book does what the book does
+abbrev pub Agrees : ℕ → Book → Call → Type 0
+Agrees n b q = (c : Book) × Enters n b q (replyTo q (shown n b)) c × (plays q (shown n b) ≡ shown n c) × Kept n c
+
+module _ (n : ℕ) (b : Book) (k : Kept n b) where
+  length-shown : length (shown n b .trail) ≡ n
+  length-shown =
+      let h = k .fits in
+      length-append (b .row) (replicate (n - length (b .row)) free) ∙ rw length-replicate (omega arith)
+
+  readable-shown : readable (b .rule) ≡ true
+  readable-shown = readable-is (b .rule) .1 (k .known)
+
+  intact-shown : intact (length (b .row)) (names (b .rule)) (shown n b .trail) ≡ true
+  intact-shown =
+      intact-tells (length (b .row)) (names (b .rule)) (shown n b .trail) .1 (
+        rw length-shown (k .fits),
+        rw (take-at (b .row) (replicate (n - length (b .row)) free) (length (b .row)) refl) (k .named),
+        rw (drop-at (b .row) (replicate (n - length (b .row)) free) (length (b .row)) refl) (replicate-free (n - length (b .row))),
+      )
+
+  checked-shown : checked (shown n b .session) (shown n b .trail) ≡ Done
+  unfolding checked
+  checked-shown = rw (readable-shown, intact-shown)
+
+  agrees-opening : (r : Rule) → Agrees n b (opening r)
+  unfolding outcome
+  agrees-opening r = by-test (readable r)
+      (λ e. let h = readable-is r .0 e in
+      (book r [], rw e (opens h), opened (shown n b) r e ∙ ap (λ (m : ℕ). shown m (book r [])) length-shown, kept-fresh n r h))
+      (λ e. rw e (b, no-model (untold (readable r) (readable-is r) e), refl, k))
+
+  agrees-adding : (x : ℕ) → Agrees n b (adding x)
+  unfolding outcome
+  agrees-adding x =
+      let f = k .fits in
+      by-test (leb x (names (b .rule)))
+      (λ e. let h : x ≤ names (b .rule) = leb-true _ _ e in
+      by-test (ltb (length (b .row)) (room n))
+      (λ l. let g : length (b .row) < room n = ltb-true _ _ l in
+      let i = length-longer (b .row) x in
+      let j = filled n (b .row) x (omega arith) in
+      rw (checked-shown, e, length-shown, l) (
+        record { rule = b .rule; row = b .row ++ (x ∷ []) },
+        adds h (below-apart (length (b .row)) (room n) g),
+        cc,
+        record { known = k .known; named = upto-append _ (b .row) (x ∷ []) .1 (k .named, (h, tt)); fits = omega arith },
+      ))
+      (λ l. let g : room n ≤ length (b .row) = ltb-false _ _ l in
+      let i : length (b .row) ≡ room n = omega arith in rw (checked-shown, e, length-shown, l) (b, no-room h i, refl, k)))
+      (λ e. let h : names (b .rule) < x = leb-false _ _ e in rw (checked-shown, e) (b, no-name h, refl, k))
+
+  agrees-taking : Agrees n b takingBack
+  unfolding outcome
+  agrees-taking = by-test (ltb 0 (length (b .row)))
+      (λ e. let f = k .fits in
+      let (w, x, i) = last (b .row) (ltb-true _ _ e) in
+      let l : length (b .row) ≡ length w + 1 = ap length i ∙ length-longer w x in
+      let m : length (b .row) - 1 ≡ length w = omega arith in
+      let j = freed n (b .row) w x i (omega arith) in
+      rw (checked-shown, e) (
+        record { rule = b .rule; row = w },
+        takes-last (b .row) w x i,
+        cc,
+        record { known = k .known; named = upto-append _ w (x ∷ []) .0 (rw i at (k .named)) .0; fits = omega arith },
+      ))
+      (λ e. let h : length (b .row) ≤ 0 = ltb-false _ _ e in rw (checked-shown, e) (b, rw (empty (b .row) h) no-children, refl, k))
+
+  agrees-asking : Agrees n b asking
+  unfolding outcome
+  agrees-asking =
+      let m = type-means (k .known) in
+      rw (checked-shown, take-at (b .row) (replicate (n - length (b .row)) free) (length (b .row)) refl)
+      (b, judges m (verdict-says (ruleType (b .rule)) (means-conflict-free m) (b .row)), refl, k)
+
+pub agrees : (n : ℕ) (b : Book) → Kept n b → (q : Call) → Agrees n b q
+agrees n b k (opening r) = agrees-opening n b k r
+agrees n b k (adding x) = agrees-adding n b k x
+agrees n b k takingBack = agrees-taking n b k
+agrees n b k asking = agrees-asking n b k

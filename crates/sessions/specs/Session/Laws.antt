@@ -1,0 +1,53 @@
+-- What the tests of a session tell, and that each call does what the book does.
+use mathlib.Core.Path.{_≡_, refl}
+use mathlib.Core.Bool.{Bool, true, false}
+use mathlib.Core.List.{[], _∷_}
+use Prim.Native.Nat.{ℕ, _≤_}
+use native.Mathlib.Omega.{arith}
+use lib.Dec.{eqb}
+use lib.ListN.{length, take, drop}
+use borrow.Author.Tests.{eq-eqb, eqb-true}
+use Rattle.judge.specs.declared.fault.JudgeFault.the-variants.{NoModel, BadTrail}
+use Rattle.judge.specs.declared.fault.JudgeFault.{JudgeFault}
+use Rattle.sessions.specs.declared.session.Session.{Session}
+use Rattle.sessions.specs.declared.session.Outcome.{Outcome}
+use Rattle.sessions.specs.declared.session.Outcome.the-variants.{Done, Refused}
+use Rattle.fields.specs.Tests.{Tells, tells-le, tells-and, tells-three}
+use Rattle.model.specs.Rule.{names}
+use Rattle.model.specs.Rule.Decide.{readable}
+use Rattle.judge.specs.Judge.{Upto}
+use Rattle.judge.specs.Judge.Laws.{upto-tells}
+use Rattle.sessions.specs.Book.{room}
+use Rattle.sessions.specs.Session.{Trail, free, allFree, intact, check, _then_, checked}
+
+-- every place is free
+abbrev pub AllFree : Trail → Type 0
+AllFree [] = Unit {0}
+AllFree (x ∷ t) = (x ≡ free) × AllFree t
+
+pub all-free-tells : (t : Trail) → Tells (allFree t) (AllFree t)
+all-free-tells [] = (λ e. tt, λ h. refl)
+all-free-tells (x ∷ t) = tells-and (eqb x free) (allFree t) (eqb-true x free, eq-eqb x free) (all-free-tells t)
+
+-- 42 does not stand
+abbrev pub Intact : ℕ → ℕ → Trail → Type 0
+Intact children named t = (children ≤ room (length t)) × Upto named (take children t) × AllFree (drop children t)
+
+pub intact-tells : (children named : ℕ) (t : Trail) → Tells (intact children named t) (Intact children named t)
+unfolding intact
+intact-tells k m t = tells-three _ _ _ (tells-le _ _) (upto-tells m (take k t)) (all-free-tells (drop k t))
+
+-- a check is passed where its condition holds, and a row of checks where each is
+pub check-done : (b : Bool) (f : JudgeFault) → check b f ≡ Done → b ≡ true
+check-done true f e = refl
+check-done false f e = let z : _≡_ {A = ℕ} 0 1 = cc in absurd (omega arith)
+
+pub then-done : (o p : Outcome) → (o then p) ≡ Done → (o ≡ Done) × (p ≡ Done)
+then-done Done p e = (refl, e)
+then-done (Refused f) p e = let z : _≡_ {A = ℕ} 0 1 = cc in absurd (omega arith)
+
+pub checked-done : (s : Session) (t : Trail) → checked s t ≡ Done → (readable (s .rule) ≡ true) × (intact (s .children) (names (s .rule)) t ≡ true)
+unfolding checked
+checked-done s t e =
+    let (a, b) = then-done (check (readable (s .rule)) NoModel) _ e in
+    (check-done (readable (s .rule)) NoModel a, check-done (intact (s .children) (names (s .rule)) t) BadTrail b)

@@ -1,0 +1,196 @@
+-- The table of document 01 for the calls of a session: when each refusal stands, and that a call is refused with the one of the smallest number.
+use mathlib.Core.Path.{_≡_, refl, sym, ap, _∙_}
+use mathlib.Core.Logic.{_↔_}
+use mathlib.Core.Bool.{cond}
+use Prim.Native.Nat.{ℕ, _≤_, _<_}
+use native.Mathlib.Omega.{arith}
+use lib.Dec.{leb, ltb, eqb}
+use lib.ListN.{length, take}
+use borrow.Author.Tests.{leb-true, leb-false, ltb-true, ltb-false}
+use Rattle.judge.specs.declared.fault.JudgeFault.{JudgeFault}
+use Rattle.judge.specs.declared.fault.JudgeFault.the-variants.{NoModel, LongRow, BadTrail, NoName, NoRoom, NoChildren}
+use Rattle.model.specs.declared.rule.Rule.{Rule}
+use Rattle.sessions.specs.declared.session.Outcome.{Outcome}
+use Rattle.sessions.specs.declared.session.Outcome.the-variants.{Done, Refused}
+use Rattle.sessions.specs.declared.session.Session.{Session}
+use Rattle.judge.specs.declared.verdict.Judged.{Judged}
+use Rattle.judge.specs.declared.verdict.Judged.the-variants.{Verdict, Refused as RefusedRow}
+use Rattle.model.specs.Types.{Ty}
+use Rattle.model.specs.Verdict.{Says}
+use Rattle.model.specs.Verdict.Laws.{says-once, verdict-says}
+use Rattle.model.specs.Rule.Laws.{means-once}
+use Rattle.fields.specs.Tests.{by-test, untold}
+use Rattle.model.specs.Rule.{Readable, Means, names}
+use Rattle.model.specs.Rule.Decide.{readable, readable-is, ruleType, type-means, means-conflict-free}
+use Rattle.judge.specs.Judge.{judgeNumber}
+use Rattle.sessions.specs.Book.{Call, opening, adding, takingBack, asking, room}
+use Rattle.sessions.specs.Session.{Trail, intact, _then_, checked, outcome, judgedBy, asked}
+use Rattle.sessions.specs.Session.Laws.{Intact, intact-tells, checked-done}
+
+-- every call but opening looks at the session that it is given
+abbrev pub Later : Call → Type 0
+Later (opening r) = ⊥
+Later (adding x) = Unit {0}
+Later takingBack = Unit {0}
+Later asking = Unit {0}
+
+-- a refusal that the call tries, and when it stands
+pub data Fault (s : Session) (t : Trail) : Call → JudgeFault → Type 0 where
+  no-rule : {r : Rule} → ¬ Readable r → Fault s t (opening r) NoModel
+  no-model : {q : Call} → Later q → ¬ Readable (s .rule) → Fault s t q NoModel
+  bad-trail : {q : Call} → Later q → ¬ Intact (s .children) (names (s .rule)) t → Fault s t q BadTrail
+  no-name : {x : ℕ} → names (s .rule) < x → Fault s t (adding x) NoName
+  no-room : {x : ℕ} → room (length t) ≤ s .children → Fault s t (adding x) NoRoom
+  no-children : s .children ≡ 0 → Fault s t takingBack NoChildren
+
+abbrev pub Answers : Session → Trail → Call → Outcome → Type 0
+Answers s t q Done = (g : JudgeFault) → ¬ Fault s t q g
+Answers s t q (Refused f) = Fault s t q f × ((g : JudgeFault) → Fault s t q g → judgeNumber f ≤ judgeNumber g)
+
+then-no-more : (o : Outcome) → (o then Done) ≡ o
+then-no-more Done = refl
+then-no-more (Refused f) = refl
+
+-- the fault of a number
+numbered : ℕ → JudgeFault
+numbered n =
+    cond (eqb n 40) NoModel (cond (eqb n 41) LongRow (cond (eqb n 42) BadTrail (cond (eqb n 43) NoName (cond (eqb n 44) NoRoom NoChildren))))
+
+numbered-is : (f : JudgeFault) → numbered (judgeNumber f) ≡ f
+unfolding numbered
+numbered-is NoModel = refl
+numbered-is LongRow = refl
+numbered-is BadTrail = refl
+numbered-is NoName = refl
+numbered-is NoRoom = refl
+numbered-is NoChildren = refl
+
+module _ (s : Session) (t : Trail) where
+  pub answers-once : (q : Call) (o p : Outcome) → Answers s t q o → Answers s t q p → o ≡ p
+  answers-once q Done Done h k = refl
+  answers-once q Done (Refused g) h k = absurd (h g (k .0))
+  answers-once q (Refused f) Done h k = absurd (k f (h .0))
+  answers-once q (Refused f) (Refused g) h k =
+      let i = h .1 g (k .0) in
+      let j = k .1 f (h .0) in
+      let e : judgeNumber f ≡ judgeNumber g = omega arith in
+      ap Refused (sym (numbered-is f) ∙ ap numbered e ∙ numbered-is g)
+
+  above-model : {q : Call} (g : JudgeFault) → Fault s t q g → 40 ≤ judgeNumber g
+  above-model g (no-rule h) = omega arith
+  above-model g (no-model l h) = omega arith
+  above-model g (bad-trail l h) = omega arith
+  above-model g (no-name h) = omega arith
+  above-model g (no-room h) = omega arith
+  above-model g (no-children h) = omega arith
+
+  openable : (r : Rule) → Readable r → (g : JudgeFault) → ¬ Fault s t (opening r) g
+  openable r k g (no-rule h) = h k
+  openable r k g (no-model l h) = l
+  openable r k g (bad-trail l h) = l
+
+  module _ (r : Readable (s .rule)) where
+    above-trail : {q : Call} → Later q → (g : JudgeFault) → Fault s t q g → 42 ≤ judgeNumber g
+    above-trail l g (no-rule h) = absurd l
+    above-trail l g (no-model m h) = absurd (h r)
+    above-trail l g (bad-trail m h) = omega arith
+    above-trail l g (no-name h) = omega arith
+    above-trail l g (no-room h) = omega arith
+    above-trail l g (no-children h) = omega arith
+
+    module _ (i : Intact (s .children) (names (s .rule)) t) where
+      above-name : (x : ℕ) (g : JudgeFault) → Fault s t (adding x) g → 43 ≤ judgeNumber g
+      above-name x g (no-model l h) = absurd (h r)
+      above-name x g (bad-trail l h) = absurd (h i)
+      above-name x g (no-name h) = omega arith
+      above-name x g (no-room h) = omega arith
+
+      above-room : (x : ℕ) → x ≤ names (s .rule) → (g : JudgeFault) → Fault s t (adding x) g → 44 ≤ judgeNumber g
+      above-room x n g (no-model l h) = absurd (h r)
+      above-room x n g (bad-trail l h) = absurd (h i)
+      above-room x n g (no-name h) = absurd (omega arith)
+      above-room x n g (no-room h) = omega arith
+
+      addable : (x : ℕ) → x ≤ names (s .rule) → s .children < room (length t) → (g : JudgeFault) → ¬ Fault s t (adding x) g
+      addable x n m g (no-model l h) = absurd (h r)
+      addable x n m g (bad-trail l h) = absurd (h i)
+      addable x n m g (no-name h) = absurd (omega arith)
+      addable x n m g (no-room h) = absurd (omega arith)
+
+      above-children : (g : JudgeFault) → Fault s t takingBack g → 45 ≤ judgeNumber g
+      above-children g (no-model l h) = absurd (h r)
+      above-children g (bad-trail l h) = absurd (h i)
+      above-children g (no-children h) = omega arith
+
+      takeable : 0 < s .children → (g : JudgeFault) → ¬ Fault s t takingBack g
+      takeable n g (no-model l h) = absurd (h r)
+      takeable n g (bad-trail l h) = absurd (h i)
+      takeable n g (no-children h) = absurd (omega arith)
+
+      askable : (g : JudgeFault) → ¬ Fault s t asking g
+      askable g (no-model l h) = absurd (h r)
+      askable g (bad-trail l h) = absurd (h i)
+
+  opening-answers : (r : Rule) → Answers s t (opening r) (outcome (opening r) s t)
+  unfolding outcome
+  opening-answers r = by-test (readable r)
+      (λ e. rw e (openable r (readable-is r .0 e)))
+      (λ e. rw e (no-rule (untold (readable r) (readable-is r) e), above-model))
+
+  -- 40 and 42 come before what else a call tries
+  checked-answers : (q : Call) → Later q → (o : Outcome)
+      → (Readable (s .rule) → Intact (s .children) (names (s .rule)) t → Answers s t q o) → Answers s t q (checked s t then o)
+  unfolding checked
+  checked-answers q l o k =
+      by-test (readable (s .rule))
+      (λ e. let r = readable-is (s .rule) .0 e in
+      by-test (intact (s .children) (names (s .rule)) t)
+      (λ f. rw (e, f) (k r (intact-tells (s .children) (names (s .rule)) t .0 f)))
+      (λ f. rw (e, f) (bad-trail l (untold _ (intact-tells (s .children) (names (s .rule)) t) f), above-trail r l)))
+      (λ e. rw e (no-model l (untold _ (readable-is (s .rule)) e), above-model))
+
+  pub outcome-answers : (q : Call) → Answers s t q (outcome q s t)
+  unfolding outcome
+  outcome-answers (opening r) = opening-answers r
+  outcome-answers (adding x) = checked-answers (adding x) tt _ (λ r i.
+      by-test (leb x (names (s .rule)))
+      (λ e. let n = leb-true x (names (s .rule)) e in
+      by-test (ltb (s .children) (room (length t)))
+      (λ f. rw (e, f) (addable r i x n (ltb-true _ _ f)))
+      (λ f. rw (e, f) (no-room (ltb-false _ _ f), above-room r i x n)))
+      (λ e. rw e (no-name (leb-false _ _ e), above-name r i x)))
+  outcome-answers takingBack = checked-answers takingBack tt _ (λ r i.
+      by-test (ltb 0 (s .children))
+      (λ e. rw e (takeable r i (ltb-true _ _ e)))
+      (λ e. let h : s .children ≤ 0 = ltb-false _ _ e in rw e (no-children (omega arith), above-children r i)))
+  outcome-answers asking = rw (then-no-more (checked s t)) at (checked-answers asking tt Done (λ r i. askable r i))
+
+  -- a call is refused exactly as the table says
+  pub outcome-is : (q : Call) (o : Outcome) → (outcome q s t ≡ o) ↔ Answers s t q o
+  outcome-is q o = (λ e. rw e at (outcome-answers q), λ h. answers-once q (outcome q s t) o (outcome-answers q) h)
+
+-- what asking is answered
+abbrev pub Asks : Session → Trail → Judged → Type 0
+Asks s t (Verdict v) = ((g : JudgeFault) → ¬ Fault s t asking g) × ((A : Ty) × Means (s .rule) A × Says A (take (s .children) t) v)
+Asks s t (RefusedRow f) = Answers s t asking (Refused f)
+
+module _ (s : Session) (t : Trail) where
+  asks-once : (a b : Judged) → Asks s t a → Asks s t b → a ≡ b
+  asks-once (Verdict u) (Verdict v) (h, (A, m, i)) (k, (B, n, j)) =
+      let e = means-once n m in
+      ap Verdict (says-once A (take (s .children) t) u v i (rw e at j))
+  asks-once (Verdict u) (RefusedRow g) h k = absurd (h .0 g (k .0))
+  asks-once (RefusedRow f) (Verdict v) h k = absurd (k .0 f (h .0))
+  asks-once (RefusedRow f) (RefusedRow g) h k = let e = answers-once s t asking (Refused f) (Refused g) h k in cc
+
+  asked-asks : (o : Outcome) → o ≡ outcome asking s t → Asks s t (judgedBy o s t)
+  unfolding outcome
+  asked-asks Done e =
+      let m = type-means (readable-is (s .rule) .0 (checked-done s t (sym e) .0)) in
+      (rw (sym e) at (outcome-answers s t asking), (ruleType (s .rule), m, verdict-says (ruleType (s .rule)) (means-conflict-free m) (take (s .children) t)))
+  asked-asks (Refused f) e = rw (sym e) at (outcome-answers s t asking)
+
+  pub asked-is : (a : Judged) → (asked s t ≡ a) ↔ Asks s t a
+  asked-is a =
+      let h = asked-asks (outcome asking s t) refl in
+      (λ e. rw e at h, λ k. asks-once (asked s t) a h k)

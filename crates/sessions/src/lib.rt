@@ -1,0 +1,3 @@
+// Sessions: rows that grow and shrink, child by child.
+
+pub mod session;

@@ -1,0 +1,202 @@
+// Sessions: a rule and how many children there are. The children stand in a trail that the caller lends, one place each.
+
+ghost use mathlib.Core.Path.{_≡_};
+ghost use lib.ListN.{length, replicate};
+ghost use Rattle.judge.specs.Judge.Laws.{upto};
+ghost use Rattle.sessions.specs.Book.{opening, adding, takingBack, room};
+ghost use Rattle.sessions.specs.Session.{free, allFree, intact, checked, Does, asked};
+use model::nodes::names;
+use model::check::is_readable;
+use crate::fault::JudgeFault;
+use crate::row::MAX_ROW;
+use crate::row::verdict_by;
+use model::rule::NameNumber;
+use model::rule::Rule;
+use crate::verdict::Judged;
+
+// What a free place holds.
+pub const FREE: u16 = 65535;
+
+pub struct Session {
+    pub rule: Rule,
+    pub children: usize,
+}
+
+pub enum Outcome {
+    Done,
+    Refused(JudgeFault),
+}
+
+// The session as it then stands, and what the call was answered.
+pub struct Step {
+    pub session: Session,
+    pub outcome: Outcome,
+}
+
+// The trail's length, or 4,096 if that is less.
+fn room_in(places: usize) -> usize
+    ensures { λ r. ⌜ r ≡ room places ⌝ }
+{
+    if places < MAX_ROW { places } else { MAX_ROW }
+}
+
+// Whether no number is above the names.
+fn all_named(names: usize, row: &[u16]) -> bool
+    ensures { λ r. ⌜ r ≡ upto names (now (row .entry)) ⌝ }
+{
+    let mut named = true;
+    let mut i = row.len();
+    while 0 < i {
+        i -= 1;
+        named = (row[i] as usize <= names) & named;
+    }
+    named
+}
+
+fn all_free(places: &[u16]) -> bool
+    ensures { λ r. ⌜ r ≡ allFree (now (places .entry)) ⌝ }
+{
+    let mut found = true;
+    let mut i = places.len();
+    while 0 < i {
+        i -= 1;
+        found = (places[i] == FREE) & found;
+    }
+    found
+}
+
+fn free_all(trail: &mut [u16])
+    ensures { λ r. ⌜ now (trail .exit) ≡ replicate (length (now (trail .entry))) free ⌝ }
+{
+    let mut i: usize = 0;
+    while i < trail.len() {
+        trail[i] = FREE;
+        i += 1;
+    }
+}
+
+// Whether a trail is as a session of so many children, by a rule of so many names, leaves it: not so is 42.
+fn is_intact(children: usize, names: usize, trail: &[u16]) -> bool
+    ensures { λ r. ⌜ r ≡ intact children names (now (trail .entry)) ⌝ }
+{
+    let places = trail.len();
+    let most = room_in(places);
+    if children <= most {
+        let named = all_named(names, &trail[0..children]);
+        let rest = all_free(&trail[children..places]);
+        named & rest
+    } else {
+        false
+    }
+}
+
+fn refused(session: Session, fault: JudgeFault) -> Step
+    ensures { λ r. ⌜ r ≡ record { session = session; outcome = Outcome.Refused fault } ⌝ }
+{
+    Step {
+        session: session,
+        outcome: Outcome::Refused(fault),
+    }
+}
+
+fn done(rule: Rule, children: usize) -> Step
+    ensures { λ r. ⌜ r ≡ record { session = record { rule = rule; children = children }; outcome = Outcome.Done } ⌝ }
+{
+    let session = Session {
+        rule: rule,
+        children: children,
+    };
+    Step {
+        session: session,
+        outcome: Outcome::Done,
+    }
+}
+
+impl Session {
+    // 40 and 42, which every call but opening tries first.
+    fn checked(self, trail: &[u16]) -> Outcome
+        ensures { λ r. ⌜ r ≡ checked self (now (trail .entry)) ⌝ }
+    {
+        let rule = self.rule;
+        let children = self.children;
+        let good = is_readable(rule);
+        if good {
+            let names = names(rule);
+            let whole = is_intact(children, names, trail);
+            if whole {
+                return Outcome::Done;
+            }
+            return Outcome::Refused(JudgeFault::BadTrail);
+        }
+        Outcome::Refused(JudgeFault::NoModel)
+    }
+
+    // Refused with 40. Else a session of the rule with no children, and every place is free.
+    pub fn open(self, rule: Rule, trail: &mut [u16]) -> Step
+        ensures { λ r. ⌜ Does (opening rule) self (now (trail .entry)) r (now (trail .exit)) ⌝ }
+    {
+        let good = is_readable(rule);
+        if good {
+            free_all(trail);
+            return done(rule, 0);
+        }
+        refused(self, JudgeFault::NoModel)
+    }
+
+    // Refused with 40, 42, 43 or 44. Else the next place holds the name's number.
+    pub fn add(self, name: NameNumber, trail: &mut [u16]) -> Step
+        ensures { λ r. ⌜ Does (adding (name .0)) self (now (trail .entry)) r (now (trail .exit)) ⌝ }
+    {
+        let rule = self.rule;
+        let children = self.children;
+        let number = name.0;
+        match self.checked(trail) {
+            Outcome::Refused(fault) => refused(self, fault),
+            Outcome::Done => {
+                let names = names(rule);
+                if names < number as usize {
+                    return refused(self, JudgeFault::NoName);
+                }
+                let most = room_in(trail.len());
+                if most <= children {
+                    return refused(self, JudgeFault::NoRoom);
+                }
+                trail[children] = number;
+                done(rule, children + 1)
+            }
+        }
+    }
+
+    // Refused with 40, 42 or 45. Else the last filled place is free.
+    pub fn take_back(self, trail: &mut [u16]) -> Step
+        ensures { λ r. ⌜ Does takingBack self (now (trail .entry)) r (now (trail .exit)) ⌝ }
+    {
+        let rule = self.rule;
+        let children = self.children;
+        match self.checked(trail) {
+            Outcome::Refused(fault) => refused(self, fault),
+            Outcome::Done => {
+                if children == 0 {
+                    return refused(self, JudgeFault::NoChildren);
+                }
+                trail[children - 1] = FREE;
+                done(rule, children - 1)
+            }
+        }
+    }
+
+    // Refused with 40 or 42. Else the verdict on the children by the session's rule.
+    pub fn verdict(self, trail: &[u16]) -> Judged
+        ensures { λ r. ⌜ r ≡ asked self (now (trail .entry)) ⌝ }
+    {
+        let rule = self.rule;
+        let children = self.children;
+        match self.checked(trail) {
+            Outcome::Refused(fault) => Judged::Refused(fault),
+            Outcome::Done => {
+                let verdict = verdict_by(rule, &trail[0..children]);
+                Judged::Verdict(verdict)
+            }
+        }
+    }
+}
