@@ -4,15 +4,15 @@
 ghost use mathlib.Core.Path.{_≡_};
 ghost use Rattle.judge.specs.Judge.{judgeNumber};
 use judge::fault::JudgeFault;
+use judge::text::read_model;
+use judge::verdict::Judged;
+use libc::STDOUT_FILENO;
 use model::rule::NameNumber;
 use model::rule::Rule;
+use model::verdict::Verdict;
 use sessions::session::FREE;
 use sessions::session::Outcome;
 use sessions::session::Session;
-use judge::text::read_model;
-use judge::verdict::Judged;
-use model::verdict::Verdict;
-use libc::STDOUT_FILENO;
 
 fn text(bytes: &[u8]) {
     io::write_all(STDOUT_FILENO, bytes);

@@ -18,14 +18,14 @@ use crate::table::spots_of;
 use fields::children::Children;
 use fields::children::MAX_ROW;
 use fields::fault::CueFault;
-use model::fault::ModelFault;
 use judge::row::judge_row;
-use model::rule::MAX_ATOMS;
-use model::rule::Rule;
 use judge::text::Names;
 use judge::text::Outcome;
 use judge::text::read_model;
 use judge::verdict::Judged;
+use model::fault::ModelFault;
+use model::rule::MAX_ATOMS;
+use model::rule::Rule;
 use model::verdict::Verdict;
 
 pub const MAX_CHILDREN_TEXT: usize = 65535;

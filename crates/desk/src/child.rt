@@ -15,11 +15,11 @@ use fields::children::count_children;
 use fields::fault::CueFault;
 use fields::split::TAB;
 use fields::split::part_end;
-use model::fault::ModelFault;
 use judge::text::Names;
 use judge::text::Outcome;
 use judge::text::number_of;
 use judge::text::read_model;
+use model::fault::ModelFault;
 
 // A first place and a length, in the model text or in the children text; or the refusal.
 pub enum Located {

@@ -11,14 +11,14 @@ ghost use Rattle.desk.specs.Row.{childAt, nameTo, RowRead};
 use crate::table::SLOTS;
 use crate::table::find;
 use crate::table::mix;
+use fields::bytes::is_inner;
+use fields::bytes::is_letter;
 use fields::children::Children;
 use fields::children::MAX_NAME;
 use fields::children::MAX_ROW;
 use fields::fault::CueFault;
 use fields::split::TAB;
 use model::rule::MAX_ATOMS;
-use fields::bytes::is_inner;
-use fields::bytes::is_letter;
 
 // Where a child ends, the hash of its bytes, and whether it is a name of 1 to 32 characters.
 pub struct Child {

@@ -7,10 +7,10 @@ ghost use lib.ListN.{length, replicate, take};
 ghost use Rattle.fields.specs.Limits.{maxAtoms};
 ghost use Rattle.model.specs.Syntax.{numberIn};
 ghost use Rattle.desk.specs.Table.{spotOf, spotParts, Spots, hashOf, mixed, slots, Table};
-use model::rule::MAX_ATOMS;
+use fields::bytes::same_bytes;
 use judge::text::NamePlace;
 use judge::text::Names;
-use fields::bytes::same_bytes;
+use model::rule::MAX_ATOMS;
 
 pub const SLOTS: usize = 128;
 

@@ -1,7 +1,7 @@
 // The judge: model texts, and what they say of rows.
 
-pub mod named;
 pub mod fault;
+pub mod named;
 pub mod row;
 pub mod text;
 pub mod verdict;

@@ -17,13 +17,14 @@ ghost use Rattle.model.specs.Verdict.Laws.{verdictOf, verdict};
 ghost use Rattle.model.specs.Rule.Decide.{readable, ruleType};
 ghost use Rattle.judge.specs.Judge.Laws.{upto, judged};
 ghost use Rattle.judge.specs.Judge.Pass.{seenVerdict};
+use crate::fault::JudgeFault;
+use crate::verdict::Judged;
+use fields::limits::MAX_ROW;
+use fields::limits::lesser;
 use model::check::atoms_of;
+use model::check::is_readable;
 use model::check::members_of;
 use model::nodes::names;
-use fields::limits::lesser;
-use model::check::is_readable;
-use crate::fault::JudgeFault;
-use fields::limits::MAX_ROW;
 use model::rule::Kind;
 use model::rule::MAX_ATOMS;
 use model::rule::MAX_NODES;
@@ -31,7 +32,6 @@ use model::rule::Mark;
 use model::rule::Rule;
 use model::rule::Sign;
 use model::rule::Upper;
-use crate::verdict::Judged;
 use model::verdict::Verdict;
 
 // How often a name stands in the row, its first place or the row's length, and one past its last place or 0.

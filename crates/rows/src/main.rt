@@ -1,12 +1,12 @@
 // Runs what document 01 gives to try and is not proved, and the examples of document 001: a line for each, with the text or the model and the row,
 // and the answer.
 
-use model::fault::ModelFault;
 use judge::row::judge_row;
 use judge::text::Outcome;
 use judge::text::number_of;
 use judge::text::read_model;
 use judge::verdict::Judged;
+use model::fault::ModelFault;
 use model::verdict::Verdict;
 
 // No row here is longer.

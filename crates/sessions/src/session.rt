@@ -5,14 +5,15 @@ ghost use lib.ListN.{length, replicate};
 ghost use Rattle.judge.specs.Judge.Laws.{upto};
 ghost use Rattle.sessions.specs.Book.{opening, adding, takingBack, room};
 ghost use Rattle.sessions.specs.Session.{free, allFree, intact, checked, Does, asked};
-use model::nodes::names;
+use fields::limits::MAX_ROW;
+use fields::limits::lesser;
+use judge::fault::JudgeFault;
+use judge::row::judge_row;
+use judge::verdict::Judged;
 use model::check::is_readable;
-use crate::fault::JudgeFault;
-use crate::row::MAX_ROW;
-use crate::row::verdict_by;
+use model::nodes::names;
 use model::rule::NameNumber;
 use model::rule::Rule;
-use crate::verdict::Judged;
 
 // What a free place holds.
 pub const FREE: u16 = 65535;
@@ -37,7 +38,7 @@ pub struct Step {
 fn room_in(places: usize) -> usize
     ensures { λ r. ⌜ r ≡ room places ⌝ }
 {
-    if places < MAX_ROW { places } else { MAX_ROW }
+    lesser(places, MAX_ROW)
 }
 
 // Whether no number is above the names.
@@ -191,12 +192,14 @@ impl Session {
     {
         let rule = self.rule;
         let children = self.children;
-        match self.checked(trail) {
-            Outcome::Refused(fault) => Judged::Refused(fault),
-            Outcome::Done => {
-                let verdict = verdict_by(rule, &trail[0..children]);
-                Judged::Verdict(verdict)
-            }
+        let whole = is_intact(children, names(rule), trail);
+        if whole {
+            return judge_row(rule, &trail[0..children]);
         }
+        let good = is_readable(rule);
+        if good {
+            return Judged::Refused(JudgeFault::BadTrail);
+        }
+        Judged::Refused(JudgeFault::NoModel)
     }
 }

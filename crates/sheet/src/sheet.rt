@@ -14,20 +14,20 @@ ghost use Rattle.sheet.specs.Sheet.{noEntry, sheetWith, sheetLines, shee
 ghost use Rattle.sheet.specs.Sheet.Walk.{LoadedBy};
 ghost use Rattle.sheet.specs.Sheet.Laws.{lineChecked, LineIs};
 use crate::cues::MAX_FILE;
+use fields::bytes::same_bytes;
 use fields::children::is_name;
 use fields::split::Heads;
 use fields::split::LINE_FEED;
 use fields::split::first_fields;
 use fields::split::is_ended;
 use fields::split::part_end;
-use model::fault::ModelFault;
-use model::rule::Rule;
 use judge::text::NamePlace;
 use judge::text::Names;
 use judge::text::Outcome;
 use judge::text::number_of;
 use judge::text::read_model;
-use fields::bytes::same_bytes;
+use model::fault::ModelFault;
+use model::rule::Rule;
 
 pub const MAX_RULES: usize = 64;
 

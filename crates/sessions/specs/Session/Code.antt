@@ -18,11 +18,12 @@ use Rattle.judge.specs.declared.verdict.Judged.the-variants.{Verdict, Refused a
 use Rattle.model.specs.Verdict.Laws.{verdict}
 use Rattle.model.specs.Rule.{names}
 use Rattle.model.specs.Rule.Decide.{readable, ruleType}
-use Rattle.judge.specs.Judge.Laws.{upto, upto-tells}
+use Rattle.judge.specs.Judge.Laws.{judged, upto, upto-tells}
 use Rattle.sessions.specs.Book.{Call, opening, adding, takingBack, room}
 use Rattle.sessions.specs.Session.{Trail, allFree, intact, check, checked, outcome, newSession, newTrail, Does, asked}
 use Rattle.sessions.specs.Session.Laws.{intact-tells, checked-done}
-use Rattle.fields.specs.Limits.{maxNodes, maxRow}
+use Rattle.fields.specs.Limits.{maxRow}
+use Rattle.fields.specs.Tests.{by-test}
 
 -- with the tests of the two parts, `[0..k]` and from k to the end
 pub intact-holds : (k m : ℕ) (t : Trail) (a b : Bool) → k ≤ room (length t)
@@ -34,6 +35,9 @@ intact-holds k m t a b h e f =
 pub intact-over : (k m : ℕ) (t : Trail) → room (length t) < k → false ≡ intact k m t
 unfolding intact
 intact-over k m t h = rw (lt-leb k (room (length t)) h)
+
+pub intact-fits : (k m : ℕ) (t : Trail) → intact k m t ≡ true → k ≤ length t
+intact-fits k m t i = let h = intact-tells k m t .0 i .0 in omega arith
 
 -- what a call leaves that was refused, and one that was done
 pub refused : (q : Call) (s : Session) (t : Trail) (f : JudgeFault) (r : Step) → outcome q s t ≡ Refused f
@@ -93,27 +97,26 @@ module _ (s : Session) (t : Trail) where
 
     -- the children stand within the trail
     pub checked-fits : s .children ≤ length t
-    checked-fits =
-        let h = intact-tells (s .children) (names (s .rule)) t .0 (checked-done s t e .1) .0 in omega arith
+    checked-fits = intact-fits (s .children) (names (s .rule)) t (checked-done s t e .1)
 
-    -- the part `[0..children]` is a row to judge
-    pub row-known : readable (s .rule) ≡ true
-    row-known = checked-done s t e .0
-
-    pub row-fits : length (take (s .children - 0) t) ≤ maxRow
+  -- the part `[0..children]` of an intact trail is a row that the judge refuses with 40 alone
+  module _ (i : intact (s .children) (names (s .rule)) t ≡ true) where
+    row-fits : length (take (s .children - 0) t) ≤ maxRow
     row-fits =
-        let h = intact-tells (s .children) (names (s .rule)) t .0 (checked-done s t e .1) .0 in
+        let h = intact-tells (s .children) (names (s .rule)) t .0 i .0 in
         rw (sub-zero, length-take) (omega arith)
 
-    pub row-named : upto (names (s .rule)) (take (s .children - 0) t) ≡ true
+    row-named : upto (names (s .rule)) (take (s .children - 0) t) ≡ true
     row-named =
-        let h = intact-tells (s .children) (names (s .rule)) t .0 (checked-done s t e .1) .1 in
+        let h = intact-tells (s .children) (names (s .rule)) t .0 i .1 in
         rw sub-zero (upto-tells (names (s .rule)) (take (s .children) t) .1 h)
 
-    pub asked-done : (v : Said) → v ≡ verdict (ruleType (s .rule)) (take (s .children - 0) t) → Verdict v ≡ asked s t
-    unfolding outcome
-    asked-done v h =
-        rw e (ap Verdict (h ∙ ap (λ (k : ℕ). verdict (ruleType (s .rule)) (take k t)) (sub-zero (s .children))))
+    pub asked-judged : judged (s .rule) (take (s .children - 0) t) ≡ asked s t
+    unfolding outcome checked judged row-fits row-named
+    asked-judged =
+        by-test (readable (s .rule))
+        (λ e. rw (e, i, le-leb (length (take (s .children - 0) t)) maxRow row-fits, row-named) (ap (λ k. Verdict (verdict (ruleType (s .rule)) (take k t))) (sub-zero (s .children))))
+        (λ e. rw e)
 
   pub asked-refused : (f : JudgeFault) → checked s t ≡ Refused f → RefusedRow f ≡ asked s t
   unfolding outcome

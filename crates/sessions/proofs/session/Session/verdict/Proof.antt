@@ -1,63 +1,72 @@
--- each answer by the tests that led there; a session that passes 40 and 42 has a row that can be judged
-use mathlib.Core.Path.{sym, _∙_}
-use Rattle.sessions.specs.Session.Code.{checked-fits, row-known, row-fits, row-named, asked-done, asked-refused}
+-- an intact trail has a row that the judge answers; else 40 comes before 42
+use mathlib.Core.Path.{sym, ap, _∙_}
+use mathlib.Core.Bool.{false}
+use Rattle.sessions.specs.Session.{intact}
+use Rattle.sessions.specs.Session.Code.{intact-fits, checked-no-model, checked-by, asked-judged, asked-refused}
 use borrow.Author.Needs.{needs}
 use Rattle.sessions.proofs.session.Session.verdict.Statement.{statement}
 use Rattle.sessions.proofs.session.Session.verdict.Tie as tie
 
-checked-requires : tie.Need-checked-requires
-checked-requires c κs = search needs
+names-requires : tie.Need-names-requires
+names-requires c κs = search needs
 
-enum-known-fault : tie.Need-enum-known-fault
-enum-known-fault c = search needs
+is-intact-requires : tie.Need-is-intact-requires
+is-intact-requires c κs = search needs
 
-enum-told : tie.Need-enum-told
-enum-told c = search needs
+sub-judge-row : tie.Need-sub-judge-row
+sub-judge-row c = search needs
 
-sub-verdict-by : tie.Need-sub-verdict-by
-sub-verdict-by c = search needs
+part-judge-row-start : tie.Need-part-judge-row-start
+part-judge-row-start c = search needs
 
-part-verdict-by-start : tie.Need-part-verdict-by-start
-part-verdict-by-start c = search needs
+part-judge-row-end : tie.Need-part-judge-row-end
+part-judge-row-end c =
+    let i = c .before in
+    let n = i .before in
+    let a = n .before .before .before .args in
+    intact-fits (a .self .children) _ (a .trail .now) (sym (i .is-intact .ensures) ∙ c .if1 .taken)
 
-part-verdict-by-end : tie.Need-part-verdict-by-end
-part-verdict-by-end c =
-    let k = c .before .before in
-    let a = k .before .before .before .args in
-    let h = checked-fits (a .self) (a .trail .now) (sym (k .checked .ensures) ∙ c .enum-told .given .1) in
-    search needs
-
-verdict-by-requires : tie.Need-verdict-by-requires
-verdict-by-requires c κs =
-    let o = c .before in
-    let k = o .before .before in
-    let a = k .before .before .before .args in
-    let e = sym (k .checked .ensures) ∙ o .enum-told .given .1 in
-    (row-known (a .self) (a .trail .now) e, row-fits (a .self) (a .trail .now) e, row-named (a .self) (a .trail .now) e)
+judge-row-requires : tie.Need-judge-row-requires
+judge-row-requires c κs = search needs
 
 returns : tie.Need-returns
 returns c =
-    let k = c .before .before .before in
-    let a = k .before .before .before .args in
-    asked-refused (a .self) (a .trail .now) _ (sym (k .checked .ensures) ∙ c .before .fault .given .1)
+    let h = c .before .before in
+    let i = h .before in
+    let n = i .before in
+    let a = n .before .before .before .args in
+    c .judge-row .ensures ∙ asked-judged (a .self) (a .trail .now) (ap (λ m. intact (a .self .children) m (a .trail .now)) (sym (n .names .ensures)) ∙ sym (i .is-intact .ensures) ∙ h .if1 .taken)
+
+is-readable-requires : tie.Need-is-readable-requires
+is-readable-requires c κs = search needs
 
 returns-2 : tie.Need-returns-2
 returns-2 c =
-    let o = c .before .before in
-    let k = o .before .before in
-    let a = k .before .before .before .args in
-    asked-done (a .self) (a .trail .now) (sym (k .checked .ensures) ∙ o .enum-told .given .1) _ (c .verdict-by .ensures)
+    let w = c .before in
+    let i = w .before .before in
+    let n = i .before in
+    let a = n .before .before .before .args in
+    asked-refused (a .self) (a .trail .now) _ (checked-by (a .self) (a .trail .now) _ (w .is-readable .ensures) (c .if2 .taken) _ _ false (n .names .ensures) (i .is-intact .ensures) (w .before .if1 .left))
+
+returns-3 : tie.Need-returns-3
+returns-3 c =
+    let w = c .before in
+    let i = w .before .before in
+    let n = i .before in
+    let a = n .before .before .before .args in
+    asked-refused (a .self) (a .trail .now) _ (checked-no-model (a .self) (a .trail .now) _ (w .is-readable .ensures) (c .if2 .left))
 
 pub verdict-spec : {M : Type 1} → statement M
 verdict-spec =
     tie.close
     (tie.spec
-    checked-requires
-    enum-known-fault
-    enum-told
-    sub-verdict-by
-    part-verdict-by-start
-    part-verdict-by-end
-    verdict-by-requires
+    names-requires
+    is-intact-requires
+    sub-judge-row
+    part-judge-row-start
+    part-judge-row-end
+    judge-row-requires
     returns
-    returns-2)
+    is-readable-requires
+    returns-2
+    returns-3)
