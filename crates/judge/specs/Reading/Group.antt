@@ -1,7 +1,7 @@
 -- Members and groups: what each byte that the two readers look at does to the automaton's state and to what the arrays hold.
 use mathlib.Core.Path.{_≡_, refl, sym, ap, _∙_}
 use mathlib.Core.Logic.{_↔_, ⊎-elim}
-use mathlib.Core.Bool.{Bool, true, false, not, _&&_, _||_, and-false, true≢false}
+use mathlib.Core.Bool.{Bool, true, false, not, _||_, and-false, true≢false}
 use mathlib.Core.List.{List, [], _∷_, _++_, append-assoc, append-nil, tail}
 use mathlib.Core.Option.{none as nothing}
 use Prim.Native.Nat.{ℕ, suc, _+_, _-_, _≤_, _<_}
@@ -10,7 +10,7 @@ use native.Mathlib.Omega.{arith}
 use native.Mathlib.Numerals.{add-one}
 use lib.Dec.{T, eqb, eqb→eq}
 use lib.ListN.{length, set, getD, length-append, List·getD-eq-default}
-use mir.Facts.{and-yes, or-yes, or-no}
+use mir.Facts.{or-yes, or-no}
 use borrow.Author.Tests.{eqb-true, eq-eqb, ne-eqb}
 use Rattle.judge.specs.declared.fault.ModelFault.{ModelFault}
 use Rattle.judge.specs.declared.fault.ModelFault.the-variants.{Size, Spelling as Misspelling, LongName, WrongCount, TooDeep, ManyAtoms, ManyNodes, Repeated}
@@ -20,10 +20,9 @@ use Rattle.judge.specs.declared.rule.Kind.the-variants.{Group}
 use Rattle.judge.specs.declared.rule.Node.{Node as RuleNode}
 use Rattle.judge.specs.declared.text.Cursor.{Cursor}
 use Rattle.judge.specs.declared.text.Got.{Got}
-use Rattle.judge.specs.declared.text.Got.the-variants.{Past, Fault as Faulty}
+use Rattle.judge.specs.declared.text.Got.the-variants.{Past}
 use Rattle.judge.specs.Types.{Operator, sequence, choice, interleaving}
 use Rattle.judge.specs.Bytes.{Text, isLetter}
-use Rattle.judge.specs.Bytes.Laws.{T-true}
 use Rattle.judge.specs.Tests.{by-test}
 use Rattle.judge.specs.Tree.{leaf, group, marked, Members, none, _▹_, size}
 use Rattle.judge.specs.Tree.Map.{size-map}
@@ -40,7 +39,7 @@ use Rattle.judge.specs.Reading.Packed.{nodeOf, plain, signBy, isSign}
 use Rattle.judge.specs.Reading.Buffer.{holds-count, holds-more, holds-set}
 use Rattle.judge.specs.Reading.At.{At, next, step-on, bad}
 use Rattle.judge.specs.Reading.Atom.{nodes-many}
-use Rattle.judge.specs.Reading.Walk.{joins, Marking, treeNodes, membersNodes, frameNodes, stackNodes, stackOf, NodesHeld, Read, Behind, Member, Expecting, Ready, Closed, GroupRead, frameSign, frameSize, Inside, Among, mark-read, mark-names, not-expecting}
+use Rattle.judge.specs.Reading.Walk.{joins, Marking, treeNodes, membersNodes, frameNodes, stackNodes, stackOf, NodesHeld, Read, Behind, Member, Expecting, Ready, Closed, GroupRead, frameSign, frameSize, Inside, AtMember, mark-read, mark-names, not-expecting}
 
 -- where a member is to begin no text may end
 expecting : (k : List Frame) → result (at k expect) ≡ nothing
@@ -155,11 +154,6 @@ sign-by sequence = refl
 sign-by choice = refl
 sign-by interleaving = refl
 
-not-zero : (o : Operator) → byteOf o ≡ 0 → ⊥
-not-zero sequence e = omega arith
-not-zero choice e = omega arith
-not-zero interleaving e = omega arith
-
 frame-sign : (f : Frame) → T (isSign (frameSign f))
 frame-sign opened = tt
 frame-sign (signed sequence u ts) = tt
@@ -264,14 +258,11 @@ close-bad (signed o u ts) k t b e j = rw (e, sym (joins-by o b) ∙ j)
 
 -- behind the bracket of a group
 module _ {x : Text} {work names : List ℕ} {c : Cursor} {left node : ℕ} {k : List Frame} (i : Inside x work names c left node opened k) where
-  pub empty-inside : is x (code ")") (c .at) ≡ true → c .at < length x
-  empty-inside e = stands-inside x (code ")") (c .at) (omega arith) e
-
   -- `()`
   pub group-empty : is x (code ")") (c .at) ≡ true → Closed x work names (c .at) k (record { at = c .at + 1; nodes = c .nodes; names = c .names })
   group-empty e =
       let r : Expecting x work names c (opened ∷ k) = i .expecting in
-      let h : c .at < length x = empty-inside e in
+      let h : c .at < length x = stands-inside x (code ")") (c .at) (omega arith) e in
       let b : getD x (c .at) 0 ≡ code ")" = eqb-true (getD x (c .at) 0) (code ")") e in
       let s : here x (suc (c .at)) ≡ at k (after (marked Plain (group None none))) = next (r .at-is) h ∙ rw b in
       record {
@@ -290,11 +281,11 @@ module _ {x : Text} {work names : List ℕ} {c : Cursor} {left node : ℕ} {k : 
         named = r .named;
       }
 
-  pub group-begins : is x (code ")") (c .at) ≡ false → Among x work names (c .at) c left node 0 0 k
+  pub group-begins : is x (code ")") (c .at) ≡ false → AtMember x work names (c .at) c left node 0 0 k
   group-begins n = record { top = opened; inside = i; signs = refl; sizes = refl; no-end = λ e. absurd (true≢false (sym e ∙ n)); from = omega arith }
 
 -- at a member of a group
-module _ {x : Text} {work names : List ℕ} {p : ℕ} {c : Cursor} {left node sign members : ℕ} {k : List Frame} (i : Among x work names p c left node sign members k) where
+module _ {x : Text} {work names : List ℕ} {p : ℕ} {c : Cursor} {left node sign members : ℕ} {k : List Frame} (i : AtMember x work names p c left node sign members k) where
   stack-is : stackOf (here x (c .at)) ≡ i .top ∷ k
   stack-is = ap stackOf (i .inside .expecting .at-is .is)
 
@@ -325,10 +316,6 @@ module _ {x : Text} {work names : List ℕ} {p : ℕ} {c : Cursor} {left node si
     unfolding stack-is m
     read = rw stack-is at (m .read)
 
-    pub member-fits : (c .at < d .at) × (d .at ≤ length x)
-    unfolding read
-    member-fits = (read .on, read .at-is .within)
-
     pub group-stops : d .at ≡ length x → Answers x (refused Misspelling (d .at))
     unfolding read
     group-stops e =
@@ -349,6 +336,10 @@ module _ {x : Text} {work names : List ℕ} {p : ℕ} {c : Cursor} {left node si
       pub past-inside : d .at < length x
       unfolding read
       past-inside = omega (arith, read .at-is .within)
+
+      pub turn-less : length x - (d .at + 1) < length x - c .at
+      unfolding past-inside read
+      turn-less = omega (arith, read .on, past-inside)
 
       pub group-ends : getD x (d .at) 0 ≡ code ")" → (w : ℕ) → nodeOf w ≡ plain (Group (signBy sign) (members + 1))
           → Closed x (set work′ node w) names′ p k (record { at = d .at + 1; nodes = d .nodes; names = d .names })
@@ -375,7 +366,7 @@ module _ {x : Text} {work names : List ℕ} {p : ℕ} {c : Cursor} {left node si
             (read .settled ∙ close-bad (i .top) k (read .tree) (getD x (d .at) 0) (ne-eqb (getD x (d .at) 0) (code ")") b) (rw (i .signs) j)) refl
 
         pub group-joins : joins sign (getD x (d .at) 0) ≡ true
-            → Among x work′ names′ p (record { at = d .at + 1; nodes = d .nodes; names = d .names }) left node (getD x (d .at) 0) (members + 1) k
+            → AtMember x work′ names′ p (record { at = d .at + 1; nodes = d .nodes; names = d .names }) left node (getD x (d .at) 0) (members + 1) k
         unfolding nodes-held past-inside read m
         group-joins j =
             let grown : Grown (i .top) k (read .tree) (getD x (d .at) 0) = close-joins (i .top) k (read .tree) (getD x (d .at) 0) (ne-eqb (getD x (d .at) 0) (code ")") b) (rw (i .signs) j) in

@@ -127,8 +127,8 @@ pub record Inside (x : Text) (work names : List ℕ) (c : Cursor) (left node : �
   pub node-is : node ≡ length (stackNodes k)
   pub room : length k + 1 + left ≡ 16
 
--- the same, where no `)` may stand: the group began at p
-pub record Among (x : Text) (work names : List ℕ) (p : ℕ) (c : Cursor) (left node sign members : ℕ) (k : List Frame) : Type 0 where
+-- the same, where no `)` may stand: the group begins at p, and has `members` members so far, parted by `sign`
+pub record AtMember (x : Text) (work names : List ℕ) (p : ℕ) (c : Cursor) (left node sign members : ℕ) (k : List Frame) : Type 0 where
   pub top : Frame
   pub inside : Inside x work names c left node top k
   pub signs : frameSign top ≡ sign

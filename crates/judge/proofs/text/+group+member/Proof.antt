@@ -1,13 +1,11 @@
--- The text left falls with each call. Each return is one case of `Reading.Group`.
-use mathlib.Core.Path.{sym, ap, _∙_}
+-- The text left falls with each call and with each turn of the loop. Each return is one case of `Reading.Group`.
+use mathlib.Core.Path.{sym, _∙_}
 use mathlib.Core.List.{tail}
 use native.Mathlib.Omega.{arith}
 use borrow.Author.Needs.{needs}
 use Rattle.judge.specs.Syntax.Machine.{here}
-use Rattle.judge.specs.Reading.Walk.{stackOf, Among, member-fault, group-fault}
-use Rattle.judge.specs.Reading.Group.{member-stops, member-bad, too-deep, many-groups, goes-in, closed-fits, group-member, sign-known, members-fit, node-fits, empty-inside, group-empty, group-begins, group-ready, member-fits, group-stops, past-inside, group-ends, group-bad, group-joins}
-use mathlib.Core.Bool.{_&&_}
-use lib.Dec.{eqb}
+use Rattle.judge.specs.Reading.Walk.{stackOf, AtMember, member-fault, group-fault}
+use Rattle.judge.specs.Reading.Group.{member-stops, member-bad, too-deep, many-groups, goes-in, closed-fits, group-member, sign-known, members-fit, node-fits, group-empty, group-begins, group-ready, group-stops, past-inside, turn-less, group-ends, group-bad, group-joins}
 use Prim.Native.Nat.{_+_, _-_, _*_}
 use lib.ListN.{length}
 use Prim.Native.Nat.{ℕ, _<_}
@@ -60,7 +58,7 @@ group-claims t = (
 
 abbrev group-Inv-loop : group-lts.InvT-loop
 group-Inv-loop text work₀ names₀ left node next₀ at sign₀ members₀ work names next sign members =
-    Among text work names at next left node sign members (tail (stackOf (here text at)))
+    AtMember text work names at next left node sign members (tail (stackOf (here text at)))
 
 abbrev group-μ-loop : group-lts.MeasureT-loop
 group-μ-loop text work₀ names₀ left node next₀ at sign₀ members₀ work names next sign members = length text - next .at
@@ -73,7 +71,7 @@ group-stands-requires t c κs = omega arith
 
 group-add-next : (t : ℕ) → group-lts.Need-add-next (group-claims t) (group-at t) group.Post group-Inv-loop group-μ-loop
 group-add-next t c =
-    let s = c .before .before .before in omega (arith, empty-inside (s .pre .1) (sym (c .before .stands .ensures) ∙ c .if1 .taken))
+    let s = c .before .before .before in omega (arith, group-empty (s .pre .1) (sym (c .before .stands .ensures) ∙ c .if1 .taken) .at-is .within)
 
 group-returns : (t : ℕ) → group-lts.Need-returns (group-claims t) (group-at t) group.Post group-Inv-loop group-μ-loop
 group-returns t c =
@@ -142,7 +140,7 @@ group-loop-less t c =
     let i = c .before .before .before .before .before .before .before .before .before .before .before .loop .inv in
     let m = c .before .before .before .before .before .before .before .before .member in
     let p = c .before .before .before .before .before .before .past .given in
-    omega (arith, member-fits i (m .last .1 .0) (m .last .1 .1 .0) (m .ensures) (p .1) .0, past-inside i (m .last .1 .0) (m .last .1 .1 .0) (m .ensures) (p .1) (c .before .before .before .before .if2 .left))
+    turn-less i (m .last .1 .0) (m .last .1 .1 .0) (m .ensures) (p .1) (c .before .before .before .before .if2 .left)
 
 group-loop-again : (t : ℕ) → group-lts.Need-loop-again (group-claims t) (group-at t) group.Post group-Inv-loop group-μ-loop
 group-loop-again t c =
