@@ -14,6 +14,9 @@ use Rattle.model.specs.Rule.{Means, names}
 use Rattle.model.specs.Rule.Laws.{means-once}
 use Rattle.judge.specs.Judge.{Upto, Judges}
 use Rattle.judge.specs.Judge.Laws.{judged, judges, judged-is}
+use Rattle.judge.specs.Reply.{Reply, ChildrenJudges, childrenReply}
+use Rattle.judge.specs.Reply.Laws.{judges-exactly}
+use Rattle.fields.specs.Bytes.{Text}
 use Rattle.fields.specs.Limits.{maxRow}
 
 -- Demands 1 and 2, rows: what `judge_row` answers is what `Judges` says of it, and nothing else is.
@@ -26,3 +29,7 @@ verdict-exactly {r} {A} m w l u v = (
   λ e. let h = judged-exactly r w (Said v) .0 e in rw (means-once m (h .1)) (h .4),
   λ s. judged-exactly r w (Said v) .1 (A, m, l, u, s),
 )
+
+-- The same of two texts, as the desk has them.
+pub children-exactly : (m c : Text) (r : Reply Verdict) → (childrenReply m c ≡ r) ↔ ChildrenJudges m c r
+children-exactly = judges-exactly
