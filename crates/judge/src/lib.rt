@@ -6,5 +6,6 @@ pub mod nodes;
 pub mod row;
 pub mod rule;
 pub mod session;
+mod table;
 pub mod text;
 pub mod verdict;

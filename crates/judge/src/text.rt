@@ -346,8 +346,8 @@ fn repeated(text: &[u8], names: &[u32; MAX_ATOMS], n: usize, start: usize, end: 
     let mut i: usize = 0;
     while i < n {
         let word = names[i];
-        let from = (word / 256 % 65536) as usize;
-        let len = (word % 256) as usize;
+        let from = (word / 65536 % 65536) as usize;
+        let len = (word / 256 % 256) as usize;
         if same_bytes(&text[from..from + len], name) {
             return true;
         }
@@ -594,8 +594,8 @@ fn names_of(words: &[u32; MAX_ATOMS], len: usize) -> Names
     let mut i: usize = 0;
     while i < len {
         names.places[i] = NamePlace {
-            start: (words[i] / 256 % 65536) as u16,
-            len: (words[i] % 256) as u16,
+            start: (words[i] / 65536 % 65536) as u16,
+            len: (words[i] / 256 % 256) as u16,
         };
         i += 1;
     }
