@@ -15,7 +15,7 @@ ghost use Rattle.judge.specs.Reading.Packed.{word, nodeOf, plain, option
 ghost use Rattle.judge.specs.Reading.Search.{among, Comparable};
 ghost use Rattle.judge.specs.Rule.{unused};
 ghost use Rattle.judge.specs.Syntax.{numberIn};
-ghost use Rattle.judge.specs.Syntax.Machine.{here};
+ghost use Rattle.judge.specs.Syntax.Machine.{opened, here};
 ghost use Rattle.judge.specs.Reading.Walk.{Marking, joins, stackOf, Expecting, Ready, Inside, Member, GroupRead};
 ghost use Rattle.judge.specs.Reading.Atom.{NameRead, AtomRead};
 ghost use Rattle.judge.specs.Reading.Lexeme.{numeralAt, countAt, onwardAt, betweenAt};
@@ -470,7 +470,7 @@ fn member(
         nodes: node + 1,
         names: c.names,
     };
-    match group(text, work, names, inside, left - 1, node, 0, 0) {
+    match group(text, work, names, inside, left - 1, node) {
         Got::Past(past) => Got::Past(mark(text, work, past, node)),
         Got::Fault(f, p) => Got::Fault(f, p),
     }
@@ -487,7 +487,7 @@ fn parts(sign: u8, b: u8) -> bool
     }
 }
 
-// Reads on in the group of node `node`, to behind its `)`. It has `members` members so far, and `sign` is the byte that parts them, 0 where none did yet.
+// Reads the group of node `node`, from behind its bracket to behind its `)`. The byte that parts its members is `sign`, 0 until one was read.
 fn group(
     text: &[u8],
     work: &mut [u64; MAX_NODES],
@@ -495,42 +495,43 @@ fn group(
     c: Cursor,
     left: usize,
     node: usize,
-    sign: u8,
-    members: u16,
 ) -> Got
-    requires { ⌜ Inside (now text) (now work) (now names) c left node sign members (tail (stackOf (here (now text) (c .at)))) ⌝ }
+    requires { ⌜ Inside (now text) (now work) (now names) c left node opened (tail (stackOf (here (now text) (c .at)))) ⌝ }
     ensures { λ r. ⌜ GroupRead (now (text .entry)) (now (work .exit)) (now (names .exit)) (c .at) (tail (stackOf (here (now (text .entry)) (c .at)))) r ⌝ }
 {
+    let mut next = c;
     let at = c.at;
-    if (sign == 0) & stands(text, at, b')') {
-        return Got::Past(Cursor {
-            at: at + 1,
-            nodes: c.nodes,
-            names: c.names,
-        });
+    if stands(text, at, b')') {
+        next.at = at + 1;
+        return Got::Past(next);
     }
-    match member(text, work, names, c, left) {
-        Got::Past(past) => {
-            let p = past.at;
-            if p == text.len() {
-                return Got::Fault(ModelFault::Spelling, p);
+    let mut sign: u8 = 0;
+    let mut members: u16 = 0;
+    loop {
+        match member(text, work, names, next, left) {
+            Got::Past(past) => {
+                let p = past.at;
+                if p == text.len() {
+                    return Got::Fault(ModelFault::Spelling, p);
+                }
+                let b = text[p];
+                members += 1;
+                next = past;
+                next.at = p + 1;
+                if b == b')' {
+                    work[node] = packed_group(sign, members);
+                    return Got::Past(next);
+                }
+                if parts(sign, b) {
+                    sign = b;
+                } else {
+                    return Got::Fault(ModelFault::Spelling, p);
+                }
             }
-            let b = text[p];
-            let next = Cursor {
-                at: p + 1,
-                nodes: past.nodes,
-                names: past.names,
-            };
-            if b == b')' {
-                work[node] = packed_group(sign, members + 1);
-                return Got::Past(next);
+            Got::Fault(f, p) => {
+                return Got::Fault(f, p);
             }
-            if parts(sign, b) {
-                return group(text, work, names, next, left, node, b, members + 1);
-            }
-            Got::Fault(ModelFault::Spelling, p)
         }
-        Got::Fault(f, p) => Got::Fault(f, p),
     }
 }
 

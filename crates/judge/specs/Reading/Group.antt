@@ -1,7 +1,7 @@
 -- Members and groups: what each byte that the two readers look at does to the automaton's state and to what the arrays hold.
 use mathlib.Core.Path.{_≡_, refl, sym, ap, _∙_}
 use mathlib.Core.Logic.{_↔_, ⊎-elim}
-use mathlib.Core.Bool.{Bool, true, false, not, _&&_, _||_, and-false, true≢false}
+use mathlib.Core.Bool.{Bool, true, false, not, _||_, and-false, true≢false}
 use mathlib.Core.List.{List, [], _∷_, _++_, append-assoc, append-nil, tail}
 use mathlib.Core.Option.{none as nothing}
 use Prim.Native.Nat.{ℕ, suc, _+_, _-_, _≤_, _<_}
@@ -10,7 +10,7 @@ use native.Mathlib.Omega.{arith}
 use native.Mathlib.Numerals.{add-one}
 use lib.Dec.{T, eqb, eqb→eq}
 use lib.ListN.{length, set, getD, length-append, List·getD-eq-default}
-use mir.Facts.{and-yes, or-yes, or-no}
+use mir.Facts.{or-yes, or-no}
 use borrow.Author.Tests.{eqb-true, eq-eqb, ne-eqb}
 use Rattle.judge.specs.declared.fault.ModelFault.{ModelFault}
 use Rattle.judge.specs.declared.fault.ModelFault.the-variants.{Size, Spelling as Misspelling, LongName, WrongCount, TooDeep, ManyAtoms, ManyNodes, Repeated}
@@ -20,10 +20,9 @@ use Rattle.judge.specs.declared.rule.Kind.the-variants.{Group}
 use Rattle.judge.specs.declared.rule.Node.{Node as RuleNode}
 use Rattle.judge.specs.declared.text.Cursor.{Cursor}
 use Rattle.judge.specs.declared.text.Got.{Got}
-use Rattle.judge.specs.declared.text.Got.the-variants.{Past, Fault as Faulty}
+use Rattle.judge.specs.declared.text.Got.the-variants.{Past}
 use Rattle.judge.specs.Types.{Operator, sequence, choice, interleaving}
 use Rattle.judge.specs.Bytes.{Text, isLetter}
-use Rattle.judge.specs.Bytes.Laws.{T-true}
 use Rattle.judge.specs.Tests.{by-test}
 use Rattle.judge.specs.Tree.{leaf, group, marked, Members, none, _▹_, size}
 use Rattle.judge.specs.Tree.Map.{size-map}
@@ -40,7 +39,7 @@ use Rattle.judge.specs.Reading.Packed.{nodeOf, plain, signBy, isSign}
 use Rattle.judge.specs.Reading.Buffer.{holds-count, holds-more, holds-set}
 use Rattle.judge.specs.Reading.At.{At, next, step-on, bad}
 use Rattle.judge.specs.Reading.Atom.{nodes-many}
-use Rattle.judge.specs.Reading.Walk.{joins, Marking, treeNodes, membersNodes, frameNodes, stackNodes, stackOf, NodesHeld, Read, Behind, Member, Expecting, Ready, Closed, GroupRead, frameSign, frameSize, Inside, mark-read, mark-names, not-expecting}
+use Rattle.judge.specs.Reading.Walk.{joins, Marking, treeNodes, membersNodes, frameNodes, stackNodes, stackOf, NodesHeld, Read, Behind, Member, Expecting, Ready, Closed, GroupRead, frameSign, frameSize, Inside, AtMember, mark-read, mark-names, not-expecting}
 
 -- where a member is to begin no text may end
 expecting : (k : List Frame) → result (at k expect) ≡ nothing
@@ -113,17 +112,14 @@ module _ {x : Text} {work names : List ℕ} {c : Cursor} {left : ℕ} {k : List 
         unfolding opens
         inside-stack = ap (λ (s : State). tail (stackOf s)) (opens .is)
 
-        pub goes-in : Inside x (set work (c .nodes) 0) names (inside c) (left - 1) (c .nodes) 0 0 (tail (stackOf (here x (c .at + 1))))
+        pub goes-in : Inside x (set work (c .nodes) 0) names (inside c) (left - 1) (c .nodes) opened (tail (stackOf (here x (c .at + 1))))
         unfolding opens inside-stack nodeOf
         goes-in =
             rw inside-stack
             (record {
-              top = opened;
               expecting =
                   record
                   { spots = r .expecting .spots; at-is = opens; held = holds-more nodeOf 128 work (c .nodes) (stackNodes k) (r .expecting .held) 0 unused m refl; named = r .expecting .named };
-              signs = refl;
-              sizes = refl;
               node-is = sym (holds-count nodeOf 128 work (c .nodes) (stackNodes k) (r .expecting .held));
               room = omega (arith, r .room);
             })
@@ -157,11 +153,6 @@ sign-by : (o : Operator) → signBy (byteOf o) ≡ signOf o
 sign-by sequence = refl
 sign-by choice = refl
 sign-by interleaving = refl
-
-not-zero : (o : Operator) → byteOf o ≡ 0 → ⊥
-not-zero sequence e = omega arith
-not-zero choice e = omega arith
-not-zero interleaving e = omega arith
 
 frame-sign : (f : Frame) → T (isSign (frameSign f))
 frame-sign opened = tt
@@ -225,6 +216,7 @@ closed-nodes (signed o u ts) t =
 record Grown (f : Frame) (k : List Frame) (t : Syntax) (b : ℕ) : Type 0 where
   pub top : Frame
   pub is : close (f ∷ k) t b ≡ at (top ∷ k) expect
+  pub no-end : shut (top ∷ k) ≡ dead
   pub signs : frameSign top ≡ b
   pub sizes : frameSize top ≡ frameSize f + 1
   pub nodes : frameNodes top ≡ unused ∷ (behindBracket f ++ treeNodes t)
@@ -240,12 +232,13 @@ close-joins opened k t b e j =
     parts interleaving = refl
 
     first : (o : Operator) → b ≡ byteOf o → Grown opened k t b
-    first o q = record { top = signed o t none; is = rw q (parts o); signs = sym q; sizes = refl; nodes = rw (append-nil (treeNodes t)) }
+    first o q = record { top = signed o t none; is = rw q (parts o); no-end = refl; signs = sym q; sizes = refl; nodes = rw (append-nil (treeNodes t)) }
 close-joins (signed o u ts) k t b e j =
     let q : b ≡ byteOf o = eqb-true b (byteOf o) (sym (joins-by o b) ∙ j) in
     record {
       top = signed o u (snoc ts t);
       is = rw (e, eq-eqb b (byteOf o) q);
+      no-end = refl;
       signs = sym q;
       sizes = rw (size-snoc ts t) (omega arith);
       nodes = rw (nodes-snoc ts t) (ap (λ (l : List RuleNode). unused ∷ l) (sym (append-assoc (treeNodes u) (membersNodes ts) (treeNodes t))));
@@ -263,85 +256,71 @@ close-bad opened k t b e j =
     no-true false h = refl
 close-bad (signed o u ts) k t b e j = rw (e, sym (joins-by o b) ∙ j)
 
--- reading on in a group
-module _ {x : Text} {work names : List ℕ} {c : Cursor} {left node sign members : ℕ} (i : Inside x work names c left node sign members (tail (stackOf (here x (c .at))))) where
-  abbrev below : List Frame
-  below = tail (stackOf (here x (c .at)))
+-- behind the bracket of a group
+module _ {x : Text} {work names : List ℕ} {c : Cursor} {left node : ℕ} {k : List Frame} (i : Inside x work names c left node opened k) where
+  -- `()`
+  pub group-empty : is x (code ")") (c .at) ≡ true → Closed x work names (c .at) k (record { at = c .at + 1; nodes = c .nodes; names = c .names })
+  group-empty e =
+      let r : Expecting x work names c (opened ∷ k) = i .expecting in
+      let h : c .at < length x = stands-inside x (code ")") (c .at) (omega arith) e in
+      let b : getD x (c .at) 0 ≡ code ")" = eqb-true (getD x (c .at) 0) (code ")") e in
+      let s : here x (suc (c .at)) ≡ at k (after (marked Plain (group None none))) = next (r .at-is) h ∙ rw b in
+      record {
+        spots = r .spots;
+        on = omega arith;
+        sign = None;
+        members = none;
+        at-is = record {
+          sized = r .at-is .sized;
+          within = omega arith;
+          is = rw add-one s;
+          clean = clean-more x (c .at) (r .at-is .clean) (end-faultless x (c .at) (r .at-is .sized) h (rw s tt) b (rw s));
+          names = rw (add-one, b, and-false) (r .at-is .names);
+        };
+        held = r .held;
+        named = r .named;
+      }
 
-  pub stack-is : stackOf (here x (c .at)) ≡ i .top ∷ below
-  stack-is = ap stackOf (i .expecting .at-is .is)
+  pub group-begins : is x (code ")") (c .at) ≡ false → AtMember x work names (c .at) c left node 0 0 k
+  group-begins n = record { top = opened; inside = i; signs = refl; sizes = refl; no-end = λ e. absurd (true≢false (sym e ∙ n)); from = omega arith }
+
+-- at a member of a group
+module _ {x : Text} {work names : List ℕ} {p : ℕ} {c : Cursor} {left node sign members : ℕ} {k : List Frame} (i : AtMember x work names p c left node sign members k) where
+  stack-is : stackOf (here x (c .at)) ≡ i .top ∷ k
+  stack-is = ap stackOf (i .inside .expecting .at-is .is)
 
   pub sign-known : T (isSign sign)
   sign-known = rw (← i .signs) (frame-sign (i .top))
 
+  nodes-few : length (stackNodes k) + length (frameNodes (i .top)) ≤ 128
+  nodes-few =
+      let n : length (stackNodes (i .top ∷ k)) ≡ c .nodes = holds-count nodeOf 128 work (c .nodes) (stackNodes (i .top ∷ k)) (i .inside .expecting .held) in
+      omega (arith, n, length-append (stackNodes k) (frameNodes (i .top)), i .inside .expecting .held .few)
+
   pub members-fit : members < 128
-  members-fit =
-      let n : length (stackNodes (i .top ∷ below)) ≡ c .nodes = holds-count nodeOf 128 work (c .nodes) (stackNodes (i .top ∷ below)) (i .expecting .held) in
-      omega (arith, n, length-append (stackNodes below) (frameNodes (i .top)), frame-few (i .top), i .sizes, i .expecting .held .few)
+  members-fit = omega (arith, nodes-few, frame-few (i .top), i .sizes)
 
   pub node-fits : node < 128
-  node-fits =
-      let n : length (stackNodes (i .top ∷ below)) ≡ c .nodes = holds-count nodeOf 128 work (c .nodes) (stackNodes (i .top ∷ below)) (i .expecting .held) in
-      omega (arith, n, length-append (stackNodes below) (frameNodes (i .top)), frame-few (i .top), i .node-is, i .expecting .held .few)
+  node-fits = omega (arith, nodes-few, frame-few (i .top), i .inside .node-is)
 
-  pub empty-inside : (eqb sign 0 && is x (code ")") (c .at)) ≡ true → c .at < length x
-  empty-inside y = stands-inside x (code ")") (c .at) (omega arith) (T-true (is x (code ")") (c .at)) (and-yes (eqb sign 0) (is x (code ")") (c .at)) (rw y tt) .1))
-
-  -- `()`
-  pub group-empty : (eqb sign 0 && is x (code ")") (c .at)) ≡ true → Closed x work names (c .at) below (record { at = c .at + 1; nodes = c .nodes; names = c .names })
-  group-empty y = go (i .top) (i .expecting) (i .signs ∙ eqb→eq sign 0 (and-yes (eqb sign 0) (is x (code ")") (c .at)) (rw y tt) .0))
-    where
-      e : is x (code ")") (c .at) ≡ true
-      e = T-true (is x (code ")") (c .at)) (and-yes (eqb sign 0) (is x (code ")") (c .at)) (rw y tt) .1)
-
-      go : (f : Frame) → Expecting x work names c (f ∷ below) → frameSign f ≡ 0 → Closed x work names (c .at) below (record { at = c .at + 1; nodes = c .nodes; names = c .names })
-      go (signed o u ts) r q = absurd (not-zero o q)
-      go opened r q =
-          let h : c .at < length x = stands-inside x (code ")") (c .at) (omega arith) e in
-          let b : getD x (c .at) 0 ≡ code ")" = eqb-true (getD x (c .at) 0) (code ")") e in
-          let s : here x (suc (c .at)) ≡ at below (after (marked Plain (group None none))) = next (r .at-is) h ∙ rw b in
-          record {
-            spots = r .spots;
-            on = omega arith;
-            sign = None;
-            members = none;
-            at-is = record {
-              sized = r .at-is .sized;
-              within = omega arith;
-              is = rw add-one s;
-              clean = clean-more x (c .at) (r .at-is .clean) (end-faultless x (c .at) (r .at-is .sized) h (rw s tt) b (rw s));
-              names = rw (add-one, b, and-false) (r .at-is .names);
-            };
-            held = r .held;
-            named = r .named;
-          }
-
-  pub group-ready : (eqb sign 0 && is x (code ")") (c .at)) ≡ false → Ready x work names c left (stackOf (here x (c .at)))
+  pub group-ready : Ready x work names c left (stackOf (here x (c .at)))
   unfolding stack-is
-  group-ready n = rw stack-is (record { expecting = i .expecting; no-end = shuts (i .top) (i .signs); room = omega (arith, i .room) })
-    where
-      shuts : (f : Frame) → frameSign f ≡ sign → is x (code ")") (c .at) ≡ true → shut (f ∷ below) ≡ dead
-      shuts opened q e = absurd (true≢false (sym (rw (← q, e)) ∙ n))
-      shuts (signed o u ts) q e = refl
+  group-ready = rw stack-is (record { expecting = i .inside .expecting; no-end = i .no-end; room = omega (arith, i .inside .room) })
 
-  -- behind a member
+  -- behind that member
   module _ (work′ names′ : List ℕ) {g : Got} {d : Cursor} (y : Member x work′ names′ (c .at) (stackOf (here x (c .at))) g) (u : g ≡ Past d) where
     m : Behind x work′ names′ (c .at) (stackOf (here x (c .at))) d
     m = rw u at y
 
-    read : Read x work′ (m .spots) (c .at) (i .top ∷ below) d
+    read : Read x work′ (m .spots) (c .at) (i .top ∷ k) d
     unfolding stack-is m
     read = rw stack-is at (m .read)
-
-    pub member-fits : (c .at < d .at) × (d .at ≤ length x)
-    unfolding read
-    member-fits = (read .on, read .at-is .within)
 
     pub group-stops : d .at ≡ length x → Answers x (refused Misspelling (d .at))
     unfolding read
     group-stops e =
         let z : getD x (d .at) 0 ≡ 0 = List·getD-eq-default x 0 {n = d .at} (omega arith) in
-        bad (read .at-is) tt (read .settled ∙ rw z (close-bad (i .top) below (read .tree) 0 refl (none-joins (i .top)))) refl
+        bad (read .at-is) tt (read .settled ∙ rw z (close-bad (i .top) k (read .tree) 0 refl (none-joins (i .top)))) refl
       where
         none-joins : (f : Frame) → joins (frameSign f) 0 ≡ false
         none-joins opened = refl
@@ -349,7 +328,7 @@ module _ {x : Text} {work names : List ℕ} {c : Cursor} {left node sign members
         none-joins (signed choice u ts) = refl
         none-joins (signed interleaving u ts) = refl
 
-    nodes-held : NodesHeld work′ (d .nodes) (stackNodes below ++ (unused ∷ (behindBracket (i .top) ++ treeNodes (read .tree))))
+    nodes-held : NodesHeld work′ (d .nodes) (stackNodes k ++ (unused ∷ (behindBracket (i .top) ++ treeNodes (read .tree))))
     unfolding read
     nodes-held = rw (frame-nodes (i .top), append-assoc) at (read .held)
 
@@ -358,20 +337,24 @@ module _ {x : Text} {work names : List ℕ} {c : Cursor} {left node sign members
       unfolding read
       past-inside = omega (arith, read .at-is .within)
 
+      pub turn-less : length x - (d .at + 1) < length x - c .at
+      unfolding past-inside read
+      turn-less = omega (arith, read .on, past-inside)
+
       pub group-ends : getD x (d .at) 0 ≡ code ")" → (w : ℕ) → nodeOf w ≡ plain (Group (signBy sign) (members + 1))
-          → Closed x (set work′ node w) names′ (c .at) below (record { at = d .at + 1; nodes = d .nodes; names = d .names })
+          → Closed x (set work′ node w) names′ p k (record { at = d .at + 1; nodes = d .nodes; names = d .names })
       unfolding read nodes-held past-inside m
       group-ends b w q =
-          let s : step (at (i .top ∷ below) (behind (read .tree))) (getD x (d .at) 0) ≡ at below (after (marked Plain (group (signBy (frameSign (i .top))) (closedMembers (i .top) (read .tree))))) = read .settled ∙ rw b (close-ends (i .top) below (read .tree)) in
+          let s : step (at (i .top ∷ k) (behind (read .tree))) (getD x (d .at) 0) ≡ at k (after (marked Plain (group (signBy (frameSign (i .top))) (closedMembers (i .top) (read .tree))))) = read .settled ∙ rw b (close-ends (i .top) k (read .tree)) in
           record {
             spots = m .spots;
-            on = omega (arith, read .on);
+            on = omega (arith, read .on, i .from);
             sign = signBy (frameSign (i .top));
             members = closedMembers (i .top) (read .tree);
-            at-is = step-on (read .at-is) past-inside s (not-expecting (i .top ∷ below) (read .tree)) tt refl;
+            at-is = step-on (read .at-is) past-inside s (not-expecting (i .top ∷ k) (read .tree)) tt refl;
             held =
                 rw (closed-nodes (i .top) (read .tree))
-                (holds-set nodeOf 128 work′ (d .nodes) (stackNodes below) (behindBracket (i .top) ++ treeNodes (read .tree)) unused nodes-held node (i .node-is) w (plain (Group (signBy (frameSign (i .top))) (frameSize (i .top) + 1))) (rw (i .signs, i .sizes) q));
+                (holds-set nodeOf 128 work′ (d .nodes) (stackNodes k) (behindBracket (i .top) ++ treeNodes (read .tree)) unused nodes-held node (i .inside .node-is) w (plain (Group (signBy (frameSign (i .top))) (frameSize (i .top) + 1))) (rw (i .signs, i .sizes) q));
             named = m .named;
           }
 
@@ -380,38 +363,28 @@ module _ {x : Text} {work names : List ℕ} {c : Cursor} {left node sign members
         unfolding read
         group-bad j =
             bad (read .at-is) tt
-            (read .settled ∙ close-bad (i .top) below (read .tree) (getD x (d .at) 0) (ne-eqb (getD x (d .at) 0) (code ")") b) (rw (i .signs) j)) refl
+            (read .settled ∙ close-bad (i .top) k (read .tree) (getD x (d .at) 0) (ne-eqb (getD x (d .at) 0) (code ")") b) (rw (i .signs) j)) refl
 
-        module _ (j : joins sign (getD x (d .at) 0) ≡ true) where
-          grown : Grown (i .top) below (read .tree) (getD x (d .at) 0)
-          grown = close-joins (i .top) below (read .tree) (getD x (d .at) 0) (ne-eqb (getD x (d .at) 0) (code ")") b) (rw (i .signs) j)
-
-          parts : At x (m .spots) (d .at + 1) (at (grown .top ∷ below) expect)
-          unfolding read grown past-inside m
-          parts =
-              step-on (read .at-is) past-inside (read .settled ∙ grown .is)
-              (not-expecting (i .top ∷ below) (read .tree)) tt refl
-
-          pub same-group : tail (stackOf (here x (d .at + 1))) ≡ below
-          unfolding parts
-          same-group = ap (λ (s : State). tail (stackOf s)) (parts .is)
-
-          pub group-joins : Inside x work′ names′ (record { at = d .at + 1; nodes = d .nodes; names = d .names }) left node (getD x (d .at) 0) (members + 1) (tail (stackOf (here x (d .at + 1))))
-          unfolding parts same-group grown nodes-held read m
-          group-joins =
-              rw same-group
-              (record {
-                top = grown .top;
-                expecting = record { spots = m .spots; at-is = parts; held = rw (grown .nodes) nodes-held; named = m .named };
-                signs = grown .signs;
-                sizes = grown .sizes ∙ ap (λ (n : ℕ). n + 1) (i .sizes);
-                node-is = i .node-is;
-                room = i .room;
-              })
-
-          pub group-on : (work″ names″ : List ℕ) (g : Got) → GroupRead x work″ names″ (d .at + 1) (tail (stackOf (here x (d .at + 1)))) g → GroupRead x work″ names″ (c .at) below g
-          unfolding same-group read
-          group-on work″ names″ (Faulty f q) t = t
-          group-on work″ names″ (Past e) t′ =
-              let t : Closed x work″ names″ (d .at + 1) below e = rw same-group at t′ in
-              record { spots = t .spots; on = omega (arith, t .on, read .on); sign = t .sign; members = t .members; at-is = t .at-is; held = t .held; named = t .named }
+        pub group-joins : joins sign (getD x (d .at) 0) ≡ true
+            → AtMember x work′ names′ p (record { at = d .at + 1; nodes = d .nodes; names = d .names }) left node (getD x (d .at) 0) (members + 1) k
+        unfolding nodes-held past-inside read m
+        group-joins j =
+            let grown : Grown (i .top) k (read .tree) (getD x (d .at) 0) = close-joins (i .top) k (read .tree) (getD x (d .at) 0) (ne-eqb (getD x (d .at) 0) (code ")") b) (rw (i .signs) j) in
+            record {
+              top = grown .top;
+              inside = record {
+                expecting =
+                    record {
+                      spots = m .spots;
+                      at-is = step-on (read .at-is) past-inside (read .settled ∙ grown .is) (not-expecting (i .top ∷ k) (read .tree)) tt refl;
+                      held = rw (grown .nodes) nodes-held;
+                      named = m .named;
+                    };
+                node-is = i .inside .node-is;
+                room = i .inside .room;
+              };
+              signs = grown .signs;
+              sizes = grown .sizes ∙ ap (λ (n : ℕ). n + 1) (i .sizes);
+              no-end = λ e. grown .no-end;
+              from = omega (arith, read .on, i .from);
+            }

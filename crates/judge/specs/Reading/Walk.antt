@@ -2,7 +2,7 @@
 use mathlib.Core.Path.{_≡_, refl, ap, _∙_}
 use mathlib.Core.Bool.{Bool, true, false, cond, _||_}
 use mathlib.Core.List.{List, [], _∷_, _++_, map}
-use Prim.Native.Nat.{ℕ, suc, _+_, _<_}
+use Prim.Native.Nat.{ℕ, suc, _+_, _≤_, _<_}
 use Prim.Native.Char.{code}
 use native.Mathlib.Omega.{arith}
 use lib.Dec.{eqb}
@@ -121,14 +121,20 @@ abbrev pub frameSize : Frame → ℕ
 frameSize opened = 0
 frameSize (signed o u ts) = suc (size ts)
 
--- a member, or the `)`, of the group whose bracket is the innermost is to be read at c
-pub record Inside (x : Text) (work names : List ℕ) (c : Cursor) (left node sign members : ℕ) (k : List Frame) : Type 0 where
-  pub top : Frame
-  pub expecting : Expecting x work names c (top ∷ k)
-  pub signs : frameSign top ≡ sign
-  pub sizes : frameSize top ≡ members
+-- a member, or the `)`, of the innermost group is to be read at c: f has what was read of that group, and k has the groups around it
+pub record Inside (x : Text) (work names : List ℕ) (c : Cursor) (left node : ℕ) (f : Frame) (k : List Frame) : Type 0 where
+  pub expecting : Expecting x work names c (f ∷ k)
   pub node-is : node ≡ length (stackNodes k)
   pub room : length k + 1 + left ≡ 16
+
+-- the same, where no `)` may stand: the group begins at p, and has `members` members so far, parted by `sign`
+pub record AtMember (x : Text) (work names : List ℕ) (p : ℕ) (c : Cursor) (left node sign members : ℕ) (k : List Frame) : Type 0 where
+  pub top : Frame
+  pub inside : Inside x work names c left node top k
+  pub signs : frameSign top ≡ sign
+  pub sizes : frameSize top ≡ members
+  pub no-end : is x (code ")") (c .at) ≡ true → shut (top ∷ k) ≡ dead
+  pub from : p ≤ c .at
 
 -- a fault goes through
 pub member-fault : (x : Text) (work names : List ℕ) (p : ℕ) (k : List Frame) {g : Got} {f : ModelFault} {q : ℕ} → Member x work names p k g → g ≡ Faulty f q

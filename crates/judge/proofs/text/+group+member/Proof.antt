@@ -1,13 +1,11 @@
--- The text left falls with each call. Each return is one case of `Reading.Group`.
-use mathlib.Core.Path.{sym, ap, _∙_}
+-- The text left falls with each call and with each turn of the loop. Each return is one case of `Reading.Group`.
+use mathlib.Core.Path.{sym, _∙_}
 use mathlib.Core.List.{tail}
 use native.Mathlib.Omega.{arith}
 use borrow.Author.Needs.{needs}
 use Rattle.judge.specs.Syntax.Machine.{here}
-use Rattle.judge.specs.Reading.Walk.{stackOf, member-fault, group-fault}
-use Rattle.judge.specs.Reading.Group.{member-stops, member-bad, too-deep, many-groups, goes-in, closed-fits, group-member, sign-known, members-fit, node-fits, empty-inside, group-empty, group-ready, member-fits, group-stops, past-inside, group-ends, group-bad, group-joins, group-on}
-use mathlib.Core.Bool.{_&&_}
-use lib.Dec.{eqb}
+use Rattle.judge.specs.Reading.Walk.{stackOf, AtMember, member-fault, group-fault}
+use Rattle.judge.specs.Reading.Group.{member-stops, member-bad, too-deep, many-groups, goes-in, closed-fits, group-member, sign-known, members-fit, node-fits, group-empty, group-begins, group-ready, group-stops, past-inside, turn-less, group-ends, group-bad, group-joins}
 use Prim.Native.Nat.{_+_, _-_, _*_}
 use lib.ListN.{length}
 use Prim.Native.Nat.{ℕ, _<_}
@@ -56,118 +54,118 @@ group-claims t = (
   packed-group-reads.Learnt,
   parts-reads.Asked,
   parts-reads.Learnt,
-  group-below t,
-  group.Post,
 )
+
+abbrev group-Inv-loop : group-lts.InvT-loop
+group-Inv-loop text work₀ names₀ left node next₀ at sign₀ members₀ work names next sign members =
+    AtMember text work names at next left node sign members (tail (stackOf (here text at)))
+
+abbrev group-μ-loop : group-lts.MeasureT-loop
+group-μ-loop text work₀ names₀ left node next₀ at sign₀ members₀ work names next sign members = length text - next .at
 
 abbrev member-claims : ℕ → member-lts.Claims
 member-claims t = (is-letter-reads.Asked, is-letter-reads.Learnt, atom-reads.Asked, atom-reads.Learnt, group-below t, group.Post, mark-reads.Asked, mark-reads.Learnt)
 
-group-stands-requires : (t : ℕ) → group-lts.Need-stands-requires (group-claims t) (group-at t) group.Post
+group-stands-requires : (t : ℕ) → group-lts.Need-stands-requires (group-claims t) (group-at t) group.Post group-Inv-loop group-μ-loop
 group-stands-requires t c κs = omega arith
 
-group-add-t19 : (t : ℕ) → group-lts.Need-add-t19 (group-claims t) (group-at t) group.Post
-group-add-t19 t c =
-    let s = c .before .before .before in
-    omega (arith, empty-inside (s .pre .1) (ap (_&&_ (eqb (s .args .sign) 0)) (sym (c .before .stands .ensures)) ∙ c .if1 .taken))
+group-add-next : (t : ℕ) → group-lts.Need-add-next (group-claims t) (group-at t) group.Post group-Inv-loop group-μ-loop
+group-add-next t c =
+    let s = c .before .before .before in omega (arith, group-empty (s .pre .1) (sym (c .before .stands .ensures) ∙ c .if1 .taken) .at-is .within)
 
-group-returns : (t : ℕ) → group-lts.Need-returns (group-claims t) (group-at t) group.Post
-group-returns t c = let s = c .before .before .before in group-empty (s .pre .1) (ap (_&&_ (eqb (s .args .sign) 0)) (sym (c .before .stands .ensures)) ∙ c .if1 .taken)
+group-returns : (t : ℕ) → group-lts.Need-returns (group-claims t) (group-at t) group.Post group-Inv-loop group-μ-loop
+group-returns t c =
+    let s = c .before .before .before in group-empty (s .pre .1) (sym (c .before .stands .ensures) ∙ c .if1 .taken)
 
-group-member-requires : (t : ℕ) → group-lts.Need-member-requires (group-claims t) (group-at t) group.Post
+group-loop-holds : (t : ℕ) → group-lts.Need-loop-holds (group-claims t) (group-at t) group.Post group-Inv-loop group-μ-loop
+group-loop-holds t c =
+    let s = c .before .before .before in group-begins (s .pre .1) (sym (c .before .stands .ensures) ∙ c .if1 .left)
+
+group-member-requires : (t : ℕ) → group-lts.Need-member-requires (group-claims t) (group-at t) group.Post group-Inv-loop group-μ-loop
 group-member-requires t c κs =
-    let s = c .before .before .before .before .before in (
-      omega (arith, s .pre .0, s .pre .1 .expecting .at-is .within),
-      group-ready (s .pre .1) (ap (_&&_ (eqb (s .args .sign) 0)) (sym (c .before .before .before .stands .ensures)) ∙ c .before .before .if1 .left),
-    )
+    let i = c .before .before .loop .inv in (omega (arith, c .before .before .before .before .before .before .pre .0, i .inside .expecting .at-is .within, i .from), group-ready i)
 
-group-enum-known-past : (t : ℕ) → group-lts.Need-enum-known-past (group-claims t) (group-at t) group.Post
+group-enum-known-past : (t : ℕ) → group-lts.Need-enum-known-past (group-claims t) (group-at t) group.Post group-Inv-loop group-μ-loop
 group-enum-known-past t c = search needs
 
-group-returns-2 : (t : ℕ) → group-lts.Need-returns-2 (group-claims t) (group-at t) group.Post
+group-returns-2 : (t : ℕ) → group-lts.Need-returns-2 (group-claims t) (group-at t) group.Post group-Inv-loop group-μ-loop
 group-returns-2 t c =
-    let s = c .before .before .before .before .before .before .before .before .before .before in
+    let i = c .before .before .before .before .before .before .before .loop .inv in
     let m = c .before .before .before .before .member in
-    let p = c .before .before .past .given in group-stops (s .pre .1) (m .last .1 .0) (m .last .1 .1 .0) (m .ensures) (p .1) (c .if2 .taken)
+    let p = c .before .before .past .given in
+    group-stops i (m .last .1 .0) (m .last .1 .1 .0) (m .ensures) (p .1) (c .if2 .taken)
 
-group-shared-slice-read-b : (t : ℕ) → group-lts.Need-shared-slice-read-b (group-claims t) (group-at t) group.Post
+group-shared-slice-read-b : (t : ℕ) → group-lts.Need-shared-slice-read-b (group-claims t) (group-at t) group.Post group-Inv-loop group-μ-loop
 group-shared-slice-read-b t c =
-    let s = c .before .before .before .before .before .before .before .before .before .before .before in
-    let m = c .before .before .before .before .before .member in
-    let p = c .before .before .before .past .given in past-inside (s .pre .1) (m .last .1 .0) (m .last .1 .1 .0) (m .ensures) (p .1) (c .before .if2 .left)
-
-group-add-t25 : (t : ℕ) → group-lts.Need-add-t25 (group-claims t) (group-at t) group.Post
-group-add-t25 t c =
-    let s = c .before .before .before .before .before .before .before .before .before .before .before in
+    let i = c .before .before .before .before .before .before .before .before .loop .inv in
     let m = c .before .before .before .before .before .member in
     let p = c .before .before .before .past .given in
-    omega (arith, past-inside (s .pre .1) (m .last .1 .0) (m .last .1 .1 .0) (m .ensures) (p .1) (c .before .if2 .left))
+    past-inside i (m .last .1 .0) (m .last .1 .1 .0) (m .ensures) (p .1) (c .before .if2 .left)
 
-group-add-packed-group : (t : ℕ) → group-lts.Need-add-packed-group (group-claims t) (group-at t) group.Post
-group-add-packed-group t c = omega (arith, members-fit (c .before .before .before .before .before .before .before .before .before .before .before .before .pre .1))
+group-add-members : (t : ℕ) → group-lts.Need-add-members (group-claims t) (group-at t) group.Post group-Inv-loop group-μ-loop
+group-add-members t c =
+    omega (arith, members-fit (c .before .before .before .before .before .before .before .before .loop .inv))
 
-group-packed-group-requires : (t : ℕ) → group-lts.Need-packed-group-requires (group-claims t) (group-at t) group.Post
-group-packed-group-requires t c κs = sign-known (c .before .before .before .before .before .before .before .before .before .before .before .before .pre .1)
+group-add-next-2 : (t : ℕ) → group-lts.Need-add-next-2 (group-claims t) (group-at t) group.Post group-Inv-loop group-μ-loop
+group-add-next-2 t c =
+    let i = c .before .before .before .before .before .before .before .before .loop .inv in
+    let m = c .before .before .before .before .before .member in
+    let p = c .before .before .before .past .given in
+    omega (arith, past-inside i (m .last .1 .0) (m .last .1 .1 .0) (m .ensures) (p .1) (c .before .if2 .left))
 
-group-mul-work : (t : ℕ) → group-lts.Need-mul-work (group-claims t) (group-at t) group.Post
-group-mul-work t c = omega (arith, node-fits (c .before .before .before .before .before .before .before .before .before .before .before .before .before .pre .1))
+group-packed-group-requires : (t : ℕ) → group-lts.Need-packed-group-requires (group-claims t) (group-at t) group.Post group-Inv-loop group-μ-loop
+group-packed-group-requires t c κs =
+    sign-known (c .before .before .before .before .before .before .before .before .before .loop .inv)
 
-group-element-write-work : (t : ℕ) → group-lts.Need-element-write-work (group-claims t) (group-at t) group.Post
-group-element-write-work t c = node-fits (c .before .before .before .before .before .before .before .before .before .before .before .before .before .pre .1)
+group-mul-work : (t : ℕ) → group-lts.Need-mul-work (group-claims t) (group-at t) group.Post group-Inv-loop group-μ-loop
+group-mul-work t c =
+    omega (arith, node-fits (c .before .before .before .before .before .before .before .before .before .before .loop .inv))
 
-group-returns-3 : (t : ℕ) → group-lts.Need-returns-3 (group-claims t) (group-at t) group.Post
+group-element-write-work : (t : ℕ) → group-lts.Need-element-write-work (group-claims t) (group-at t) group.Post group-Inv-loop group-μ-loop
+group-element-write-work t c =
+    node-fits (c .before .before .before .before .before .before .before .before .before .before .loop .inv)
+
+group-returns-3 : (t : ℕ) → group-lts.Need-returns-3 (group-claims t) (group-at t) group.Post group-Inv-loop group-μ-loop
 group-returns-3 t c =
-    let s = c .before .before .before .before .before .before .before .before .before .before .before .before .before in
+    let i = c .before .before .before .before .before .before .before .before .before .before .loop .inv in
     let m = c .before .before .before .before .before .before .before .member in
     let p = c .before .before .before .before .before .past .given in
-    group-ends (s .pre .1) (m .last .1 .0) (m .last .1 .1 .0) (m .ensures) (p .1) (c .before .before .before .if2 .left) (c .before .if3 .taken)
-    (c .packed-group .result) (c .packed-group .ensures)
+    group-ends i (m .last .1 .0) (m .last .1 .1 .0) (m .ensures) (p .1) (c .before .before .before .if2 .left) (c .before .if3 .taken) (c .packed-group .result) (c .packed-group .ensures)
 
-group-parts-requires : (t : ℕ) → group-lts.Need-parts-requires (group-claims t) (group-at t) group.Post
+group-parts-requires : (t : ℕ) → group-lts.Need-parts-requires (group-claims t) (group-at t) group.Post group-Inv-loop group-μ-loop
 group-parts-requires t c κs = tt
 
-group-add-group : (t : ℕ) → group-lts.Need-add-group (group-claims t) (group-at t) group.Post
-group-add-group t c =
-    omega
-    (arith, members-fit (c .before .before .before .before .before .before .before .before .before .before .before .before .before .before .before .before .pre .1))
-
-group-group-requires : (t : ℕ) → group-lts.Need-group-requires (group-claims t) (group-at t) group.Post
-group-group-requires t c κs =
-    let s = c .before .before .before .before .before .before .before .before .before .before .before .before .before .before .before .before in
-    let m = c .before .before .before .before .before .before .before .before .before .before .member in
-    let p = c .before .before .before .before .before .before .before .before .past .given in (
-      omega
-          (arith, s .pre .0, member-fits (s .pre .1) (m .last .1 .0) (m .last .1 .1 .0) (m .ensures) (p .1) .0, past-inside (s .pre .1) (m .last .1 .0) (m .last .1 .1 .0) (m .ensures) (p .1) (c .before .before .before .before .before .before .if2 .left)),
-      group-joins (s .pre .1) (m .last .1 .0) (m .last .1 .1 .0) (m .ensures) (p .1) (c .before .before .before .before .before .before .if2 .left)
-          (c .before .before .before .before .if3 .left) (sym (c .before .before .before .parts .ensures) ∙ c .before .before .if4 .taken),
-    )
-
-group-returns-4 : (t : ℕ) → group-lts.Need-returns-4 (group-claims t) (group-at t) group.Post
-group-returns-4 t c =
-    let s = c .before .before .before .before .before .before .before .before .before .before .before .before .before .before .before .before .before in
-    let m = c .before .before .before .before .before .before .before .before .before .before .before .member in
-    let p = c .before .before .before .before .before .before .before .before .before .past .given in
-    group-on (s .pre .1) (m .last .1 .0) (m .last .1 .1 .0) (m .ensures) (p .1) (c .before .before .before .before .before .before .before .if2 .left)
-    (c .before .before .before .before .before .if3 .left) (sym (c .before .before .before .before .parts .ensures) ∙ c .before .before .before .if4 .taken)
-    (c .group .last .1 .0) (c .group .last .1 .1 .0) (c .group .result) (c .group .ensures)
-
-group-enum-known-f : (t : ℕ) → group-lts.Need-enum-known-f (group-claims t) (group-at t) group.Post
-group-enum-known-f t c = search needs
-
-group-returns-5 : (t : ℕ) → group-lts.Need-returns-5 (group-claims t) (group-at t) group.Post
-group-returns-5 t c =
-    let s = c .before .before .before .before .before .before .before .before .before .before .before .before .before .before in
+group-loop-less : (t : ℕ) → group-lts.Need-loop-less (group-claims t) (group-at t) group.Post group-Inv-loop group-μ-loop
+group-loop-less t c =
+    let i = c .before .before .before .before .before .before .before .before .before .before .before .loop .inv in
     let m = c .before .before .before .before .before .before .before .before .member in
     let p = c .before .before .before .before .before .before .past .given in
-    group-bad (s .pre .1) (m .last .1 .0) (m .last .1 .1 .0) (m .ensures) (p .1) (c .before .before .before .before .if2 .left) (c .before .before .if3 .left)
-    (sym (c .before .parts .ensures) ∙ c .if4 .left)
+    turn-less i (m .last .1 .0) (m .last .1 .1 .0) (m .ensures) (p .1) (c .before .before .before .before .if2 .left)
 
-group-returns-6 : (t : ℕ) → group-lts.Need-returns-6 (group-claims t) (group-at t) group.Post
-group-returns-6 t c =
-    let a = c .before .before .before .before .before .before .before .before .before .args in
+group-loop-again : (t : ℕ) → group-lts.Need-loop-again (group-claims t) (group-at t) group.Post group-Inv-loop group-μ-loop
+group-loop-again t c =
+    let i = c .before .before .before .before .before .before .before .before .before .before .before .loop .inv in
+    let m = c .before .before .before .before .before .before .before .before .member in
+    let p = c .before .before .before .before .before .before .past .given in
+    group-joins i (m .last .1 .0) (m .last .1 .1 .0) (m .ensures) (p .1) (c .before .before .before .before .if2 .left) (c .before .before .if3 .left) (sym (c .before .parts .ensures) ∙ c .if4 .taken)
+
+group-returns-4 : (t : ℕ) → group-lts.Need-returns-4 (group-claims t) (group-at t) group.Post group-Inv-loop group-μ-loop
+group-returns-4 t c =
+    let i = c .before .before .before .before .before .before .before .before .before .before .before .loop .inv in
+    let m = c .before .before .before .before .before .before .before .before .member in
+    let p = c .before .before .before .before .before .before .past .given in
+    group-bad i (m .last .1 .0) (m .last .1 .1 .0) (m .ensures) (p .1) (c .before .before .before .before .if2 .left) (c .before .before .if3 .left) (sym (c .before .parts .ensures) ∙ c .if4 .left)
+
+group-enum-known-f : (t : ℕ) → group-lts.Need-enum-known-f (group-claims t) (group-at t) group.Post group-Inv-loop group-μ-loop
+group-enum-known-f t c = search needs
+
+group-returns-5 : (t : ℕ) → group-lts.Need-returns-5 (group-claims t) (group-at t) group.Post group-Inv-loop group-μ-loop
+group-returns-5 t c =
+    let a = c .before .before .before .before .before .before .before .before .before .before .args in
+    let l = c .before .before .before .before .before .before .loop in
     let m = c .before .before .before .member in
     let f = c .before .f .given in
-    member-fault (a .text .now) (m .last .1 .0) (m .last .1 .1 .0) (a .c .at) (stackOf (here (a .text .now) (a .c .at))) (m .ensures) (f .1)
+    member-fault (a .text .now) (m .last .1 .0) (m .last .1 .1 .0) (l .next .at) (stackOf (here (a .text .now) (l .next .at))) (m .ensures) (f .1)
 
 member-returns : (t : ℕ) → member-lts.Need-returns (member-claims t) (member-at t) member.Post
 member-returns t c = member-stops (c .before .before .pre .1) (c .if1 .taken)
@@ -268,27 +266,27 @@ member-returns-7 t c =
     group-fault (a .text .now) (g .last .1 .0) (g .last .1 .1 .0) (a .c .at + 1) (tail (stackOf (here (a .text .now) (a .c .at + 1)))) (g .ensures) (f .1)
 
 pub +group+member-spec : {M : Type 1} → statement M
-+group+member-spec = close μ-group μ-member (λ t. group-lts.spec (group-claims t) (group-at t) group.Post
++group+member-spec = close μ-group μ-member (λ t. group-lts.spec (group-claims t) (group-at t) group.Post group-Inv-loop group-μ-loop
     (group-stands-requires t)
-    (group-add-t19 t)
+    (group-add-next t)
     (group-returns t)
+    (group-loop-holds t)
     (group-member-requires t)
     (group-enum-known-past t)
     (group-returns-2 t)
     (group-shared-slice-read-b t)
-    (group-add-t25 t)
-    (group-add-packed-group t)
+    (group-add-members t)
+    (group-add-next-2 t)
     (group-packed-group-requires t)
     (group-mul-work t)
     (group-element-write-work t)
     (group-returns-3 t)
     (group-parts-requires t)
-    (group-add-group t)
-    (group-group-requires t)
+    (group-loop-less t)
+    (group-loop-again t)
     (group-returns-4 t)
     (group-enum-known-f t)
-    (group-returns-5 t)
-    (group-returns-6 t))
+    (group-returns-5 t))
     λ t. member-lts.spec (member-claims t) (member-at t) member.Post
     (member-returns t)
     (member-shared-slice-read-b t)
