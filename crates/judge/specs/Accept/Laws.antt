@@ -31,12 +31,12 @@ use Rattle.judge.specs.Accept.Length.{text-fits, text-some}
 
 -- members of a list by their places
 module _ {A : Type 0} (d : A) where
-  member-at : (l : List A) (k : ℕ) → k < length l → List·Memᴰ (getD l k d) l
+  pub member-at : (l : List A) (k : ℕ) → k < length l → List·Memᴰ (getD l k d) l
   member-at [] k h = absurd (omega arith)
   member-at (a ∷ l) zero h = List·Memᴰ·head refl
   member-at (a ∷ l) (suc k) h = List·Memᴰ·tail (member-at l k (omega arith))
 
-  member-place : {a : A} {l : List A} → List·Memᴰ a l → (k : ℕ) × (k < length l) × (getD l k d ≡ a)
+  pub member-place : {a : A} {l : List A} → List·Memᴰ a l → (k : ℕ) × (k < length l) × (getD l k d ≡ a)
   member-place (List·Memᴰ·head e) = (0, omega arith, sym e)
   member-place (List·Memᴰ·tail m) = let i = member-place m in (suc (i .0), omega (arith, i .1), i .2)
 

@@ -134,6 +134,16 @@ module _ (ns : List Text) (names heads : List ℕ) (t : Table ns names heads) (n
     next-is = λ j b. link-is j (omega (arith, long));
   }
 
+pub head-fits : {ns : List Text} {names heads : List ℕ} → Table ns names heads → (h : ℕ) → h < slots → getD heads h 0 ≤ maxAtoms
+head-fits {ns} t h l = omega (arith, t .heads-are h l, last-under (λ n. eqb (hashOf n) h) ns (length ns), t .few)
+
+-- by the number that the code enters
+pub table-entry : {ns : List Text} {names heads : List ℕ} → Table ns names heads → (name : Text) (h : ℕ) → h ≡ hashOf name → h < slots
+    → (n start len : ℕ) → length ns ≡ n → n < maxAtoms → Table (ns ++ (name ∷ [])) (set names n (entryOf start len (getD heads h 0))) (set heads h (n + 1))
+table-entry {ns} {names} {heads} t name h e l n start len q few =
+    rw (← q, add-one)
+    (table-more ns names heads t name h (entryOf start len (getD heads h 0)) e l (omega arith) (omega (arith, head-fits t h l)))
+
 -- the names at the places that the numbers have
 module _ {x : Text} {names heads : List ℕ} {n : ℕ} (t : Tabled x names heads n) where
   parts-long : length (partsIn x names n) ≡ n
