@@ -29,7 +29,7 @@ use Rattle.judge.specs.Syntax.Complete.{node-step, behindAtom}
 use Rattle.judge.specs.Syntax.Counters.{stackWeight, frameWeight, Even, even}
 use Rattle.judge.specs.Model.{countsOf}
 use Rattle.judge.specs.Model.Laws.{length-encode, length-encodeAll}
-use Rattle.judge.specs.Limits.{maxName, maxAtoms, maxNodes}
+use Rattle.judge.specs.Limits.{maxText, maxName, maxAtoms, maxNodes}
 use Rattle.judge.specs.Fault.{is, nameAt, nodeAt, nameFrom, tally, Fault, modelNumber, refused, Answers}
 use Rattle.judge.specs.Fault.Answered.{byte-inside}
 use Rattle.judge.specs.Fault.Places.{LetterFault, letter-faults, letter-next, letter-faultless, found-by, clean-more}
@@ -39,7 +39,7 @@ use Rattle.judge.specs.Reading.Lexeme.{countAt}
 use Rattle.judge.specs.Reading.Lexeme.Laws.{front-step}
 use Rattle.judge.specs.Reading.Packed.{nodeOf, placeOf, plain}
 use Rattle.judge.specs.Reading.Search.{name-fits, name-part, parts-named, twice-found, twice-missed}
-use Rattle.judge.specs.Reading.Table.{slots, hashOf, lastIn, partsIn, entryOf}
+use Rattle.judge.specs.Reading.Table.{slots, hashOf, lastIn, partsIn, entryOf, Enters}
 use Rattle.judge.specs.Reading.Table.Laws.{head-fits, table-entry}
 use Rattle.judge.specs.Reading.Buffer.{holds-count, holds-more}
 use Rattle.judge.specs.Reading.At.{At, run-front, front-over}
@@ -193,13 +193,15 @@ module _ {x : Text} {work : List ℕ} {kept : Kept} {c : Cursor} {k : List Frame
       unfolding long
       name-is = name-part x (c .at) (end - c .at) long
 
-      pub name-long : length nameHere ≡ end - c .at
-      unfolding name-is long
-      name-long = ap length name-is ∙ sym long
-
       pub name-within : (c .at ≤ end) × (end ≤ length x)
       unfolding letter-inside long
       name-within = (omega arith, omega (arith, long, name-fits x (c .at) (omega (arith, letter-inside))))
+
+      pub name-some : (0 < length nameHere) × (length nameHere ≤ maxText)
+      unfolding name-is name-length long name-within
+      name-some =
+          let m : length nameHere ≡ length (nameFrom x (c .at)) = ap length name-is in
+          (omega (arith, name-length), omega (arith, long, name-within, r .at-is .sized .1))
 
       pub long-name : maxName < end - c .at → Answers x (refused LongName (c .at))
       unfolding long answer-by lesser
@@ -215,6 +217,10 @@ module _ {x : Text} {work : List ℕ} {kept : Kept} {c : Cursor} {k : List Frame
             (lesser ManyAtoms (λ _ k. omega (arith, k, long)) (λ i _. omega (arith, i)) (λ i _. omega (arith, i)) (λ i _. omega (arith, i)))
 
         module _ (a : c .names < maxAtoms) where
+          pub may-enter : (h : ℕ) → h < slots → Enters (kept .1) (c .names) (c .at) (end - c .at) h
+          unfolding letter-inside
+          may-enter h v = record { few = a; begins = omega (arith, letter-inside, r .at-is .sized .1); short = s; slot = v; next = head-fits (r .named .table) h v }
+
           pub many-nodes : c .nodes ≡ maxNodes → Answers x (refused ManyNodes (c .at))
           unfolding long answer-by lesser names-many nodes-many
           many-nodes h =

@@ -88,7 +88,7 @@ names-tabled {x} {kept} {n} {l} {p} a h = record { few = h .held .few; table = r
     inside : (i : ℕ) → i < n → placeOf (getD (kept .0) i 0) .start + placeOf (getD (kept .0) i 0) .len ≤ length x
     inside i j =
         let e : placeOf (getD (kept .0) i 0) ≡ namePlace x (getD l i 0) =
-            sym (List·getD-map placeOf (take n (kept .0)) i 0 ∙ ap placeOf (getD-take n (kept .0) i 0 j)) ∙ ap (λ m. getD m i (placeOf 0)) (h .held .held) ∙ mapped-at (namePlace x) l i 0 (placeOf 0) (omega (arith, long)) in
+        sym (List·getD-map placeOf (take n (kept .0)) i 0 ∙ ap placeOf (getD-take n (kept .0) i 0 j)) ∙ ap (λ m. getD m i (placeOf 0)) (h .held .held) ∙ mapped-at (namePlace x) l i 0 (placeOf 0) (omega (arith, long)) in
         let m : List·Memᴰ (getD l i 0) (places x p) = rw (a .names) (in-list l i 0 (omega (arith, long))) in
         rw e (name-fits x (getD l i 0) (omega (arith, in-places x p (getD l i 0) m .0, a .within)))
 
