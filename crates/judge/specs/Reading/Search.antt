@@ -14,7 +14,7 @@ use Rattle.judge.specs.declared.text.NamePlace.{NamePlace}
 use Rattle.judge.specs.Bytes.{Text, isInner, sameText}
 use Rattle.judge.specs.Bytes.Laws.{front-take, same-text}
 use Rattle.judge.specs.Fault.{nameAt, nameFrom, Twice}
-use Rattle.judge.specs.Fault.Ties.{places, in-places, twice-there, twice-only}
+use Rattle.judge.specs.Fault.Ties.{places, twice-there, twice-only}
 use Rattle.judge.specs.Accept.Laws.{member-at, member-place}
 use Rattle.judge.specs.Limits.{maxAtoms}
 use Rattle.judge.specs.declared.text.Names.{Names}
@@ -88,7 +88,7 @@ module _ (x : Text) (p : ℕ) where
       missed q m s =
           let i = member-place 0 m in
           let n : getD earlier (i .0) [] ≡ nameFrom x p = earlier-at (i .0) (i .1) ∙ ap (nameFrom x) (i .2) ∙ s in
-          let f : sameText (getD earlier (i .0) []) (nameFrom x p) ≡ false = last-missed earlier (nameFrom x p) e (i .0) (omega (arith, i .1, length-map (places x p) (nameFrom x))) in
+          let f : sameText (getD earlier (i .0) []) (nameFrom x p) ≡ false = last-missed earlier (nameFrom x p) .0 e (i .0) (omega (arith, i .1, length-map (places x p) (nameFrom x))) in
           true≢false (sym (same-text (getD earlier (i .0) []) (nameFrom x p) .1 n) ∙ f)
 
 -- a turn of the look-up among any places

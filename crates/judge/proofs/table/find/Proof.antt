@@ -2,7 +2,7 @@
 use mathlib.Core.Path.{sym, _∙_}
 use native.Mathlib.Omega.{arith}
 use Rattle.judge.specs.Reading.Table.{partsIn}
-use Rattle.judge.specs.Reading.Table.Laws.{Stands, walk-starts, walk-ends, start-fits, number-fits, part-fits, find-ends, find-goes, find-falls}
+use Rattle.judge.specs.Reading.Table.Laws.{Stands, walk-starts, walk-ends, walk-fits, number-fits, part-fits, find-ends, find-goes, find-falls}
 use Rattle.judge.proofs.table.find.Statement.{statement}
 use Rattle.judge.proofs.table.find.Tie as tie
 use Rattle.judge.proofs.text.same_bytes.Reads as same-bytes-reads
@@ -17,7 +17,7 @@ element-copy-out-k : tie.Need-element-copy-out-k Inv-loop μ-loop
 element-copy-out-k c = c .before .before .pre .1 .1
 
 cast-k : tie.Need-cast-k Inv-loop μ-loop
-cast-k c = omega (arith, start-fits (c .before .before .before .pre .0) (walk-starts (c .before .before .before .pre .0 .table) (c .before .before .before .args .name .now) (c .before .before .before .args .hash) (c .before .before .before .pre .1 .0) (c .before .before .before .pre .1 .1)))
+cast-k c = omega (arith, walk-fits (c .before .before .before .pre .0) (walk-starts (c .before .before .before .pre .0 .table) (c .before .before .before .args .name .now) (c .before .before .before .args .hash) (c .before .before .before .pre .1 .0) (c .before .before .before .pre .1 .1)))
 
 loop-holds : tie.Need-loop-holds Inv-loop μ-loop
 loop-holds c = walk-starts (c .before .before .before .pre .0 .table) (c .before .before .before .args .name .now) (c .before .before .before .args .hash) (c .before .before .before .pre .1 .0) (c .before .before .before .pre .1 .1)

@@ -1,7 +1,6 @@
 -- At the first letter the faults are tried in the order of their numbers (`Reading.Atom`).
 use mathlib.Core.Path.{sym, _∙_}
 use native.Mathlib.Omega.{arith}
-use borrow.Author.Needs.{needs}
 use Rattle.judge.specs.Reading.Walk.{names-tabled}
 use Rattle.judge.specs.Reading.Atom.{letter-inside, long-name, many-atoms, many-nodes, name-within, name-some, may-enter, repeated-name, name-read, name-stack, atom-member}
 use Rattle.judge.proofs.text.atom.Statement.{statement}

@@ -1,6 +1,6 @@
 -- How the table grows by a name, and how a walk along the links finds the number of one.
 use mathlib.Core.Path.{_≡_, refl, sym, ap, _∙_}
-use mathlib.Core.Logic.{by-cases}
+use mathlib.Core.Logic.{_↔_, by-cases}
 use mathlib.Core.Bool.{Bool, true, false, cond}
 use mathlib.Core.List.{List, [], _∷_, _++_, map}
 use Prim.Native.Nat.{ℕ, zero, suc, _+_, _-_, _/_, _%_, _≤_, _<_}
@@ -15,7 +15,6 @@ use Rattle.judge.specs.Tests.{by-test}
 use Rattle.judge.specs.Bytes.{Text, sameText}
 use Rattle.judge.specs.Bytes.Laws.{same-text}
 use Rattle.judge.specs.Limits.{maxAtoms}
-use Rattle.judge.specs.Syntax.{numberFrom, numberIn}
 use Rattle.judge.specs.Reading.{partAt}
 use Rattle.judge.specs.Reading.Packed.{placeOf}
 use Rattle.judge.specs.Reading.Table.{slots, hashOf, lastOf, latest, lastIn, Table, partsIn, Tabled, entryOf}
@@ -30,17 +29,17 @@ module _ (f : Text → Bool) (ns : List Text) where
   last-passes zero n = absurd (n refl)
   last-passes (suc i) n = by-test (f (getD ns i [])) (λ e. let z : suc i - 1 ≡ i = omega arith in rw (e, z) e) (λ e. rw e (last-passes i (rw e at n)))
 
-  pub last-none : (i : ℕ) → ((j : ℕ) → j < i → f (getD ns j []) ≡ false) → lastOf f ns i ≡ 0
+  last-none : (i : ℕ) → ((j : ℕ) → j < i → f (getD ns j []) ≡ false) → lastOf f ns i ≡ 0
   last-none zero n = refl
   last-none (suc i) n = rw (n i (omega arith)) (last-none i (λ j h. n j (omega arith)))
 
   -- what fails a weaker test is passed over
-  pub last-skips : (g : Text → Bool) → ((n : Text) → g n ≡ false → f n ≡ false) → (i : ℕ) → lastOf f ns i ≡ lastOf f ns (lastOf g ns i)
+  last-skips : (g : Text → Bool) → ((n : Text) → g n ≡ false → f n ≡ false) → (i : ℕ) → lastOf f ns i ≡ lastOf f ns (lastOf g ns i)
   last-skips g w zero = refl
   last-skips g w (suc i) = by-test (g (getD ns i [])) (λ e. rw e) (λ e. rw (e, w (getD ns i []) e) (last-skips g w i))
 
   -- names behind do not matter
-  pub last-front : (more : List Text) (i : ℕ) → i ≤ length ns → lastOf f (ns ++ more) i ≡ lastOf f ns i
+  last-front : (more : List Text) (i : ℕ) → i ≤ length ns → lastOf f (ns ++ more) i ≡ lastOf f ns i
   last-front more zero h = refl
   last-front more (suc i) h = rw (List·getD-append ns more [] i (omega arith), last-front more i (omega arith))
 
@@ -76,18 +75,18 @@ module _ {ns : List Text} {names heads : List ℕ} (t : Table ns names heads) (x
         go zero n = absurd (n refl)
         go (suc i) n = let z : suc i - 1 ≡ i = omega arith in rw z
 
-    pub walk-finds : sameText (getD ns (k - 1) []) x ≡ true → k ≡ lastIn ns x
+    walk-finds : sameText (getD ns (k - 1) []) x ≡ true → k ≡ lastIn ns x
     unfolding here
     walk-finds e = sym (here ∙ rw e) ∙ s .last-is
 
     next-under : getD names (k - 1) 0 % 256 ≡ latest (hashOf x) ns (k - 1)
     next-under = t .next-is (k - 1) (omega (arith, s .under)) ∙ rw (s .hash-is n)
 
-    pub walk-goes : sameText (getD ns (k - 1) []) x ≡ false → Stands ns x (getD names (k - 1) 0 % 256)
+    walk-goes : sameText (getD ns (k - 1) []) x ≡ false → Stands ns x (getD names (k - 1) 0 % 256)
     unfolding here next-under
     walk-goes e = stands-at ns x (k - 1) (getD names (k - 1) 0 % 256) (omega (arith, s .under)) (sym (here ∙ rw e) ∙ s .last-is) next-under
 
-    pub walk-falls : getD names (k - 1) 0 % 256 < k
+    walk-falls : getD names (k - 1) 0 % 256 < k
     unfolding next-under
     walk-falls = omega (arith, next-under, last-under (λ m. eqb (hashOf m) (hashOf x)) ns (k - 1))
 
@@ -124,7 +123,7 @@ module _ (ns : List Text) (names heads : List ℕ) (t : Table ns names heads) (n
       rw (front (hashOf (getD (ns ++ (name ∷ [])) j [])) j b)
       (by-cases (ℕ-discrete j (length ns)) (λ q. rw (q, getD-set-same names (length ns) w 0 (omega (arith, t .names-long)), getD-append-seam ns name [] [], ← e) (next ∙ t .heads-are h l)) (λ q. rw (getD-set-other names (length ns) j w 0 q, List·getD-append ns (name ∷ []) [] j (omega arith)) (t .next-is j (omega arith))))
 
-  pub table-more : Table (ns ++ (name ∷ [])) (set names (length ns) w) (set heads h (suc (length ns)))
+  table-more : Table (ns ++ (name ∷ [])) (set names (length ns) w) (set heads h (suc (length ns)))
   unfolding long slot-is link-is
   table-more = record {
     few = omega (arith, long);
@@ -161,15 +160,15 @@ module _ {x : Text} {names heads : List ℕ} {n : ℕ} (t : Tabled x names heads
       rw e
       (sym (List·getD-map (partAt x) (map placeOf (take n names)) i (placeOf 0) ∙ ap (partAt x) (List·getD-map placeOf (take n names) i 0 ∙ ap placeOf (getD-take n names i 0 h))))
 
-  pub start-fits : {name : Text} {k : ℕ} → Stands (partsIn x names n) name k → k ≤ maxAtoms
+  pub walk-fits : {name : Text} {k : ℕ} → Stands (partsIn x names n) name k → k ≤ maxAtoms
   unfolding parts-long
-  start-fits s = omega (arith, s .under, parts-long, t .few)
+  walk-fits s = omega (arith, s .under, parts-long, t .few)
 
   -- a walk that is not at its end
   module _ {name : Text} {k : ℕ} (s : Stands (partsIn x names n) name k) (o : k ≡ 0 → ⊥) where
     pub number-fits : (k - 1 < n) × (k ≤ maxAtoms)
-    unfolding parts-long start-fits
-    number-fits = (omega (arith, s .under, parts-long), start-fits s)
+    unfolding parts-long walk-fits
+    number-fits = (omega (arith, s .under, parts-long), walk-fits s)
 
     pub part-fits : getD names (k - 1) 0 / 65536 % 65536 + getD names (k - 1) 0 / 256 % 256 ≤ length x
     unfolding placeOf number-fits
@@ -186,12 +185,12 @@ module _ {x : Text} {names heads : List ℕ} {n : ℕ} (t : Tabled x names heads
     pub find-falls : getD names (k - 1) 0 % 256 < k
     find-falls = walk-falls (t .table) name s o
 
--- no name is x where the last has number 0
-pub last-missed : (ns : List Text) (x : Text) → lastIn ns x ≡ 0 → (j : ℕ) → j < length ns → sameText (getD ns j []) x ≡ false
-last-missed ns x e j h = go (length ns) h e
+-- the last that is x has number 0 just where none is x
+pub last-missed : (ns : List Text) (x : Text) → (lastIn ns x ≡ 0) ↔ ((j : ℕ) → j < length ns → sameText (getD ns j []) x ≡ false)
+last-missed ns x = (λ e j h. go (length ns) j h e, last-none (λ n. sameText n x) ns (length ns))
   where
-    go : (i : ℕ) → j < i → lastOf (λ n. sameText n x) ns i ≡ 0 → sameText (getD ns j []) x ≡ false
-    go zero h e = absurd (let k : j < 0 = h in omega arith)
-    go (suc i) h e =
+    go : (i j : ℕ) → j < i → lastOf (λ n. sameText n x) ns i ≡ 0 → sameText (getD ns j []) x ≡ false
+    go zero j h e = absurd (let k : j < 0 = h in omega arith)
+    go (suc i) j h e =
         by-test (sameText (getD ns i []) x) (λ q. absurd (let z : suc i ≡ 0 = rw q at e in omega arith))
-        (λ q. by-cases (ℕ-discrete j i) (λ d. rw d q) (λ d. go i (omega arith) (rw q at e)))
+        (λ q. by-cases (ℕ-discrete j i) (λ d. rw d q) (λ d. go i j (omega arith) (rw q at e)))
