@@ -1,18 +1,19 @@
 -- What is known of a reading: the rule of a text that was read is readable, its names are those of the tree, in order and all different.
 use mathlib.Core.Path.{_≡_, refl, sym, ap, subst, _∙_}
+use mathlib.Core.Logic.{by-cases}
 use mathlib.Core.Bool.{true, false}
 use mathlib.Core.List.{List, [], _∷_, map, map-append}
 use Prim.Native.Nat.{ℕ, zero, suc, _+_, _-_, _≤_, _<_}
 use native.Mathlib.Decide.{ℕ-discrete}
 use native.Mathlib.Omega.{arith}
 use lib.ListN.{length-map}
-use lib.ListN.{length, take, drop, getD, replicate}
+use lib.ListN.{length, take, getD, replicate}
 use lib.Seq.{take-suc, take-all, take-append-seam}
 use Rattle.judge.specs.declared.text.NamePlace.{NamePlace}
 use Rattle.judge.specs.declared.text.Outcome.the-variants.{Read}
 use Rattle.judge.specs.declared.text.Reading.{Reading}
-use Rattle.fields.specs.Bytes.{Text, isInner, sameText}
-use Rattle.fields.specs.Bytes.Laws.{front-take, same-text}
+use Rattle.fields.specs.Bytes.{Text, sameText}
+use Rattle.fields.specs.Bytes.Laws.{same-text}
 use Rattle.fields.specs.Tests.{by-test}
 use Rattle.model.specs.Tree.{leaves, atoms, Formed}
 use Rattle.model.specs.Tree.Leaves.{length-leaves}
@@ -29,20 +30,16 @@ use Rattle.model.specs.Accept.Starts.{name-at, name-place}
 use Rattle.model.specs.Rule.{ruleOf, Readable, names as ruleNames}
 use Rattle.model.specs.Rule.Names.{names-model}
 use Rattle.fields.specs.Limits.{maxAtoms}
-use Rattle.judge.specs.Reading.{namePlace, noPlace, namesOf, readingBy, reading, partAt, partsOf}
+use Rattle.judge.specs.Reading.{namePlace, noPlace, namesOf, readingBy, reading, partsOf}
+use Rattle.judge.specs.Reading.Search.{parts-named}
+use Rattle.judge.specs.Reading.Table.{lastIn}
+use Rattle.judge.specs.Reading.Table.Laws.{last-under, last-passes, last-missed}
 
 -- the parts of a text where its names stand
-names-begin : (x : Text) (p : ℕ) → map (partAt x) (map (namePlace x) (places x p)) ≡ map (nameFrom x) (places x p)
-names-begin x p = go (places x p)
-  where
-    go : (l : List ℕ) → map (partAt x) (map (namePlace x) l) ≡ map (nameFrom x) l
-    go [] = refl
-    go (q ∷ l) = rw (front-take isInner (drop q x), go l)
-
 parts-begin : (x : Text) → partsOf x (namesOf x) ≡ map (nameFrom x) (places x (length x))
 parts-begin x =
     let l : List NamePlace = map (namePlace x) (places x (length x)) in
-    rw (take-append-seam l (replicate (maxAtoms - length l) noPlace)) (names-begin x (length x))
+    rw (take-append-seam l (replicate (maxAtoms - length l) noPlace)) (parts-named x (places x (length x)))
 
 -- as far as p, they are the first names of the tree
 module _ (t : Syntax) (f : Formed SpellingFormed t) where
@@ -138,3 +135,18 @@ number-from k (n ∷ l) (suc i) h d =
 
 pub number-of-name : (l : List Text) (i : ℕ) → i < length l → ((h j : ℕ) → h < j → j < length l → getD l h [] ≡ getD l j [] → ⊥) → numberIn l (getD l i []) ≡ i + 1
 number-of-name l i h d = number-from 1 l i h d ∙ omega arith
+
+number-missed : (k : ℕ) (l : List Text) (x : Text) → ((j : ℕ) → j < length l → sameText (getD l j []) x ≡ false) → numberFrom k l x ≡ 0
+number-missed k [] x n = refl
+number-missed k (m ∷ l) x n = rw (n 0 (omega arith)) (number-missed (suc k) l x (λ j h. n (suc j) (omega arith)))
+
+-- the number that the table gives
+pub last-number : (l : List Text) (x : Text) → ((h j : ℕ) → h < j → j < length l → getD l h [] ≡ getD l j [] → ⊥) → lastIn l x ≡ numberIn l x
+last-number l x d = by-cases (ℕ-discrete (lastIn l x) 0) (λ e. e ∙ sym (number-missed 1 l x (last-missed l x .0 e))) found
+  where
+    found : (lastIn l x ≡ 0 → ⊥) → lastIn l x ≡ numberIn l x
+    found n =
+        let u : lastIn l x ≤ length l = last-under (λ m. sameText m x) l (length l) in
+        let s : getD l (lastIn l x - 1) [] ≡ x = same-text (getD l (lastIn l x - 1) []) x .0 (last-passes (λ m. sameText m x) l (length l) n) in
+        let i : numberIn l (getD l (lastIn l x - 1) []) ≡ lastIn l x - 1 + 1 = number-of-name l (lastIn l x - 1) (omega (arith, n)) d in
+        sym (ap (numberIn l) (sym s) ∙ i ∙ omega (arith, n))

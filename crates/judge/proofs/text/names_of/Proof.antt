@@ -37,11 +37,11 @@ mul-t14 c = omega arith
 element-copy-out-t17 : tie.Need-element-copy-out-t17 Inv-loop μ-loop
 element-copy-out-t17 c = omega arith
 
-cast-t19 : tie.Need-cast-t19 Inv-loop μ-loop
-cast-t19 c = omega arith
+cast-t20 : tie.Need-cast-t20 Inv-loop μ-loop
+cast-t20 c = omega arith
 
-mul-t21 : tie.Need-mul-t21 Inv-loop μ-loop
-mul-t21 c = omega arith
+mul-t22 : tie.Need-mul-t22 Inv-loop μ-loop
+mul-t22 c = omega arith
 
 element-set-from-names : tie.Need-element-set-from-names Inv-loop μ-loop
 element-set-from-names c = omega arith
@@ -81,8 +81,8 @@ names-of-spec =
     cast-t13
     mul-t14
     element-copy-out-t17
-    cast-t19
-    mul-t21
+    cast-t20
+    mul-t22
     element-set-from-names
     add-i
     loop-less
