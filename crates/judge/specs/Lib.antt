@@ -3,7 +3,7 @@
 --   Word, Types, Verdict           the words of document 001, its types, and what a verdict says
 --   Bytes, Tree, Syntax, Limits    model text: bytes, trees, and which text spells which tree
 --   Fault, Accept                  what is wrong with a text, the answer to it, and which trees are accepted
---   Model, Rule                    models, the nodes of a rule, and the type that it means
+--   Model, Rule, Packed            models, the nodes of a rule, the type that it means, and its nodes as numbers
 --   Judge                          what a row is answered
 --   Book, Session                  what a list of calls is answered, and what each method of a session does
 --   Reading                        what a model text reads into
@@ -24,6 +24,7 @@ pub mod Rule
 pub mod Judge
 pub mod Book
 pub mod Session
+pub mod Packed
 pub mod Reading
 pub mod Starred
 pub mod Examples

@@ -3,6 +3,7 @@
 mod check;
 pub mod fault;
 pub mod nodes;
+mod packed;
 pub mod row;
 pub mod rule;
 pub mod session;

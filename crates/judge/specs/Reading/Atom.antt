@@ -37,7 +37,7 @@ use Rattle.judge.specs.Fault.Ties.{places, places-tally}
 use Rattle.judge.specs.Reading.{namePlace}
 use Rattle.judge.specs.Reading.Lexeme.{countAt}
 use Rattle.judge.specs.Reading.Lexeme.Laws.{front-step}
-use Rattle.judge.specs.Reading.Packed.{nodeOf, placeOf, plain}
+use Rattle.judge.specs.Packed.{nodeOf, placeOf, plain}
 use Rattle.judge.specs.Reading.Search.{Comparable, among, twice-found, twice-missed}
 use Rattle.judge.specs.Reading.Buffer.{holds-count, holds-more}
 use Rattle.judge.specs.Reading.At.{At, run-front, front-over}

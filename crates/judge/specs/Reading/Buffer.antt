@@ -5,7 +5,7 @@ use Prim.Native.Nat.{ℕ, zero, suc, _+_, _≤_, _<_}
 use native.Mathlib.Omega.{arith}
 use native.Mathlib.Numerals.{add-one}
 use lib.ListN.{length, take, getD, set, length-append, length-set, length-take, length-map, List·getD-map}
-use lib.Seq.{take-suc-set, take-set-lt, getD-take, set-at, getD-at}
+use lib.Seq.{take-suc, take-suc-set, take-set-lt, getD-take, set-at, getD-at}
 
 module _ {A : Type 0} (f : ℕ → A) (size : ℕ) where
   pub record Holds (buffer : List ℕ) (n : ℕ) (l : List A) : Type 0 where
@@ -30,6 +30,13 @@ module _ {A : Type 0} (f : ℕ → A) (size : ℕ) where
           few = omega arith;
           held = rw (add-one, take-suc-set b n w (omega (arith, h .whole)), map-append, h .held, e);
         }
+
+  -- a loop that fills it from the front with a list r
+  pub holds-turn : (b : List ℕ) (r : List A) (i w : ℕ) (d : A) → i < size → i < length r → f w ≡ getD r i d → Holds b i (take i r)
+      → Holds (set b i w) (i + 1) (take (i + 1) r)
+  holds-turn b r i w d k m e h =
+      let t : take (i + 1) r ≡ take i r ++ (getD r i d ∷ []) = rw add-one (take-suc r i d m) in
+      rw t (holds-more b i (take i r) h w (getD r i d) k e)
 
   -- the element behind u
   module _ (b : List ℕ) (n : ℕ) (u v : List A) (a : A) (h : Holds b n (u ++ (a ∷ v))) (i : ℕ) (e : i ≡ length u) where

@@ -21,7 +21,7 @@ use Rattle.judge.specs.Limits.{maxAtoms}
 use Rattle.judge.specs.declared.text.Names.{Names}
 use Rattle.judge.specs.Syntax.{numberFrom}
 use Rattle.judge.specs.Reading.{namePlace, noPlace, partAt, partsOf}
-use Rattle.judge.specs.Reading.Packed.{placeOf}
+use Rattle.judge.specs.Packed.{placeOf}
 use Rattle.judge.specs.Reading.Lexeme.Laws.{front-short}
 
 -- the name at p begins at one of these places too

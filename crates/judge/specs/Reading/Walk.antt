@@ -28,7 +28,7 @@ use Rattle.judge.specs.Model.{countsOf, modelOf, encode, encodeAll}
 use Rattle.judge.specs.Rule.{unused}
 use Rattle.judge.specs.Fault.{is, refused, Answers}
 use Rattle.judge.specs.Reading.{namePlace}
-use Rattle.judge.specs.Reading.Packed.{nodeOf, placeOf, plain, optional}
+use Rattle.judge.specs.Packed.{nodeOf, placeOf, plain, optional}
 use Rattle.judge.specs.Reading.Lexeme.Laws.{stands-inside}
 use Rattle.judge.specs.Reading.Buffer.{Holds, holds-set, holds-get}
 use Rattle.judge.specs.Reading.At.{At, step-on}

@@ -33,7 +33,7 @@ use Rattle.judge.specs.Fault.Answered.{answer-is}
 use Rattle.judge.specs.Fault.Ties.{places}
 use Rattle.judge.specs.Fault.Places.{size-answers, dead-answers, accepted-answers}
 use Rattle.judge.specs.Reading.{namePlace, ruleWith, namesWith, namesOf, refusal, readingBy, reading}
-use Rattle.judge.specs.Reading.Packed.{nodeOf, placeOf}
+use Rattle.judge.specs.Packed.{nodeOf, placeOf}
 use Rattle.judge.specs.Reading.At.{next}
 use Rattle.judge.specs.Reading.Walk.{Behind, Member, member-fault, Ready}
 

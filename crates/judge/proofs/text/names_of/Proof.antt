@@ -4,7 +4,7 @@ use mathlib.Core.Path.{_≡_}
 use lib.ListN.{take}
 use native.Mathlib.Omega.{arith}
 use Rattle.judge.specs.Reading.{noPlace}
-use Rattle.judge.specs.Reading.Packed.{placeOf}
+use Rattle.judge.specs.Packed.{placeOf}
 use Rattle.judge.specs.Reading.Filled.{filled, fill-turn, fill-length, names-filled}
 use mathlib.Core.List.{map}
 use Rattle.judge.proofs.text.names_of.Statement.{statement}

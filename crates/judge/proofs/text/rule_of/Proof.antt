@@ -5,7 +5,7 @@ use mathlib.Core.Path.{_≡_}
 use lib.ListN.{take}
 use native.Mathlib.Omega.{arith}
 use Rattle.judge.specs.Rule.{unused}
-use Rattle.judge.specs.Reading.Packed.{nodeOf}
+use Rattle.judge.specs.Packed.{nodeOf}
 use Rattle.judge.specs.Reading.Filled.{filled, fill-turn, fill-length, rule-filled}
 use Rattle.judge.proofs.text.rule_of.Statement.{statement}
 use Rattle.judge.proofs.text.rule_of.Tie as tie
