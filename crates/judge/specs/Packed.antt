@@ -1,11 +1,13 @@
--- A node in one number, and a name's place in one: how the reader keeps them.
+-- A node in one number, and a name's place in one: how they are kept in lent arrays.
 use mathlib.Core.Path.{_≡_, refl, sym, ap, subst, _∙_}
 use mathlib.Core.Logic.{⊎-elim}
 use mathlib.Core.Bool.{Bool, cond, _||_}
+use mathlib.Core.List.{List, map}
 use Prim.Native.Nat.{ℕ, _+_, _*_, _/_, _%_, _<_}
 use Prim.Native.Char.{code}
 use native.Mathlib.Omega.{arith}
 use lib.Dec.{T, eqb, eqb→eq}
+use lib.ListN.{take}
 use mir.Facts.{or-yes}
 use Rattle.judge.specs.declared.rule.Upper.the-variants.{Number, Unbounded}
 use Rattle.judge.specs.declared.rule.Sign.{Sign}
@@ -15,7 +17,9 @@ use Rattle.judge.specs.declared.rule.Mark.the-variants.{Plain, Optional}
 use Rattle.judge.specs.declared.rule.Kind.{Kind}
 use Rattle.judge.specs.declared.rule.Kind.the-variants.{Atom, Group}
 use Rattle.judge.specs.declared.rule.Node.{Node}
+use Rattle.judge.specs.declared.rule.Rule.{Rule}
 use Rattle.judge.specs.declared.text.NamePlace.{NamePlace}
+use Rattle.judge.specs.Reading.{ruleWith}
 
 -- the number of a node without a mark
 abbrev pub word : ℕ → ℕ → ℕ → ℕ
@@ -32,6 +36,10 @@ markBy b = cond (eqb b 0) Plain Optional
 
 unfoldable pub nodeOf : ℕ → Node
 nodeOf w = record { kind = kindBy (w % 128) (w / 256 % 65536) (w / 256 / 65536 % 65536); mark = markBy (w / 128 % 2) }
+
+-- the rule of the first n numbers
+abbrev pub ruleIn : List ℕ → ℕ → Rule
+ruleIn words n = ruleWith (map nodeOf (take n words))
 
 abbrev pub plain : Kind → Node
 plain k = record { kind = k; mark = Plain }

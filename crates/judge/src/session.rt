@@ -2,14 +2,16 @@
 
 ghost use mathlib.Core.Path.{_≡_};
 ghost use lib.ListN.{length, replicate};
-ghost use Rattle.judge.specs.Judge.Laws.{upto};
 ghost use Rattle.judge.specs.Book.{opening, adding, takingBack, room};
 ghost use Rattle.judge.specs.Session.{free, allFree, intact, checked, Does, asked};
 use crate::check::name_count;
 use crate::check::well_formed;
 use crate::fault::JudgeFault;
+use crate::packed::pack;
 use crate::row::MAX_ROW;
-use crate::row::verdict_by;
+use crate::row::all_named;
+use crate::row::verdict_on;
+use crate::rule::MAX_NODES;
 use crate::rule::NameNumber;
 use crate::rule::Rule;
 use crate::verdict::Judged;
@@ -38,19 +40,6 @@ fn room_in(places: usize) -> usize
     ensures { λ r. ⌜ r ≡ room places ⌝ }
 {
     if places < MAX_ROW { places } else { MAX_ROW }
-}
-
-// Whether no number is above the names.
-fn all_named(names: usize, row: &[u16]) -> bool
-    ensures { λ r. ⌜ r ≡ upto names (now (row .entry)) ⌝ }
-{
-    let mut named = true;
-    let mut i = row.len();
-    while 0 < i {
-        i -= 1;
-        named = (row[i] as usize <= names) & named;
-    }
-    named
 }
 
 fn all_free(places: &[u16]) -> bool
@@ -194,7 +183,10 @@ impl Session {
         match self.checked(trail) {
             Outcome::Refused(fault) => Judged::Refused(fault),
             Outcome::Done => {
-                let verdict = verdict_by(rule, &trail[0..children]);
+                let names = name_count(rule);
+                let mut words = [0u64; MAX_NODES];
+                pack(rule, &mut words);
+                let verdict = verdict_on(&words, rule.len, names, &trail[0..children]);
                 Judged::Verdict(verdict)
             }
         }

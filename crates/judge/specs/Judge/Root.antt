@@ -20,13 +20,16 @@ use Rattle.judge.specs.declared.rule.Rule.{Rule}
 use Rattle.judge.specs.declared.row.Seen.{Seen}
 use Rattle.judge.specs.declared.row.Attribute.{Attribute}
 use Rattle.judge.specs.Limits.{maxNodes}
-use Rattle.judge.specs.Stack.{slice-back, first-entries, replaced}
+use Rattle.judge.specs.Stack.{drop-back, first-entries, replaced}
 use Rattle.judge.specs.Types.{Operator}
 use Rattle.judge.specs.Types.Attribute.{emptyAttribute, atomAttribute, pairAttribute, countedAttribute, markedAttribute, joinedAttributeFrom, joinedAttribute, attributeBy}
 use Rattle.judge.specs.Model.{operator}
 use Rattle.judge.specs.Model.Eval.{after, needed, step, eval, number, number-next, after-from}
 use Rattle.judge.specs.Rule.{atomsIn}
-use Rattle.judge.specs.Rule.Laws.{used}
+use Rattle.judge.specs.Reading.{ruleWith}
+use Rattle.judge.specs.Reading.Buffer.{Holds, holds-count, holds-at}
+use Rattle.judge.specs.Packed.{nodeOf}
+use Rattle.judge.specs.Rule.Laws.{used, used-with}
 use Rattle.judge.specs.Rule.Names.{names-number}
 
 -- of the first node of a rule, in a row of n children
@@ -91,69 +94,77 @@ unfolding partAttribute
 attribute-step n s (Atom lo hi) m k l = rw (add-comm 1 k)
 attribute-step n s (Group g c) m k l = refl
 
--- the names before the node before place i
-module _ (nodes : List Node) (len i : ℕ) (d : Node) (name ones : ℕ) (a : 0 < i) (b : i ≤ len) (c : len ≤ length nodes)
-    (m : name ≡ number (take i (take len nodes)) 0) (o : ones ≡ after (getD nodes (i - 1) d .kind) 0) where
-  name-before : name ≡ after (getD nodes (i - 1) d .kind) 0 + number (take (i - 1) (take len nodes)) 0
-  name-before =
-      let j : i - 1 + 1 ≡ i = omega arith in
-      m ∙ (rw j at (number-next nodes len (i - 1) 0 d (omega arith) c))
-      ∙ after-from (getD nodes (i - 1) d .kind) (number (take (i - 1) (take len nodes)) 0)
-
-  pub name-turn : ones ≤ name
-  name-turn = omega (arith, name-before)
-
--- behind node i: the attributes of the trees from it on, and how many names stand before it
-pub record Passed (n : ℕ) (s : ℕ → Seen) (nodes : List Node) (len i : ℕ) (stack : List Attribute) (top name : ℕ) : Type 0 where
+-- behind node i of l: the attributes of the trees from it on, and how many names stand before it
+pub record Passed (n : ℕ) (s : ℕ → Seen) (l : List Node) (i : ℕ) (stack : List Attribute) (top name : ℕ) : Type 0 where
   pub long : length stack ≡ maxNodes
-  pub name-is : name ≡ number (take i (take len nodes)) 0
-  pub stack-is : drop top stack ≡ eval (attributeBy n s) (drop i (take len nodes)) (name + 1)
+  pub name-is : name ≡ number (take i l) 0
+  pub stack-is : drop top stack ≡ eval (attributeBy n s) (drop i l) (name + 1)
 
-module _ (n : ℕ) (s : ℕ → Seen) (nodes : List Node) (len : ℕ) where
-  pub pass-none : (stack : List Attribute) (name : ℕ) → length stack ≡ maxNodes → name ≡ atomsIn (take len nodes)
-      → Passed n s nodes len len stack maxNodes name
-  pass-none stack name e f =
-      let t : take len (take len nodes) ≡ take len nodes = take-all len (take len nodes) (rw length-take (omega arith)) in
+-- the nodes l are held as numbers
+module _ (words : List ℕ) (len : ℕ) (l : List Node) (h : Holds nodeOf maxNodes words len l) where
+  size-is : length l ≡ len
+  size-is = holds-count nodeOf maxNodes words len l h
+
+  -- the node x that stands before place i
+  module _ (i : ℕ) (x : Node) (a : 0 < i) (b : i ≤ len) (e : x ≡ nodeOf (getD words (i - 1) 0)) where
+    node-is : x ≡ getD l (i - 1) (nodeOf 0)
+    node-is = e ∙ holds-at nodeOf maxNodes words len l h (i - 1) (omega arith)
+
+    -- the names before it
+    module _ (name ones : ℕ) (m : name ≡ number (take i l) 0) (o : ones ≡ after (x .kind) 0) where
+      name-before : name ≡ after (x .kind) 0 + number (take (i - 1) l) 0
+      name-before =
+          let j : i - 1 + 1 ≡ i = omega arith in
+          rw node-is
+          (m ∙ (rw j at (number-next l (i - 1) 0 (nodeOf 0) (omega (arith, size-is))))
+          ∙ after-from (getD l (i - 1) (nodeOf 0) .kind) (number (take (i - 1) l) 0))
+
+      pub name-turn : ones ≤ name
+      name-turn = omega (arith, name-before)
+
+    -- a turn, with what its calls gave
+    module _ (n : ℕ) (s : ℕ → Seen) where
+      pub pass-turn : (stack : List Attribute) (top name members clipped ones : ℕ) (y z : Attribute) → 0 < top → top ≤ maxNodes
+          → members ≡ needed (x .kind) → clipped ≡ min members (maxNodes - top) → ones ≡ after (x .kind) 0
+          → y ≡ partAttribute n (x .kind) (s name) (take (clipped + top - top) (drop top stack))
+          → z ≡ markedAttribute n (x .mark) y
+          → Passed n s l i stack top name
+          → Passed n s l (i - 1) (set stack (clipped + top - 1) z) (clipped + top - 1) (name - ones)
+      pass-turn stack top name members clipped ones y z p q c r o f g t =
+          let κ = x .kind in
+          let k = number (take (i - 1) l) 0 in
+          let u : clipped + top ≡ min (needed κ) (maxNodes - top) + top = rw (r, c) in
+          let m : name ≡ after κ 0 + k = name-before name ones (t .name-is) o in
+          let v : name - ones ≡ k = omega arith in
+          let w : after κ (k + 1) ≡ name + 1 = omega (arith, after-from κ (k + 1)) in
+          record {
+            long = rw length-set (t .long);
+            name-is = v;
+            stack-is =
+                replaced stack maxNodes top (needed κ) (clipped + top) (t .long) q u z p
+                ∙ rw (v, drop-back l i (nodeOf 0) a (omega (arith, size-is)), ← node-is, w, ← t .stack-is, g, f)
+                (rw (first-entries stack maxNodes top (needed κ) (clipped + top) (t .long) q u, m)
+                (attribute-step n s κ (x .mark) k (drop top stack)));
+          }
+
+  pub pass-none : (n : ℕ) (s : ℕ → Seen) (stack : List Attribute) (name : ℕ) → length stack ≡ maxNodes → name ≡ atomsIn l
+      → Passed n s l len stack maxNodes name
+  pass-none n s stack name e f =
+      let j : length l ≤ len = omega (arith, size-is) in
       record {
         long = e;
-        name-is = rw t (f ∙ names-number (take len nodes));
-        stack-is =
-            rw (drop-of-length-le stack {i = maxNodes} (omega arith), drop-of-length-le (take len nodes) {i = len} (rw length-take (omega arith)));
-      }
-
-  -- a turn, with what its calls gave
-  pub pass-turn : (i : ℕ) (d : Node) (stack : List Attribute) (top name members clipped ones : ℕ) (x y : Attribute)
-      → 0 < i → i ≤ len → len ≤ length nodes → 0 < top → top ≤ maxNodes
-      → members ≡ needed (getD nodes (i - 1) d .kind) → clipped ≡ min members (maxNodes - top) → ones ≡ after (getD nodes (i - 1) d .kind) 0
-      → x ≡ partAttribute n (getD nodes (i - 1) d .kind) (s name) (take (clipped + top - top) (drop top stack))
-      → y ≡ markedAttribute n (getD nodes (i - 1) d .mark) x
-      → Passed n s nodes len i stack top name
-      → Passed n s nodes len (i - 1) (set stack (clipped + top - 1) y) (clipped + top - 1) (name - ones)
-  pass-turn i d stack top name members clipped ones x y a b c p h m q o e f t =
-      let κ = getD nodes (i - 1) d .kind in
-      let k = number (take (i - 1) (take len nodes)) 0 in
-      let u : clipped + top ≡ min (needed κ) (maxNodes - top) + top = rw (q, m) in
-      let g : name ≡ after κ 0 + k = name-before nodes len i d name ones a b c (t .name-is) o in
-      let v : name - ones ≡ k = omega arith in
-      let w : after κ (k + 1) ≡ name + 1 = omega (arith, after-from κ (k + 1)) in
-      record {
-        long = rw length-set (t .long);
-        name-is = v;
-        stack-is =
-            replaced stack maxNodes top (needed κ) (clipped + top) (t .long) h u y p
-            ∙ rw (v, slice-back nodes len i d a b c, w, ← t .stack-is, f, e)
-            (rw (first-entries stack maxNodes top (needed κ) (clipped + top) (t .long) h u, g)
-            (attribute-step n s κ (getD nodes (i - 1) d .mark) k (drop top stack)));
+        name-is = rw (take-all len l j) (f ∙ names-number l);
+        stack-is = rw (drop-of-length-le stack {i = maxNodes} (omega arith), drop-of-length-le l {i = len} j);
       }
 
 -- the end of the loop
-module _ (n : ℕ) (s : ℕ → Seen) (r : Rule) (i : ℕ) (stack : List Attribute) (top name : ℕ) (e : i ≡ 0)
-    (t : Passed n s (r .nodes) (r .len) i stack top name) where
-  root-is : rootAttribute r n s ≡ getD (drop top stack) 0 (emptyAttribute n)
-  root-is = sym (ap (λ l. getD l 0 (emptyAttribute n)) (rw (t .name-is, e) at (t .stack-is)))
+module _ (n : ℕ) (s : ℕ → Seen) (l : List Node) (i : ℕ) (stack : List Attribute) (top name : ℕ) (e : i ≡ 0)
+    (t : Passed n s l i stack top name) where
+  root-is : rootAttribute (ruleWith l) n s ≡ getD (drop top stack) 0 (emptyAttribute n)
+  root-is = rw (used-with l) (sym (ap (λ r. getD r 0 (emptyAttribute n)) (rw (t .name-is, e) at (t .stack-is))))
 
-  pub pass-top : (d : Attribute) → top < maxNodes → getD stack top d ≡ rootAttribute r n s
-  pass-top d h = let l : top < length stack = omega (arith, t .long) in rw (root-is, drop-cons stack top d l)
+  pub pass-top : (d : Attribute) → top < maxNodes → getD stack top d ≡ rootAttribute (ruleWith l) n s
+  pass-top d h = let k : top < length stack = omega (arith, t .long) in rw (root-is, drop-cons stack top d k)
 
-  pub pass-empty : maxNodes ≤ top → emptyAttribute n ≡ rootAttribute r n s
+  pub pass-empty : maxNodes ≤ top → emptyAttribute n ≡ rootAttribute (ruleWith l) n s
   pass-empty h = rw (root-is, drop-of-length-le stack {i = top} (omega (arith, t .long)))

@@ -12,13 +12,17 @@ use Rattle.judge.specs.Model.{Model, Algebra, fold, modelOf, encode, typ
 use Rattle.judge.specs.Model.Eval.{eval, eval-tree}
 use Rattle.judge.specs.Model.Laws.{encode-injective}
 use Rattle.judge.specs.Rule.{unused, ruleOf, Means}
+use Rattle.judge.specs.Reading.{ruleWith}
 
 -- the places that nodes fill
 abbrev pub used : Rule → List Node
 used r = take (r .len) (r .nodes)
 
+pub used-with : (l : List Node) → used (ruleWith l) ≡ l
+used-with l = take-at l (replicate (maxNodes - length l) unused) (length l) refl
+
 pub used-is : (t : Model) → used (ruleOf t) ≡ encode t
-used-is t = take-at (encode t) (replicate (maxNodes - length (encode t)) unused) (length (encode t)) refl
+used-is t = used-with (encode t)
 
 -- what the nodes of a model's rule give is what the model gives
 pub rule-eval : {A : Type 0} (g : Algebra A) (t : Model) (k : ℕ) → eval g (used (ruleOf t)) k ≡ fold g t k ∷ []

@@ -1,7 +1,8 @@
 -- each answer by the tests that led there; a session that passes 40 and 42 has a row that can be judged
-use mathlib.Core.Path.{sym, _∙_}
-use Rattle.judge.specs.Session.Code.{checked-fits, row-known, row-fits, row-named, asked-done, asked-refused}
+use mathlib.Core.Path.{refl, sym, _∙_}
 use borrow.Author.Needs.{needs}
+use Rattle.judge.specs.Judge.Code.{readable-within, packed-is, packed-readable, packed-names}
+use Rattle.judge.specs.Session.Code.{checked-fits, row-known, row-fits, row-named, asked-done, asked-refused}
 use Rattle.judge.proofs.session.Session.verdict.Statement.{statement}
 use Rattle.judge.proofs.session.Session.verdict.Tie as tie
 
@@ -14,26 +15,47 @@ enum-known-fault c = search needs
 enum-told : tie.Need-enum-told
 enum-told c = search needs
 
-sub-verdict-by : tie.Need-sub-verdict-by
-sub-verdict-by c = search needs
+name-count-requires : tie.Need-name-count-requires
+name-count-requires c κs = search needs
 
-part-verdict-by-start : tie.Need-part-verdict-by-start
-part-verdict-by-start c = search needs
-
-part-verdict-by-end : tie.Need-part-verdict-by-end
-part-verdict-by-end c =
-    let k = c .before .before in
-    let a = k .before .before .before .args in
-    let h = checked-fits (a .self) (a .trail .now) (sym (k .checked .ensures) ∙ c .enum-told .given .1) in
-    search needs
-
-verdict-by-requires : tie.Need-verdict-by-requires
-verdict-by-requires c κs =
-    let o = c .before in
+pack-requires : tie.Need-pack-requires
+pack-requires c κs =
+    let o = c .before .before in
     let k = o .before .before in
     let a = k .before .before .before .args in
     let e = sym (k .checked .ensures) ∙ o .enum-told .given .1 in
-    (row-known (a .self) (a .trail .now) e, row-fits (a .self) (a .trail .now) e, row-named (a .self) (a .trail .now) e)
+    (readable-within (a .self .rule) (row-known (a .self) (a .trail .now) e) .0, refl)
+
+sub-verdict-on : tie.Need-sub-verdict-on
+sub-verdict-on c = search needs
+
+part-verdict-on-start : tie.Need-part-verdict-on-start
+part-verdict-on-start c = search needs
+
+part-verdict-on-end : tie.Need-part-verdict-on-end
+part-verdict-on-end c =
+    let o = c .before .before .before .before in
+    let k = o .before .before in
+    let a = k .before .before .before .args in
+    let e = sym (k .checked .ensures) ∙ o .enum-told .given .1 in
+    let h = checked-fits (a .self) (a .trail .now) e in
+    search needs
+
+verdict-on-requires : tie.Need-verdict-on-requires
+verdict-on-requires c κs =
+    let o = c .before .before .before .before .before in
+    let k = o .before .before in
+    let a = k .before .before .before .args in
+    let e = sym (k .checked .ensures) ∙ o .enum-told .given .1 in
+    let r = row-known (a .self) (a .trail .now) e in
+    let p = c .before .before .pack in
+    let n = c .before .before .before .before .name-count in (
+      (p .ensures .few, p .ensures .whole),
+      (
+        (packed-readable (a .self .rule) r _ (p .ensures), packed-names (a .self .rule) r _ (p .ensures) _ (n .ensures)),
+        (row-fits (a .self) (a .trail .now) e, rw (n .ensures) (row-named (a .self) (a .trail .now) e)),
+      ),
+    )
 
 returns : tie.Need-returns
 returns c =
@@ -43,10 +65,12 @@ returns c =
 
 returns-2 : tie.Need-returns-2
 returns-2 c =
-    let o = c .before .before in
+    let o = c .before .before .before .before .before .before in
     let k = o .before .before in
     let a = k .before .before .before .args in
-    asked-done (a .self) (a .trail .now) (sym (k .checked .ensures) ∙ o .enum-told .given .1) _ (c .verdict-by .ensures)
+    let e = sym (k .checked .ensures) ∙ o .enum-told .given .1 in
+    let p = packed-is (a .self .rule) (row-known (a .self) (a .trail .now) e) _ (c .before .before .before .pack .ensures) in
+    asked-done (a .self) (a .trail .now) e _ (rw p at (c .verdict-on .ensures))
 
 pub verdict-spec : {M : Type 1} → statement M
 verdict-spec =
@@ -55,9 +79,11 @@ verdict-spec =
     checked-requires
     enum-known-fault
     enum-told
-    sub-verdict-by
-    part-verdict-by-start
-    part-verdict-by-end
-    verdict-by-requires
+    name-count-requires
+    pack-requires
+    sub-verdict-on
+    part-verdict-on-start
+    part-verdict-on-end
+    verdict-on-requires
     returns
     returns-2)

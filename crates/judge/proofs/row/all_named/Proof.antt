@@ -6,8 +6,8 @@ use lib.ListN.{length, drop, drop-of-length-le}
 use borrow.Author.Needs.{needs}
 use Rattle.judge.specs.Stack.{drop-back}
 use Rattle.judge.specs.Judge.Laws.{upto}
-use Rattle.judge.proofs.session.all_named.Statement.{statement}
-use Rattle.judge.proofs.session.all_named.Tie as tie
+use Rattle.judge.proofs.row.all_named.Statement.{statement}
+use Rattle.judge.proofs.row.all_named.Tie as tie
 
 abbrev Inv-loop : tie.InvT-loop
 Inv-loop names row named₀ i₀ named i = (i ≤ length row) × (named ≡ upto names (drop i row))
