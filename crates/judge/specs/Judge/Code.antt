@@ -1,20 +1,22 @@
 -- What `judge_row` answers, with what its calls gave, is `judged`.
 use mathlib.Core.Path.{_≡_, sym, ap, _∙_}
-use mathlib.Core.Bool.{Bool, true, false}
+use mathlib.Core.Bool.{Bool, true, false, _&&_}
 use mathlib.Core.List.{List, map}
 use Prim.Native.Nat.{ℕ, _≤_, _<_}
 use native.Mathlib.Omega.{arith}
 use borrow.Author.Tests.{le-leb, lt-leb}
+use lib.Dec.{eqb}
 use lib.ListN.{length, take, getD}
 use Rattle.judge.specs.declared.fault.JudgeFault.the-variants.{NoModel, LongRow, NoName}
 use Rattle.judge.specs.declared.rule.Rule.{Rule}
 use Rattle.judge.specs.declared.rule.Node.{Node}
 use Rattle.judge.specs.declared.row.Seen.{Seen}
+use Rattle.judge.specs.declared.row.Attribute.{Attribute}
 use Rattle.judge.specs.declared.verdict.Verdict.{Verdict as Said}
 use Rattle.judge.specs.declared.verdict.Judged.the-variants.{Verdict, Refused}
 use Rattle.judge.specs.Limits.{maxAtoms, maxNodes, maxRow}
 use Rattle.judge.specs.Word.{Word}
-use Rattle.judge.specs.Verdict.Laws.{verdict}
+use Rattle.judge.specs.Verdict.Laws.{verdictOf, verdict}
 use Rattle.judge.specs.Tree.{atoms, nodes}
 use Rattle.judge.specs.Model.Laws.{length-encode}
 use Rattle.judge.specs.Rule.{atomsIn, names}
@@ -27,7 +29,8 @@ use Rattle.judge.specs.Reading.Buffer.{Holds}
 use Rattle.judge.specs.Packed.{nodeOf, ruleIn}
 use Rattle.judge.specs.Judge.Laws.{upto, judged}
 use Rattle.judge.specs.Judge.Tally.{unseen, Tallied}
-use Rattle.judge.specs.Judge.Pass.{seenVerdict, readable-formed, verdict-seen, readable-tested}
+use Rattle.judge.specs.Judge.Root.{rootAttribute}
+use Rattle.judge.specs.Judge.Pass.{readable-formed, verdict-seen, readable-tested}
 
 -- the limits that the passes ask for
 pub readable-within : (r : Rule) → readable r ≡ true → (r .len ≤ maxNodes) × (names r ≤ maxAtoms)
@@ -41,8 +44,8 @@ readable-within r e =
 pub readable-with : (r : Rule) → readable r ≡ true → r ≡ ruleWith (used r)
 readable-with r e = let w = readable-formed r e in rw (w .rule-is) (ap ruleWith (sym (used-is (w .model))))
 
-pub few-atoms : (l : List Node) → readable (ruleWith l) ≡ true → atomsIn l ≤ maxAtoms
-few-atoms l e = rw (used-with l) at (readable-within (ruleWith l) e .1)
+pub atoms-within : (l : List Node) → readable (ruleWith l) ≡ true → atomsIn l ≤ maxAtoms
+atoms-within l e = rw (used-with l) at (readable-within (ruleWith l) e .1)
 
 -- packed, it is still the same rule
 module _ (r : Rule) (e : readable r ≡ true) (words : List ℕ) (h : Holds nodeOf maxNodes words (r .len) (used r)) where
@@ -55,12 +58,13 @@ module _ (r : Rule) (e : readable r ≡ true) (words : List ℕ) (h : Holds node
   pub packed-names : (m : ℕ) → m ≡ names r → m ≡ atomsIn (map nodeOf (take (r .len) words))
   packed-names m f = rw (h .held) f
 
--- with what the first pass has counted, up to as many names as there are atoms
+-- with what the first pass has counted, up to as many names as there are atoms, and what the second made of it
 pub verdict-tallied : (l : List Node) → readable (ruleWith l) ≡ true → (w : Word) (m : ℕ) → m ≡ atomsIn l → upto m w ≡ true
-    → (s : List Seen) → Tallied m w s → seenVerdict (ruleWith l) (length w) (λ k. getD s k (unseen 0)) ≡ verdict (ruleType (ruleWith l)) w
-verdict-tallied l e w m f h s g =
+    → (s : List Seen) → Tallied m w s → (x : Attribute) → x ≡ rootAttribute (ruleWith l) (length w) (λ k. getD s k (unseen 0))
+    → verdictOf (eqb (getD s 0 (unseen 0) .count) 0 && x .done) (eqb (getD s 0 (unseen 0) .count) 0 && x .alive) ≡ verdict (ruleType (ruleWith l)) w
+verdict-tallied l e w m f h s g x i =
     let n : m ≡ names (ruleWith l) = rw (used-with l) f in
-    verdict-seen (ruleWith l) e w (rw n at h) (λ k. getD s k (unseen 0)) (λ k i. g k (omega arith))
+    rw i (verdict-seen (ruleWith l) e w (rw n at h) (λ k. getD s k (unseen 0)) (λ k j. g k (omega arith)))
 
 -- the test of 40, and an array of nodes that is as long as it should be
 module _ (r : Rule) (good : Bool) (l : length (r .nodes) ≡ maxNodes) (e : good ≡ wellFormed r) where

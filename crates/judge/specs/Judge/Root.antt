@@ -9,7 +9,7 @@ use native.Mathlib.Decide.{decLt}
 use native.Mathlib.Omega.{arith}
 use lib.Dec.{eqb}
 use borrow.Author.Tests.{eq-eqb, ne-eqb}
-use lib.ListN.{length, take, drop, getD, set, length-set, length-take, length-drop, drop-of-length-le}
+use lib.ListN.{length, take, drop, getD, set, length-set, length-drop, drop-of-length-le}
 use lib.Seq.{take-suc, drop-cons, take-all, getD-drop, length-take-le}
 use Rattle.judge.specs.declared.rule.Upper.{Upper}
 use Rattle.judge.specs.declared.rule.Mark.{Mark}

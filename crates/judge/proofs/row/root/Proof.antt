@@ -4,10 +4,10 @@ use native.Mathlib.Omega.{arith}
 use mathlib.Core.Path.{_≡_, refl, _∙_}
 use mathlib.Core.List.{List, map}
 use Prim.Native.Nat.{ℕ, _-_, _≤_, _+_}
-use lib.ListN.{length, take, drop, getD}
+use lib.ListN.{take, drop, getD}
 use Rattle.judge.specs.declared.rule.Node.{Node}
 use Rattle.judge.specs.Packed.{nodeOf}
-use Rattle.judge.specs.Reading.Buffer.{Holds, holds-own}
+use Rattle.judge.specs.Reading.Buffer.{holds-own}
 use Rattle.judge.specs.Judge.Tally.{unseen}
 use Rattle.judge.specs.Judge.Root.{partAttribute, part-none, part-turn, name-turn, Passed, pass-none, pass-turn, pass-top, pass-empty}
 use Rattle.judge.proofs.row.root.Statement.{statement}

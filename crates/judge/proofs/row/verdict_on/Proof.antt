@@ -5,14 +5,14 @@ use mathlib.Core.List.{map}
 use native.Mathlib.Omega.{arith}
 use lib.ListN.{take}
 use Rattle.judge.specs.Packed.{nodeOf}
-use Rattle.judge.specs.Judge.Code.{few-atoms, verdict-tallied}
+use Rattle.judge.specs.Judge.Code.{atoms-within, verdict-tallied}
 use Rattle.judge.proofs.row.verdict_on.Statement.{statement}
 use Rattle.judge.proofs.row.verdict_on.Tie as tie
 
 tally-row-requires : tie.Need-tally-row-requires
 tally-row-requires c κs =
     let s = c .before in
-    let f = few-atoms (map nodeOf (take (s .args .len) (s .args .words .now))) (s .pre .1 .0 .0) in
+    let f = atoms-within (map nodeOf (take (s .args .len) (s .args .words .now))) (s .pre .1 .0 .0) in
     (s .pre .1 .1 .0, omega arith, s .pre .1 .1 .1)
 
 array-copy-out-foreign : tie.Need-array-copy-out-foreign
@@ -24,7 +24,7 @@ cast-root c = search needs
 root-requires : tie.Need-root-requires
 root-requires c κs =
     let s = c .before .before .before in
-    let f = few-atoms (map nodeOf (take (s .args .len) (s .args .words .now))) (s .pre .1 .0 .0) in
+    let f = atoms-within (map nodeOf (take (s .args .len) (s .args .words .now))) (s .pre .1 .0 .0) in
     (s .pre .0, (s .pre .1 .0 .1, omega arith))
 
 verdict-of-requires : tie.Need-verdict-of-requires
@@ -34,9 +34,9 @@ returns : tie.Need-returns
 returns c =
     let t = c .before .before .before in
     let s = t .before .before in
-    (rw (c .before .root .ensures) at (c .verdict-of .ensures))
+    c .verdict-of .ensures
     ∙ verdict-tallied (map nodeOf (take (s .args .len) (s .args .words .now))) (s .pre .1 .0 .0) (s .args .row .now) (s .args .names) (s .pre .1 .0 .1) (s .pre .1 .1 .1)
-    (t .tally-row .result) (t .tally-row .ensures)
+    (t .tally-row .result) (t .tally-row .ensures) (c .before .root .result) (c .before .root .ensures)
 
 pub verdict-on-spec : {M : Type 1} → statement M
 verdict-on-spec =
