@@ -102,9 +102,9 @@ pub(crate) fn all_named(names: usize, row: &[u16]) -> bool
 }
 
 // The first pass: what is seen of each name by its number.
-fn tally_row(row: &[u16], names: usize) -> [Seen; MAX_ATOMS + 1]
-    requires { ⌜ (length (now row) ≤ maxRow) × (names ≤ maxAtoms) × (upto names (now row) ≡ true) ⌝ }
-    ensures { λ r. ⌜ Tallied names (now (row .entry)) r ⌝ }
+fn tally_row(row: &[u16]) -> [Seen; MAX_ATOMS + 1]
+    requires { ⌜ (length (now row) ≤ maxRow) × (upto maxAtoms (now row) ≡ true) ⌝ }
+    ensures { λ r. ⌜ Tallied (now (row .entry)) r ⌝ }
 {
     let none = nothing_seen(row.len() as u16);
     let mut seen = [none; MAX_ATOMS + 1];
@@ -307,7 +307,7 @@ pub(crate) fn verdict_on(words: &[u64; MAX_NODES], len: usize, names: usize, row
     requires { ⌜ (length (now row) ≤ maxRow) × (upto names (now row) ≡ true) ⌝ }
     ensures { λ r. ⌜ r ≡ verdict (ruleType (ruleIn (now (words .entry)) len)) (now (row .entry)) ⌝ }
 {
-    let seen = tally_row(row, names);
+    let seen = tally_row(row);
     let foreign = seen[0];
     verdict_of(
         foreign.count,

@@ -58,12 +58,13 @@ module _ (r : Rule) (e : readable r ≡ true) (words : List ℕ) (h : Holds node
   pub packed-names : (m : ℕ) → m ≡ names r → m ≡ atomsIn (map nodeOf (take (r .len) words))
   packed-names m f = rw (h .held) f
 
--- with what the first pass has counted, up to as many names as there are atoms, and what the second made of it
+-- with what the first pass has counted, and what the second made of it
 pub verdict-tallied : (l : List Node) → readable (ruleWith l) ≡ true → (w : Word) (m : ℕ) → m ≡ atomsIn l → upto m w ≡ true
-    → (s : List Seen) → Tallied m w s → (x : Attribute) → x ≡ rootAttribute (ruleWith l) (length w) (λ k. getD s k (unseen 0))
+    → (s : List Seen) → Tallied w s → (x : Attribute) → x ≡ rootAttribute (ruleWith l) (length w) (λ k. getD s k (unseen 0))
     → verdictOf (eqb (getD s 0 (unseen 0) .count) 0 && x .done) (eqb (getD s 0 (unseen 0) .count) 0 && x .alive) ≡ verdict (ruleType (ruleWith l)) w
 verdict-tallied l e w m f h s g x i =
     let n : m ≡ names (ruleWith l) = rw (used-with l) f in
+    let c = readable-within (ruleWith l) e in
     rw i (verdict-seen (ruleWith l) e w (rw n at h) (λ k. getD s k (unseen 0)) (λ k j. g k (omega arith)))
 
 -- the test of 40, and an array of nodes that is as long as it should be

@@ -9,8 +9,9 @@ use native.Mathlib.Omega.{arith}
 use lib.Dec.{leb}
 use lib.ListN.{length, take, getD, set, replicate, getD-replicate, length-replicate, length-set, length-take}
 use lib.Seq.{take-suc, getD-set-same, getD-set-other, length-take-le}
-use borrow.Author.Tests.{leb-true}
+use borrow.Author.Tests.{leb-true, le-leb}
 use Rattle.judge.specs.declared.row.Seen.{Seen}
+use Rattle.judge.specs.Limits.{maxAtoms}
 use Rattle.judge.specs.Tests.{by-test}
 use Rattle.judge.specs.Word.{Word, Names, only}
 use Rattle.judge.specs.Word.Laws.{only-is, only-self}
@@ -62,14 +63,20 @@ upto-at m [] e i h = absurd (omega arith)
 upto-at m (x ∷ w) e zero h = leb-true x m (and-eq-true-iff (leb x m) (upto m w) .0 e .0)
 upto-at m (x ∷ w) e (suc i) h = upto-at m w (and-eq-true-iff (leb x m) (upto m w) .0 e .1) i (omega arith)
 
+pub upto-more : (m n : ℕ) (w : Word) → m ≤ n → upto m w ≡ true → upto n w ≡ true
+upto-more m n [] h e = refl
+upto-more m n (x ∷ w) h e =
+    let (a, b) = and-eq-true-iff (leb x m) (upto m w) .0 e in
+    and-eq-true-iff (leb x n) (upto n w) .1 (le-leb x n (omega (arith, leb-true x m a)), upto-more m n w h b)
+
 -- what is known of the first children w of a row of n: of each name up to m what is seen
 pub record Seeing (m n : ℕ) (w : Word) (s : List Seen) : Type 0 where
   pub room : m < length s
   pub seen-is : (k : ℕ) → k ≤ m → getD s k (unseen 0) ≡ seenIn n w k
 
--- s tells it of the row w
-abbrev pub Tallied : ℕ → Word → List Seen → Type 0
-Tallied m w s = (k : ℕ) → k ≤ m → getD s k (unseen 0) ≡ seen w k
+-- s tells it of the row w, by as many names as a rule can have
+abbrev pub Tallied : Word → List Seen → Type 0
+Tallied w s = (k : ℕ) → k ≤ maxAtoms → getD s k (unseen 0) ≡ seen w k
 
 pub seeing-none : (m n size : ℕ) → m < size → Seeing m n [] (replicate size (unseen n))
 seeing-none m n size g =
@@ -117,5 +124,5 @@ module _ (m : ℕ) (row : Word) (i : ℕ) (s : List Seen) (h : i < length row) (
             (λ f. rw (f, getD-set-other s x k y (unseen 0) (λ q. true≢false (sym (only-self x) ∙ (rw q at f)))) (t .seen-is k l)));
       }
 
-pub tallied : (m : ℕ) (w : Word) (s : List Seen) → Seeing m (length w) w s → Tallied m w s
-tallied m w s t k h = t .seen-is k h ∙ seen-whole w k
+pub tallied : (w : Word) (s : List Seen) → Seeing maxAtoms (length w) w s → Tallied w s
+tallied w s t k h = t .seen-is k h ∙ seen-whole w k

@@ -9,10 +9,10 @@ use Rattle.judge.proofs.row.tally_row.Statement.{statement}
 use Rattle.judge.proofs.row.tally_row.Tie as tie
 
 abbrev Inv-loop : tie.InvT-loop
-Inv-loop row names seen₀ i₀ seen i = (i ≤ length row) × Seeing names (length row) (take i row) seen
+Inv-loop row seen₀ i₀ seen i = (i ≤ length row) × Seeing 64 (length row) (take i row) seen
 
 abbrev μ-loop : tie.MeasureT-loop
-μ-loop row names seen₀ i₀ seen i = length row - i
+μ-loop row seen₀ i₀ seen i = length row - i
 
 cast-nothing-seen : tie.Need-cast-nothing-seen Inv-loop μ-loop
 cast-nothing-seen c = search needs
@@ -23,7 +23,7 @@ nothing-seen-requires c κs = search needs
 loop-holds : tie.Need-loop-holds Inv-loop μ-loop
 loop-holds c =
     let a = c .before .before .args in
-    (search needs, rw (c .nothing-seen .ensures) (seeing-none (a .names) (length (a .row .now)) 65 (omega arith)))
+    (search needs, rw (c .nothing-seen .ensures) (seeing-none 64 (length (a .row .now)) 65 (omega arith)))
 
 mul-name : tie.Need-mul-name Inv-loop μ-loop
 mul-name c = search needs
@@ -38,14 +38,14 @@ mul-before : tie.Need-mul-before Inv-loop μ-loop
 mul-before c =
     let v = c .before .before .loop in
     let e = c .before .before .before .before .before in
-    let n = upto-at (e .args .names) (e .args .row .now) (e .pre .2) (v .i) (omega arith) in
+    let n = upto-at 64 (e .args .row .now) (e .pre .1) (v .i) (omega arith) in
     search needs
 
 array-copy-out-before : tie.Need-array-copy-out-before Inv-loop μ-loop
 array-copy-out-before c =
     let v = c .before .before .loop in
     let e = c .before .before .before .before .before in
-    let n = upto-at (e .args .names) (e .args .row .now) (e .pre .2) (v .i) (omega arith) in
+    let n = upto-at 64 (e .args .row .now) (e .pre .1) (v .i) (omega arith) in
     search needs
 
 cast-noted : tie.Need-cast-noted Inv-loop μ-loop
@@ -55,22 +55,22 @@ noted-requires : tie.Need-noted-requires Inv-loop μ-loop
 noted-requires c κs =
     let v = c .before .before .before .loop in
     let e = c .before .before .before .before .before .before in
-    let n = upto-at (e .args .names) (e .args .row .now) (e .pre .2) (v .i) (omega arith) in
-    let k = seeing-bound (e .args .names) (e .args .row .now) (v .i) (v .seen) (v .inv .1) (getD (e .args .row .now) (v .i) 0) (omega arith) in
+    let n = upto-at 64 (e .args .row .now) (e .pre .1) (v .i) (omega arith) in
+    let k = seeing-bound 64 (e .args .row .now) (v .i) (v .seen) (v .inv .1) (getD (e .args .row .now) (v .i) 0) (omega arith) in
     (omega arith, omega arith)
 
 mul-seen : tie.Need-mul-seen Inv-loop μ-loop
 mul-seen c =
     let v = c .before .before .before .before .loop in
     let e = c .before .before .before .before .before .before .before in
-    let n = upto-at (e .args .names) (e .args .row .now) (e .pre .2) (v .i) (omega arith) in
+    let n = upto-at 64 (e .args .row .now) (e .pre .1) (v .i) (omega arith) in
     search needs
 
 array-set-from-seen : tie.Need-array-set-from-seen Inv-loop μ-loop
 array-set-from-seen c =
     let v = c .before .before .before .before .loop in
     let e = c .before .before .before .before .before .before .before in
-    let n = upto-at (e .args .names) (e .args .row .now) (e .pre .2) (v .i) (omega arith) in
+    let n = upto-at 64 (e .args .row .now) (e .pre .1) (v .i) (omega arith) in
     search needs
 
 add-i : tie.Need-add-i Inv-loop μ-loop
@@ -83,15 +83,15 @@ loop-again : tie.Need-loop-again Inv-loop μ-loop
 loop-again c =
     let v = c .before .before .before .before .loop in
     let e = c .before .before .before .before .before .before .before in
-    let n = upto-at (e .args .names) (e .args .row .now) (e .pre .2) (v .i) (omega arith) in
-    (omega arith, rw (c .noted .ensures) (seeing-more (e .args .names) (e .args .row .now) (v .i) (v .seen) (omega arith) (v .inv .1) n))
+    let n = upto-at 64 (e .args .row .now) (e .pre .1) (v .i) (omega arith) in
+    (omega arith, rw (c .noted .ensures) (seeing-more 64 (e .args .row .now) (v .i) (v .seen) (omega arith) (v .inv .1) n))
 
 returns : tie.Need-returns Inv-loop μ-loop
 returns c =
     let v = c .before .loop in
     let a = c .before .before .before .before .args in
     let e = take-all (v .i) (a .row .now) (omega arith) in
-    tallied (a .names) (a .row .now) (v .seen) (rw e at (v .inv .1))
+    tallied (a .row .now) (v .seen) (rw e at (v .inv .1))
 
 pub tally-row-spec : {M : Type 1} → statement M
 tally-row-spec =

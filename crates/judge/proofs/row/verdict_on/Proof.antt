@@ -5,6 +5,7 @@ use mathlib.Core.List.{map}
 use native.Mathlib.Omega.{arith}
 use lib.ListN.{take}
 use Rattle.judge.specs.Packed.{nodeOf}
+use Rattle.judge.specs.Judge.Tally.{upto-more}
 use Rattle.judge.specs.Judge.Code.{atoms-within, verdict-tallied}
 use Rattle.judge.proofs.row.verdict_on.Statement.{statement}
 use Rattle.judge.proofs.row.verdict_on.Tie as tie
@@ -13,7 +14,7 @@ tally-row-requires : tie.Need-tally-row-requires
 tally-row-requires c κs =
     let s = c .before in
     let f = atoms-within (map nodeOf (take (s .args .len) (s .args .words .now))) (s .pre .1 .0 .0) in
-    (s .pre .1 .1 .0, omega arith, s .pre .1 .1 .1)
+    (s .pre .1 .1 .0, upto-more (s .args .names) 64 (s .args .row .now) (omega arith) (s .pre .1 .1 .1))
 
 array-copy-out-foreign : tie.Need-array-copy-out-foreign
 array-copy-out-foreign c = search needs
