@@ -6,6 +6,7 @@
 --   Whole, Laws            the whole text; what is known of a reading
 pub mod Lexeme
 pub mod Packed
+pub mod Table
 pub mod Search
 pub mod Filled
 pub mod Buffer

@@ -92,7 +92,7 @@ enum Counted {
 }
 
 // Is the byte at `at` there, and is it b?
-fn stands(text: &[u8], at: usize, b: u8) -> bool
+pub(crate) fn stands(text: &[u8], at: usize, b: u8) -> bool
     requires { ⌜ 0 < b ⌝ }
     ensures { λ r. ⌜ r ≡ is (now (text .entry)) b at ⌝ }
 {
@@ -104,7 +104,7 @@ fn stands(text: &[u8], at: usize, b: u8) -> bool
 }
 
 // Where the letters, digits and hyphens from `at` on end.
-fn name_end(text: &[u8], at: usize) -> usize
+pub(crate) fn name_end(text: &[u8], at: usize) -> usize
     requires { ⌜ at ≤ length (now text) ⌝ }
     ensures { λ r. ⌜ (r ≡ at + length (nameFrom (now (text .entry)) at)) × (r ≤ length (now (text .entry))) ⌝ }
 {

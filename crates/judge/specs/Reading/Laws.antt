@@ -1,4 +1,7 @@
 -- What is known of a reading: the rule of a text that was read is readable, its names are those of the tree, in order and all different.
+use mathlib.Core.Logic.{by-cases}
+use Rattle.judge.specs.Reading.Table.{lastIn}
+use Rattle.judge.specs.Reading.Table.Laws.{last-under, last-passes, last-missed}
 use mathlib.Core.Path.{_≡_, refl, sym, ap, subst, _∙_}
 use mathlib.Core.Bool.{true, false}
 use mathlib.Core.List.{List, [], _∷_, map, map-append}
@@ -138,3 +141,18 @@ number-from k (n ∷ l) (suc i) h d =
 
 pub number-of-name : (l : List Text) (i : ℕ) → i < length l → ((h j : ℕ) → h < j → j < length l → getD l h [] ≡ getD l j [] → ⊥) → numberIn l (getD l i []) ≡ i + 1
 number-of-name l i h d = number-from 1 l i h d ∙ omega arith
+
+number-missed : (k : ℕ) (l : List Text) (x : Text) → ((j : ℕ) → j < length l → sameText (getD l j []) x ≡ false) → numberFrom k l x ≡ 0
+number-missed k [] x n = refl
+number-missed k (m ∷ l) x n = rw (n 0 (omega arith)) (number-missed (suc k) l x (λ j h. n (suc j) (omega arith)))
+
+-- the number that the table gives
+pub last-number : (l : List Text) (x : Text) → ((h j : ℕ) → h < j → j < length l → getD l h [] ≡ getD l j [] → ⊥) → lastIn l x ≡ numberIn l x
+last-number l x d = by-cases (ℕ-discrete (lastIn l x) 0) (λ e. e ∙ sym (number-missed 1 l x (last-missed l x .0 e))) found
+  where
+    found : (lastIn l x ≡ 0 → ⊥) → lastIn l x ≡ numberIn l x
+    found n =
+        let u : lastIn l x ≤ length l = last-under (λ m. sameText m x) l (length l) in
+        let s : getD l (lastIn l x - 1) [] ≡ x = same-text (getD l (lastIn l x - 1) []) x .0 (last-passes (λ m. sameText m x) l (length l) n) in
+        let i : numberIn l (getD l (lastIn l x - 1) []) ≡ lastIn l x - 1 + 1 = number-of-name l (lastIn l x - 1) (omega (arith, n)) d in
+        sym (ap (numberIn l) (sym s) ∙ i ∙ omega (arith, n))
