@@ -3,6 +3,6 @@
 pub mod fault;
 pub mod named;
 pub mod row;
-pub mod table;
+mod table;
 pub mod text;
 pub mod verdict;

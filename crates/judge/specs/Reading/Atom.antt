@@ -3,11 +3,11 @@ use mathlib.Core.Path.{_≡_, refl, sym, ap, _∙_}
 use mathlib.Core.Logic.{_↔_}
 use mathlib.Core.Bool.{true, false}
 use mathlib.Core.List.{List, [], _∷_, _++_, map, map-append}
-use Prim.Native.Nat.{ℕ, suc, _+_, _-_, _*_, _/_, _%_, _≤_, _<_}
+use Prim.Native.Nat.{ℕ, suc, _+_, _-_, _/_, _%_, _≤_, _<_}
 use Prim.Native.Char.{code}
 use native.Mathlib.Omega.{arith}
 use native.Mathlib.Numerals.{add-one}
-use lib.ListN.{length, drop, set, getD, length-append, length-map}
+use lib.ListN.{length, take, drop, set, getD, length-append, length-map}
 use Rattle.model.specs.declared.fault.ModelFault.{ModelFault}
 use Rattle.model.specs.declared.fault.ModelFault.the-variants.{Size, Spelling as Misspelling, LongName, WrongCount, TooDeep, ManyAtoms, ManyNodes, Repeated}
 use Rattle.model.specs.declared.rule.Upper.{Upper}
@@ -29,7 +29,7 @@ use Rattle.model.specs.Syntax.Complete.{node-step, behindAtom}
 use Rattle.model.specs.Syntax.Counters.{stackWeight, frameWeight, Even, even}
 use Rattle.model.specs.Model.{countsOf}
 use Rattle.model.specs.Model.Laws.{length-encode, length-encodeAll}
-use Rattle.fields.specs.Limits.{maxName, maxAtoms, maxNodes}
+use Rattle.fields.specs.Limits.{maxText, maxName, maxAtoms, maxNodes}
 use Rattle.model.specs.Fault.{is, nameAt, nodeAt, nameFrom, tally, Fault, modelNumber, refused, Answers}
 use Rattle.model.specs.Fault.Answered.{byte-inside}
 use Rattle.model.specs.Fault.Places.{LetterFault, letter-faults, letter-next, letter-faultless, found-by, clean-more}
@@ -38,11 +38,13 @@ use Rattle.judge.specs.Reading.{namePlace}
 use Rattle.judge.specs.Reading.Lexeme.{countAt}
 use Rattle.judge.specs.Reading.Lexeme.Laws.{front-step}
 use Rattle.judge.specs.Reading.Packed.{nodeOf, placeOf, plain}
-use Rattle.judge.specs.Reading.Search.{Comparable, among, twice-found, twice-missed}
+use Rattle.judge.specs.Reading.Search.{name-fits, name-part, parts-named, twice-found, twice-missed}
+use Rattle.judge.specs.Reading.Table.{slots, hashOf, lastIn, partsIn, entryOf, Enters}
+use Rattle.judge.specs.Reading.Table.Laws.{head-fits, table-entry}
 use Rattle.judge.specs.Reading.Buffer.{holds-count, holds-more}
 use Rattle.judge.specs.Reading.At.{At, run-front, front-over}
 use Rattle.judge.specs.Reading.Count.{CountRead, CountDone, count-read}
-use Rattle.judge.specs.Reading.Walk.{Marking, treeNodes, frameNodes, stackNodes, stackOf, NodesHeld, Read, Member, Expecting, mark-read, mark-names}
+use Rattle.judge.specs.Reading.Walk.{Marking, treeNodes, frameNodes, stackNodes, stackOf, NodesHeld, Kept, NamesHeld, Read, Member, Expecting, mark-read, mark-names}
 
 -- the name was read up to `end`
 pub record NameRead (x : Text) (work : List ℕ) (c : Cursor) (end : ℕ) (k : List Frame) : Type 0 where
@@ -134,13 +136,13 @@ stack-count [] = refl
 stack-count (f ∷ k) = rw (length-append, stack-count k, frame-count f)
 
 -- where a member is to begin: how many names and nodes there are
-module _ {x : Text} {work names : List ℕ} {c : Cursor} {k : List Frame} (r : Expecting x work names c k) where
+module _ {x : Text} {work : List ℕ} {kept : Kept} {c : Cursor} {k : List Frame} (r : Expecting x work kept c k) where
   pub level : Even x (c .at)
   level = even x (c .at) (r .at-is .within) (rw (r .at-is .is) tt)
 
   pub names-many : tally (nameAt x) (c .at) ≡ c .names
   names-many =
-      sym (places-tally x (c .at)) ∙ ap length (r .at-is .names) ∙ sym (length-map (r .spots) (namePlace x)) ∙ holds-count placeOf 64 names (c .names) (map (namePlace x) (r .spots)) (r .named)
+      sym (places-tally x (c .at)) ∙ ap length (r .at-is .names) ∙ sym (length-map (r .spots) (namePlace x)) ∙ holds-count placeOf 64 (kept .0) (c .names) (map (namePlace x) (r .spots)) (r .named .held)
 
   pub nodes-many : tally (nodeAt x) (c .at) ≡ c .nodes
   unfolding level
@@ -183,6 +185,24 @@ module _ {x : Text} {work names : List ℕ} {c : Cursor} {k : List Frame} (r : E
       unfolding name-length
       long = omega (arith, name-length)
 
+      -- the name that the code takes, and the table in which it looks for it
+      abbrev pub nameHere : Text
+      nameHere = take (end - c .at) (drop (c .at) x)
+
+      pub name-is : nameHere ≡ nameFrom x (c .at)
+      unfolding long
+      name-is = name-part x (c .at) (end - c .at) long
+
+      pub name-within : (c .at ≤ end) × (end ≤ length x)
+      unfolding letter-inside long
+      name-within = (omega arith, omega (arith, long, name-fits x (c .at) (omega (arith, letter-inside))))
+
+      pub name-some : (0 < length nameHere) × (length nameHere ≤ maxText)
+      unfolding name-is name-length long name-within
+      name-some =
+          let m : length nameHere ≡ length (nameFrom x (c .at)) = ap length name-is in
+          (omega (arith, name-length), omega (arith, long, name-within, r .at-is .sized .1))
+
       pub long-name : maxName < end - c .at → Answers x (refused LongName (c .at))
       unfolding long answer-by lesser
       long-name h =
@@ -197,32 +217,35 @@ module _ {x : Text} {work names : List ℕ} {c : Cursor} {k : List Frame} (r : E
             (lesser ManyAtoms (λ _ k. omega (arith, k, long)) (λ i _. omega (arith, i)) (λ i _. omega (arith, i)) (λ i _. omega (arith, i)))
 
         module _ (a : c .names < maxAtoms) where
+          pub may-enter : (h : ℕ) → h < slots → Enters (kept .1) (c .names) (c .at) (end - c .at) h
+          unfolding letter-inside
+          may-enter h v = record { few = a; begins = omega (arith, letter-inside, r .at-is .sized .1); short = s; slot = v; next = head-fits (r .named .table) h v }
+
           pub many-nodes : c .nodes ≡ maxNodes → Answers x (refused ManyNodes (c .at))
           unfolding long answer-by lesser names-many nodes-many
           many-nodes h =
               answer-by ManyNodes (omega (arith, nodes-many))
               (lesser ManyNodes (λ _ k. omega (arith, k, long)) (λ _ k. omega (arith, k, names-many)) (λ i _. omega (arith, i)) (λ i _. omega (arith, i)))
 
-          pub comparable : Comparable x names (c .names) (c .at) end
-          unfolding letter-inside name-length
-          comparable =
-              record
-              { whole = r .named .whole; few = r .named .few; held = rw (r .at-is .names) (r .named .held); begins = letter-inside; ends = omega (arith, name-length) }
-
           module _ (b : c .nodes < maxNodes) where
             named-here : nameAt x (c .at) ≡ true
             unfolding level
             named-here = rw (← level .fresh-here, r .at-is .is, l)
 
-            pub repeated-name : among x (places x (c .at)) (c .at) ≡ true → Answers x (refused Repeated (c .at))
-            unfolding long answer-by lesser names-many nodes-many named-here
+            -- the number that the table gives
+            number-is : lastIn (partsIn x (kept .0) (c .names)) nameHere ≡ lastIn (map (nameFrom x) (places x (c .at))) (nameFrom x (c .at))
+            unfolding name-is
+            number-is = rw (r .named .held .held, parts-named x (r .spots), r .at-is .names, name-is)
+
+            pub repeated-name : (lastIn (partsIn x (kept .0) (c .names)) nameHere ≡ 0 → ⊥) → Answers x (refused Repeated (c .at))
+            unfolding long answer-by lesser names-many nodes-many named-here number-is
             repeated-name h =
-                answer-by Repeated (twice-found x (c .at) (rw named-here tt) h)
+                answer-by Repeated (twice-found x (c .at) (rw named-here tt) (λ z. h (number-is ∙ z)))
                 (lesser Repeated (λ _ k. omega (arith, k, long)) (λ _ k. omega (arith, k, names-many)) (λ _ k. omega (arith, k, nodes-many)) (λ i _. omega (arith, i)))
 
-            module _ (n : among x (places x (c .at)) (c .at) ≡ false) where
+            module _ (n : lastIn (partsIn x (kept .0) (c .names)) nameHere ≡ 0) where
               letter-read : At x (r .spots ++ (c .at ∷ [])) (c .at + 1) (at k (naming (getD x (c .at) 0 ∷ [])))
-              unfolding letter-inside faults named-here long names-many nodes-many
+              unfolding letter-inside faults named-here long names-many nodes-many number-is
               letter-read =
                   record {
                     sized = r .at-is .sized;
@@ -230,7 +253,7 @@ module _ {x : Text} {work names : List ℕ} {c : Cursor} {k : List Frame} (r : E
                     is = rw add-one (letter-next x (c .at) (r .at-is .sized) letter-inside k (r .at-is .is) (rw l tt));
                     clean =
                         clean-more x (c .at) (r .at-is .clean)
-                        (letter-faultless x (c .at) faults (omega (arith, long)) (omega (arith, names-many)) (omega (arith, nodes-many)) (twice-missed x (c .at) n));
+                        (letter-faultless x (c .at) faults (omega (arith, long)) (omega (arith, names-many)) (omega (arith, nodes-many)) (twice-missed x (c .at) (sym number-is ∙ n)));
                     names = rw (add-one, named-here, r .at-is .names);
                   }
 
@@ -254,21 +277,34 @@ module _ {x : Text} {work names : List ℕ} {c : Cursor} {k : List Frame} (r : E
               unfolding name-read
               name-stack = ap stackOf (name-read .at-is .is)
 
-              word-is : placeOf (c .at * 256 + (end - c .at)) ≡ namePlace x (c .at)
-              unfolding placeOf long letter-inside
-              word-is =
-                  let z : length x ≤ 4096 = r .at-is .sized .1 in
-                  let u : (c .at * 256 + (end - c .at)) / 256 % 65536 ≡ c .at = omega (arith, letter-inside) in
-                  let v : (c .at * 256 + (end - c .at)) % 256 ≡ length (nameFrom x (c .at)) = omega (arith, long) in
-                  rw (u, v)
+              module _ (h : ℕ) (u : h ≡ hashOf nameHere) (v : h < slots) where
+                abbrev entry : ℕ
+                entry = entryOf (c .at) (end - c .at) (getD (kept .1) h 0)
 
-              -- the whole atom
-              pub atom-member : (work′ : List ℕ) (g : Got) → AtomRead x work′ c end (stackOf (here x end)) g
-                  → Member x work′ (set names (c .names) (c .at * 256 + (end - c .at))) (c .at) k g
-              unfolding word-is name-read name-stack
-              atom-member work′ (Faulty f q) t = t
-              atom-member work′ (Past d) t′ =
-                  let t : AtomDone x work′ c end k d = rw name-stack at t′ in
-                  let h = holds-more placeOf 64 names (c .names) (map (namePlace x) (r .spots)) (r .named) (c .at * 256 + (end - c .at)) (namePlace x (c .at)) a word-is in
-                  let i : t .spots ≡ r .spots ++ (c .at ∷ []) = sym (t .same) ∙ name-read .at-is .names in
-                  record { spots = t .spots; read = t .read; named = rw (t .one-more, i, map-append) h }
+                word-is : placeOf entry ≡ namePlace x (c .at)
+                unfolding placeOf long letter-inside
+                word-is =
+                    let z : length x ≤ 4096 = r .at-is .sized .1 in
+                    let f : getD (kept .1) h 0 ≤ maxAtoms = head-fits (r .named .table) h v in
+                    let a : entry / 65536 % 65536 ≡ c .at = omega (arith, letter-inside) in
+                    let b : entry / 256 % 256 ≡ length (nameFrom x (c .at)) = omega (arith, long) in
+                    rw (a, b)
+
+                entered : NamesHeld x (set (kept .0) (c .names) entry, set (kept .1) h (c .names + 1)) (c .names + 1) (r .spots ++ (c .at ∷ []))
+                unfolding word-is name-is
+                entered =
+                    let q : length (map (nameFrom x) (r .spots)) ≡ c .names = length-map (r .spots) (nameFrom x) ∙ sym (length-map (r .spots) (namePlace x)) ∙ holds-count placeOf 64 (kept .0) (c .names) (map (namePlace x) (r .spots)) (r .named .held) in
+                    record {
+                      held = rw map-append (holds-more placeOf 64 (kept .0) (c .names) (map (namePlace x) (r .spots)) (r .named .held) entry (namePlace x (c .at)) a word-is);
+                      table = rw map-append (table-entry (r .named .table) (nameFrom x (c .at)) h (u ∙ ap hashOf name-is) v (c .names) (c .at) (end - c .at) q a);
+                    }
+
+                -- the whole atom
+                pub atom-member : (work′ : List ℕ) (kept′ : Kept) → kept′ .0 ≡ set (kept .0) (c .names) entry → kept′ .1 ≡ set (kept .1) h (c .names + 1) → (g : Got)
+                    → AtomRead x work′ c end (stackOf (here x end)) g → Member x work′ kept′ (c .at) k g
+                unfolding entered name-read name-stack
+                atom-member work′ kept′ i j (Faulty f q) t = t
+                atom-member work′ kept′ i j (Past d) t′ =
+                    let t : AtomDone x work′ c end k d = rw name-stack at t′ in
+                    let l : t .spots ≡ r .spots ++ (c .at ∷ []) = sym (t .same) ∙ name-read .at-is .names in
+                    record { spots = t .spots; read = t .read; named = rw (t .one-more, l, i, j) entered }

@@ -39,7 +39,7 @@ use Rattle.judge.specs.Reading.Packed.{nodeOf, plain, signBy, isSign}
 use Rattle.judge.specs.Reading.Buffer.{holds-count, holds-more, holds-set}
 use Rattle.judge.specs.Reading.At.{At, next, step-on, bad}
 use Rattle.judge.specs.Reading.Atom.{nodes-many}
-use Rattle.judge.specs.Reading.Walk.{joins, Marking, treeNodes, membersNodes, frameNodes, stackNodes, stackOf, NodesHeld, Read, Behind, Member, Expecting, Ready, Closed, GroupRead, frameSign, frameSize, Inside, AtMember, mark-read, mark-names, not-expecting}
+use Rattle.judge.specs.Reading.Walk.{joins, Marking, treeNodes, membersNodes, frameNodes, stackNodes, stackOf, NodesHeld, Kept, Read, Behind, Member, Expecting, Ready, Closed, GroupRead, frameSign, frameSize, Inside, AtMember, mark-read, mark-names, not-expecting}
 
 -- where a member is to begin no text may end
 expecting : (k : List Frame) → result (at k expect) ≡ nothing
@@ -49,7 +49,7 @@ expecting (f ∷ k) = refl
 abbrev pub inside : Cursor → Cursor
 inside c = record { at = c .at + 1; nodes = c .nodes + 1; names = c .names }
 
-module _ {x : Text} {work names : List ℕ} {c : Cursor} {left : ℕ} {k : List Frame} (r : Ready x work names c left k) where
+module _ {x : Text} {work : List ℕ} {kept : Kept} {c : Cursor} {left : ℕ} {k : List Frame} (r : Ready x work kept c left k) where
   pub member-stops : c .at ≡ length x → Answers x (refused Misspelling (c .at))
   member-stops e = bad (r .expecting .at-is) tt (rw (List·getD-eq-default x 0 {n = c .at} (omega arith))) (expecting k)
 
@@ -112,7 +112,7 @@ module _ {x : Text} {work names : List ℕ} {c : Cursor} {left : ℕ} {k : List 
         unfolding opens
         inside-stack = ap (λ (s : State). tail (stackOf s)) (opens .is)
 
-        pub goes-in : Inside x (set work (c .nodes) 0) names (inside c) (left - 1) (c .nodes) opened (tail (stackOf (here x (c .at + 1))))
+        pub goes-in : Inside x (set work (c .nodes) 0) kept (inside c) (left - 1) (c .nodes) opened (tail (stackOf (here x (c .at + 1))))
         unfolding opens inside-stack nodeOf
         goes-in =
             rw inside-stack
@@ -125,16 +125,16 @@ module _ {x : Text} {work names : List ℕ} {c : Cursor} {left : ℕ} {k : List 
             })
 
         -- the group was read: its mark is left
-        module _ (work₁ names′ : List ℕ) {g : Got} {d : Cursor} (y : GroupRead x work₁ names′ (c .at + 1) (tail (stackOf (here x (c .at + 1)))) g) (u : g ≡ Past d) where
-          closed : Closed x work₁ names′ (c .at + 1) k d
+        module _ (work₁ : List ℕ) (kept′ : Kept) {g : Got} {d : Cursor} (y : GroupRead x work₁ kept′ (c .at + 1) (tail (stackOf (here x (c .at + 1)))) g) (u : g ≡ Past d) where
+          closed : Closed x work₁ kept′ (c .at + 1) k d
           unfolding inside-stack
-          closed = let v : Closed x work₁ names′ (c .at + 1) (tail (stackOf (here x (c .at + 1)))) d = rw u at y in rw inside-stack at v
+          closed = let v : Closed x work₁ kept′ (c .at + 1) (tail (stackOf (here x (c .at + 1)))) d = rw u at y in rw inside-stack at v
 
           pub closed-fits : d .at ≤ length x
           unfolding closed
           closed-fits = closed .at-is .within
 
-          pub group-member : {work₂ : List ℕ} {e : Cursor} → Marking x work₁ work₂ d (c .nodes) e → Member x work₂ names′ (c .at) k (Past e)
+          pub group-member : {work₂ : List ℕ} {e : Cursor} → Marking x work₁ work₂ d (c .nodes) e → Member x work₂ kept′ (c .at) k (Past e)
           unfolding closed
           group-member q =
               let n : c .nodes ≡ length (stackNodes k) = sym (holds-count nodeOf 128 work (c .nodes) (stackNodes k) (r .expecting .held)) in
@@ -257,11 +257,11 @@ close-bad opened k t b e j =
 close-bad (signed o u ts) k t b e j = rw (e, sym (joins-by o b) ∙ j)
 
 -- behind the bracket of a group
-module _ {x : Text} {work names : List ℕ} {c : Cursor} {left node : ℕ} {k : List Frame} (i : Inside x work names c left node opened k) where
+module _ {x : Text} {work : List ℕ} {kept : Kept} {c : Cursor} {left node : ℕ} {k : List Frame} (i : Inside x work kept c left node opened k) where
   -- `()`
-  pub group-empty : is x (code ")") (c .at) ≡ true → Closed x work names (c .at) k (record { at = c .at + 1; nodes = c .nodes; names = c .names })
+  pub group-empty : is x (code ")") (c .at) ≡ true → Closed x work kept (c .at) k (record { at = c .at + 1; nodes = c .nodes; names = c .names })
   group-empty e =
-      let r : Expecting x work names c (opened ∷ k) = i .expecting in
+      let r : Expecting x work kept c (opened ∷ k) = i .expecting in
       let h : c .at < length x = stands-inside x (code ")") (c .at) (omega arith) e in
       let b : getD x (c .at) 0 ≡ code ")" = eqb-true (getD x (c .at) 0) (code ")") e in
       let s : here x (suc (c .at)) ≡ at k (after (marked Plain (group None none))) = next (r .at-is) h ∙ rw b in
@@ -281,11 +281,11 @@ module _ {x : Text} {work names : List ℕ} {c : Cursor} {left node : ℕ} {k : 
         named = r .named;
       }
 
-  pub group-begins : is x (code ")") (c .at) ≡ false → AtMember x work names (c .at) c left node 0 0 k
+  pub group-begins : is x (code ")") (c .at) ≡ false → AtMember x work kept (c .at) c left node 0 0 k
   group-begins n = record { top = opened; inside = i; signs = refl; sizes = refl; no-end = λ e. absurd (true≢false (sym e ∙ n)); from = omega arith }
 
 -- at a member of a group
-module _ {x : Text} {work names : List ℕ} {p : ℕ} {c : Cursor} {left node sign members : ℕ} {k : List Frame} (i : AtMember x work names p c left node sign members k) where
+module _ {x : Text} {work : List ℕ} {kept : Kept} {p : ℕ} {c : Cursor} {left node sign members : ℕ} {k : List Frame} (i : AtMember x work kept p c left node sign members k) where
   stack-is : stackOf (here x (c .at)) ≡ i .top ∷ k
   stack-is = ap stackOf (i .inside .expecting .at-is .is)
 
@@ -303,13 +303,13 @@ module _ {x : Text} {work names : List ℕ} {p : ℕ} {c : Cursor} {left node si
   pub node-fits : node < 128
   node-fits = omega (arith, nodes-few, frame-few (i .top), i .inside .node-is)
 
-  pub group-ready : Ready x work names c left (stackOf (here x (c .at)))
+  pub group-ready : Ready x work kept c left (stackOf (here x (c .at)))
   unfolding stack-is
   group-ready = rw stack-is (record { expecting = i .inside .expecting; no-end = i .no-end; room = omega (arith, i .inside .room) })
 
   -- behind that member
-  module _ (work′ names′ : List ℕ) {g : Got} {d : Cursor} (y : Member x work′ names′ (c .at) (stackOf (here x (c .at))) g) (u : g ≡ Past d) where
-    m : Behind x work′ names′ (c .at) (stackOf (here x (c .at))) d
+  module _ (work′ : List ℕ) (kept′ : Kept) {g : Got} {d : Cursor} (y : Member x work′ kept′ (c .at) (stackOf (here x (c .at))) g) (u : g ≡ Past d) where
+    m : Behind x work′ kept′ (c .at) (stackOf (here x (c .at))) d
     m = rw u at y
 
     read : Read x work′ (m .spots) (c .at) (i .top ∷ k) d
@@ -342,7 +342,7 @@ module _ {x : Text} {work names : List ℕ} {p : ℕ} {c : Cursor} {left node si
       turn-less = omega (arith, read .on, past-inside)
 
       pub group-ends : getD x (d .at) 0 ≡ code ")" → (w : ℕ) → nodeOf w ≡ plain (Group (signBy sign) (members + 1))
-          → Closed x (set work′ node w) names′ p k (record { at = d .at + 1; nodes = d .nodes; names = d .names })
+          → Closed x (set work′ node w) kept′ p k (record { at = d .at + 1; nodes = d .nodes; names = d .names })
       unfolding read nodes-held past-inside m
       group-ends b w q =
           let s : step (at (i .top ∷ k) (behind (read .tree))) (getD x (d .at) 0) ≡ at k (after (marked Plain (group (signBy (frameSign (i .top))) (closedMembers (i .top) (read .tree))))) = read .settled ∙ rw b (close-ends (i .top) k (read .tree)) in
@@ -366,7 +366,7 @@ module _ {x : Text} {work names : List ℕ} {p : ℕ} {c : Cursor} {left node si
             (read .settled ∙ close-bad (i .top) k (read .tree) (getD x (d .at) 0) (ne-eqb (getD x (d .at) 0) (code ")") b) (rw (i .signs) j)) refl
 
         pub group-joins : joins sign (getD x (d .at) 0) ≡ true
-            → AtMember x work′ names′ p (record { at = d .at + 1; nodes = d .nodes; names = d .names }) left node (getD x (d .at) 0) (members + 1) k
+            → AtMember x work′ kept′ p (record { at = d .at + 1; nodes = d .nodes; names = d .names }) left node (getD x (d .at) 0) (members + 1) k
         unfolding nodes-held past-inside read m
         group-joins j =
             let grown : Grown (i .top) k (read .tree) (getD x (d .at) 0) = close-joins (i .top) k (read .tree) (getD x (d .at) 0) (ne-eqb (getD x (d .at) 0) (code ")") b) (rw (i .signs) j) in

@@ -1,21 +1,19 @@
 -- What is known of a reading: the rule of a text that was read is readable, its names are those of the tree, in order and all different.
-use mathlib.Core.Logic.{by-cases}
-use Rattle.judge.specs.Reading.Table.{lastIn}
-use Rattle.judge.specs.Reading.Table.Laws.{last-under, last-passes, last-missed}
 use mathlib.Core.Path.{_≡_, refl, sym, ap, subst, _∙_}
+use mathlib.Core.Logic.{by-cases}
 use mathlib.Core.Bool.{true, false}
 use mathlib.Core.List.{List, [], _∷_, map, map-append}
 use Prim.Native.Nat.{ℕ, zero, suc, _+_, _-_, _≤_, _<_}
 use native.Mathlib.Decide.{ℕ-discrete}
 use native.Mathlib.Omega.{arith}
 use lib.ListN.{length-map}
-use lib.ListN.{length, take, drop, getD, replicate}
+use lib.ListN.{length, take, getD, replicate}
 use lib.Seq.{take-suc, take-all, take-append-seam}
 use Rattle.judge.specs.declared.text.NamePlace.{NamePlace}
 use Rattle.judge.specs.declared.text.Outcome.the-variants.{Read}
 use Rattle.judge.specs.declared.text.Reading.{Reading}
-use Rattle.fields.specs.Bytes.{Text, isInner, sameText}
-use Rattle.fields.specs.Bytes.Laws.{front-take, same-text}
+use Rattle.fields.specs.Bytes.{Text, sameText}
+use Rattle.fields.specs.Bytes.Laws.{same-text}
 use Rattle.fields.specs.Tests.{by-test}
 use Rattle.model.specs.Tree.{leaves, atoms, Formed}
 use Rattle.model.specs.Tree.Leaves.{length-leaves}
@@ -32,20 +30,16 @@ use Rattle.model.specs.Accept.Starts.{name-at, name-place}
 use Rattle.model.specs.Rule.{ruleOf, Readable, names as ruleNames}
 use Rattle.model.specs.Rule.Names.{names-model}
 use Rattle.fields.specs.Limits.{maxAtoms}
-use Rattle.judge.specs.Reading.{namePlace, noPlace, namesOf, readingBy, reading, partAt, partsOf}
+use Rattle.judge.specs.Reading.{namePlace, noPlace, namesOf, readingBy, reading, partsOf}
+use Rattle.judge.specs.Reading.Search.{parts-named}
+use Rattle.judge.specs.Reading.Table.{lastIn}
+use Rattle.judge.specs.Reading.Table.Laws.{last-under, last-passes, last-missed}
 
 -- the parts of a text where its names stand
-names-begin : (x : Text) (p : ℕ) → map (partAt x) (map (namePlace x) (places x p)) ≡ map (nameFrom x) (places x p)
-names-begin x p = go (places x p)
-  where
-    go : (l : List ℕ) → map (partAt x) (map (namePlace x) l) ≡ map (nameFrom x) l
-    go [] = refl
-    go (q ∷ l) = rw (front-take isInner (drop q x), go l)
-
 parts-begin : (x : Text) → partsOf x (namesOf x) ≡ map (nameFrom x) (places x (length x))
 parts-begin x =
     let l : List NamePlace = map (namePlace x) (places x (length x)) in
-    rw (take-append-seam l (replicate (maxAtoms - length l) noPlace)) (names-begin x (length x))
+    rw (take-append-seam l (replicate (maxAtoms - length l) noPlace)) (parts-named x (places x (length x)))
 
 -- as far as p, they are the first names of the tree
 module _ (t : Syntax) (f : Formed SpellingFormed t) where

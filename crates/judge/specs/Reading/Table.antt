@@ -9,10 +9,7 @@ use lib.ListN.{length, take, getD}
 use Rattle.fields.specs.Bytes.{Text, sameText}
 use Rattle.fields.specs.Limits.{maxText, maxName, maxAtoms}
 use Rattle.judge.specs.Reading.{partAt}
-use Rattle.judge.specs.declared.text.NamePlace.{NamePlace}
-
-unfoldable pub placeOf : ℕ → NamePlace
-placeOf w = record { start = w / 65536 % 65536; len = w / 256 % 256 }
+use Rattle.judge.specs.Reading.Packed.{placeOf}
 
 abbrev pub slots : ℕ
 slots = 256

@@ -1,12 +1,13 @@
--- What the member reader and the group reader say of the places that they come to: the automaton's state there, and what the two lent arrays hold.
-use mathlib.Core.Path.{_≡_, refl, ap, _∙_}
+-- What the member reader and the group reader say of the places that they come to: the automaton's state there, and what the lent arrays hold.
+use mathlib.Core.Path.{_≡_, refl, sym, ap, _∙_}
 use mathlib.Core.Bool.{Bool, true, false, cond, _||_}
-use mathlib.Core.List.{List, [], _∷_, _++_, map}
+use mathlib.Core.List.{List, [], _∷_, _++_, map, List·Memᴰ}
 use Prim.Native.Nat.{ℕ, suc, _+_, _≤_, _<_}
 use Prim.Native.Char.{code}
 use native.Mathlib.Omega.{arith}
 use lib.Dec.{eqb}
-use lib.ListN.{length, set, getD}
+use lib.ListN.{length, take, set, getD, length-map, List·getD-map}
+use lib.Seq.{getD-take}
 use borrow.Author.Tests.{eqb-true}
 use Rattle.model.specs.declared.fault.ModelFault.{ModelFault}
 use Rattle.model.specs.declared.rule.Sign.{Sign}
@@ -26,11 +27,14 @@ use Rattle.model.specs.Syntax.Complete.{behindAtom, behindNode, behind, after-p
 use Rattle.model.specs.Syntax.Counters.{isExpect}
 use Rattle.model.specs.Model.{countsOf, modelOf, encode, encodeAll}
 use Rattle.model.specs.Rule.{unused}
-use Rattle.model.specs.Fault.{is, refused, Answers}
+use Rattle.model.specs.Fault.{is, nameFrom, refused, Answers}
+use Rattle.model.specs.Fault.Ties.{places, in-places}
 use Rattle.judge.specs.Reading.{namePlace}
 use Rattle.judge.specs.Reading.Packed.{nodeOf, placeOf, plain, optional}
+use Rattle.judge.specs.Reading.Table.{Table, Tabled}
+use Rattle.judge.specs.Reading.Search.{mapped-at, in-list, name-fits, parts-named}
 use Rattle.judge.specs.Reading.Lexeme.Laws.{stands-inside}
-use Rattle.judge.specs.Reading.Buffer.{Holds, holds-set, holds-get}
+use Rattle.judge.specs.Reading.Buffer.{Holds, holds-count, holds-set, holds-get}
 use Rattle.judge.specs.Reading.At.{At, step-on}
 
 -- may b part two members, where the byte that parted members so far is `sign` (0: none yet)
@@ -65,8 +69,28 @@ stackOf (at k f) = k
 abbrev pub NodesHeld : List ℕ → ℕ → List RuleNode → Type 0
 NodesHeld work n l = Holds nodeOf 128 work n l
 
-abbrev pub NamesHeld : Text → List ℕ → ℕ → List ℕ → Type 0
-NamesHeld x names n l = Holds placeOf 64 names n (map (namePlace x) l)
+-- what the reader keeps of names: the numbers of names, and the heads of the table
+abbrev pub Kept : Type 0
+Kept = List ℕ × List ℕ
+
+-- n names, and l has the places where they begin
+pub record NamesHeld (x : Text) (kept : Kept) (n : ℕ) (l : List ℕ) : Type 0 where
+  pub held : Holds placeOf 64 (kept .0) n (map (namePlace x) l)
+  pub table : Table (map (nameFrom x) l) (kept .0) (kept .1)
+
+-- so the first n of these places are parts of the text, and in the table
+pub names-tabled : {x : Text} {kept : Kept} {n : ℕ} {l : List ℕ} {p : ℕ} {s : State} → At x l p s → NamesHeld x kept n l → Tabled x (kept .0) (kept .1) n
+names-tabled {x} {kept} {n} {l} {p} a h = record { few = h .held .few; table = rw (h .held .held, parts-named x l) (h .table); inside = inside }
+  where
+    long : length l ≡ n
+    long = sym (length-map l (namePlace x)) ∙ holds-count placeOf 64 (kept .0) n (map (namePlace x) l) (h .held)
+
+    inside : (i : ℕ) → i < n → placeOf (getD (kept .0) i 0) .start + placeOf (getD (kept .0) i 0) .len ≤ length x
+    inside i j =
+        let e : placeOf (getD (kept .0) i 0) ≡ namePlace x (getD l i 0) =
+        sym (List·getD-map placeOf (take n (kept .0)) i 0 ∙ ap placeOf (getD-take n (kept .0) i 0 j)) ∙ ap (λ m. getD m i (placeOf 0)) (h .held .held) ∙ mapped-at (namePlace x) l i 0 (placeOf 0) (omega (arith, long)) in
+        let m : List·Memᴰ (getD l i 0) (places x p) = rw (a .names) (in-list l i 0 (omega (arith, long))) in
+        rw e (name-fits x (getD l i 0) (omega (arith, in-places x p (getD l i 0) m .0, a .within)))
 
 -- a member was read from p on up to d, and what comes can only close or part; l are the places of the names up to there
 pub record Read (x : Text) (work : List ℕ) (l : List ℕ) (p : ℕ) (k : List Frame) (d : Cursor) : Type 0 where
@@ -76,42 +100,42 @@ pub record Read (x : Text) (work : List ℕ) (l : List ℕ) (p : ℕ) (k : List 
   pub settled : step (at k (behind tree)) (getD x (d .at) 0) ≡ close k tree (getD x (d .at) 0)
   pub held : NodesHeld work (d .nodes) (stackNodes k ++ treeNodes tree)
 
-pub record Behind (x : Text) (work names : List ℕ) (p : ℕ) (k : List Frame) (d : Cursor) : Type 0 where
+pub record Behind (x : Text) (work : List ℕ) (kept : Kept) (p : ℕ) (k : List Frame) (d : Cursor) : Type 0 where
   pub spots : List ℕ
   pub read : Read x work spots p k d
-  pub named : NamesHeld x names (d .names) spots
+  pub named : NamesHeld x kept (d .names) spots
 
 -- what a reader of members gives
-abbrev pub Member : Text → List ℕ → List ℕ → ℕ → List Frame → Got → Type 0
-Member x work names p k (Past d) = Behind x work names p k d
-Member x work names p k (Faulty f q) = Answers x (refused f q)
+abbrev pub Member : Text → List ℕ → Kept → ℕ → List Frame → Got → Type 0
+Member x work kept p k (Past d) = Behind x work kept p k d
+Member x work kept p k (Faulty f q) = Answers x (refused f q)
 
 -- a member is to be read at c
-pub record Expecting (x : Text) (work names : List ℕ) (c : Cursor) (k : List Frame) : Type 0 where
+pub record Expecting (x : Text) (work : List ℕ) (kept : Kept) (c : Cursor) (k : List Frame) : Type 0 where
   pub spots : List ℕ
   pub at-is : At x spots (c .at) (at k expect)
   pub held : NodesHeld work (c .nodes) (stackNodes k)
-  pub named : NamesHeld x names (c .names) spots
+  pub named : NamesHeld x kept (c .names) spots
 
 -- the same, where no `)` may stand, and `left` brackets may still be opened
-pub record Ready (x : Text) (work names : List ℕ) (c : Cursor) (left : ℕ) (k : List Frame) : Type 0 where
-  pub expecting : Expecting x work names c k
+pub record Ready (x : Text) (work : List ℕ) (kept : Kept) (c : Cursor) (left : ℕ) (k : List Frame) : Type 0 where
+  pub expecting : Expecting x work kept c k
   pub no-end : is x (code ")") (c .at) ≡ true → shut k ≡ dead
   pub room : length k + left ≡ 16
 
 -- a group was read up to d, its `)` included
-pub record Closed (x : Text) (work names : List ℕ) (p : ℕ) (k : List Frame) (d : Cursor) : Type 0 where
+pub record Closed (x : Text) (work : List ℕ) (kept : Kept) (p : ℕ) (k : List Frame) (d : Cursor) : Type 0 where
   pub spots : List ℕ
   pub on : p < d .at
   pub sign : Sign
   pub members : Members Spelling
   pub at-is : At x spots (d .at) (at k (after (marked Plain (group sign members))))
   pub held : NodesHeld work (d .nodes) (stackNodes k ++ treeNodes (marked Plain (group sign members)))
-  pub named : NamesHeld x names (d .names) spots
+  pub named : NamesHeld x kept (d .names) spots
 
-abbrev pub GroupRead : Text → List ℕ → List ℕ → ℕ → List Frame → Got → Type 0
-GroupRead x work names p k (Past d) = Closed x work names p k d
-GroupRead x work names p k (Faulty f q) = Answers x (refused f q)
+abbrev pub GroupRead : Text → List ℕ → Kept → ℕ → List Frame → Got → Type 0
+GroupRead x work kept p k (Past d) = Closed x work kept p k d
+GroupRead x work kept p k (Faulty f q) = Answers x (refused f q)
 
 abbrev pub frameSign : Frame → ℕ
 frameSign opened = 0
@@ -122,28 +146,28 @@ frameSize opened = 0
 frameSize (signed o u ts) = suc (size ts)
 
 -- a member, or the `)`, of the innermost group is to be read at c: f has what was read of that group, and k has the groups around it
-pub record Inside (x : Text) (work names : List ℕ) (c : Cursor) (left node : ℕ) (f : Frame) (k : List Frame) : Type 0 where
-  pub expecting : Expecting x work names c (f ∷ k)
+pub record Inside (x : Text) (work : List ℕ) (kept : Kept) (c : Cursor) (left node : ℕ) (f : Frame) (k : List Frame) : Type 0 where
+  pub expecting : Expecting x work kept c (f ∷ k)
   pub node-is : node ≡ length (stackNodes k)
   pub room : length k + 1 + left ≡ 16
 
 -- the same, where no `)` may stand: the group begins at p, and has `members` members so far, parted by `sign`
-pub record AtMember (x : Text) (work names : List ℕ) (p : ℕ) (c : Cursor) (left node sign members : ℕ) (k : List Frame) : Type 0 where
+pub record AtMember (x : Text) (work : List ℕ) (kept : Kept) (p : ℕ) (c : Cursor) (left node sign members : ℕ) (k : List Frame) : Type 0 where
   pub top : Frame
-  pub inside : Inside x work names c left node top k
+  pub inside : Inside x work kept c left node top k
   pub signs : frameSign top ≡ sign
   pub sizes : frameSize top ≡ members
   pub no-end : is x (code ")") (c .at) ≡ true → shut (top ∷ k) ≡ dead
   pub from : p ≤ c .at
 
 -- a fault goes through
-pub member-fault : (x : Text) (work names : List ℕ) (p : ℕ) (k : List Frame) {g : Got} {f : ModelFault} {q : ℕ} → Member x work names p k g → g ≡ Faulty f q
+pub member-fault : (x : Text) (work : List ℕ) (kept : Kept) (p : ℕ) (k : List Frame) {g : Got} {f : ModelFault} {q : ℕ} → Member x work kept p k g → g ≡ Faulty f q
     → Answers x (refused f q)
-member-fault x work names p k m e = rw e at m
+member-fault x work kept p k m e = rw e at m
 
-pub group-fault : (x : Text) (work names : List ℕ) (p : ℕ) (k : List Frame) {g : Got} {f : ModelFault} {q : ℕ} → GroupRead x work names p k g → g ≡ Faulty f q
+pub group-fault : (x : Text) (work : List ℕ) (kept : Kept) (p : ℕ) (k : List Frame) {g : Got} {f : ModelFault} {q : ℕ} → GroupRead x work kept p k g → g ≡ Faulty f q
     → Answers x (refused f q)
-group-fault x work names p k m e = rw e at m
+group-fault x work kept p k m e = rw e at m
 
 -- the mark
 abbrev headKind : Node Spelling → Kind

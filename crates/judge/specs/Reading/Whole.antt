@@ -34,8 +34,10 @@ use Rattle.model.specs.Fault.Ties.{places}
 use Rattle.model.specs.Fault.Places.{size-answers, dead-answers, accepted-answers}
 use Rattle.judge.specs.Reading.{namePlace, ruleWith, namesWith, namesOf, refusal, readingBy, reading}
 use Rattle.judge.specs.Reading.Packed.{nodeOf, placeOf}
+use Rattle.judge.specs.Reading.Table.{slots}
+use Rattle.judge.specs.Reading.Table.Laws.{table-none}
 use Rattle.judge.specs.Reading.At.{next}
-use Rattle.judge.specs.Reading.Walk.{Behind, Member, member-fault, Ready}
+use Rattle.judge.specs.Reading.Walk.{Kept, Behind, Member, member-fault, Ready}
 
 pub refused-is : (x : Text) (f : ModelFault) (p : ℕ) → Answers x (refused f p) → refusal f p ≡ reading x
 refused-is x f p a = ap (readingBy x) (answer-is x (refused f p) a)
@@ -45,7 +47,7 @@ size-refused x e =
     refused-is x Size 0
     (size-answers x (⊎-elim (λ h. inl (eqb→eq (length x) 0 h)) (λ h. inr (ltb→lt maxText (length x) h)) (or-yes (eqb (length x) 0) (ltb maxText (length x)) (rw e tt))))
 
-pub start-ready : (x : Text) → (eqb (length x) 0 || ltb maxText (length x)) ≡ false → Ready x (replicate 128 0) (replicate 64 0) (record { at = 0; nodes = 0; names = 0 }) 16 []
+pub start-ready : (x : Text) → (eqb (length x) 0 || ltb maxText (length x)) ≡ false → Ready x (replicate 128 0) (replicate 64 0, replicate slots 0) (record { at = 0; nodes = 0; names = 0 }) 16 []
 start-ready x e =
     let n : T (not (eqb (length x) 0 || ltb maxText (length x))) = rw e tt in
     let s : T (not (eqb (length x) 0)) × T (not (ltb maxText (length x))) = or-no (eqb (length x) 0) (ltb maxText (length x)) n in
@@ -57,7 +59,7 @@ start-ready x e =
             record
             { sized = (omega arith, nltb→le maxText (length x) (s .1)); within = omega arith; is = refl; clean = λ q h. absurd (let k : q < 0 = h in omega arith); names = refl };
         held = record { whole = refl; few = omega arith; held = refl };
-        named = record { whole = refl; few = omega arith; held = refl };
+        named = record { held = record { whole = refl; few = omega arith; held = refl }; table = table-none (replicate 64 0) refl };
       };
       no-end = λ _. refl;
       room = refl;
@@ -74,12 +76,12 @@ whole-behind (marked Plain (leaf a)) = go (a .count)
     go (between l h) = refl
     go (onward l) = refl
 
-module _ (x : Text) (work names : List ℕ) (g : Got) (y : Member x work names 0 [] g) where
+module _ (x : Text) (work : List ℕ) (kept : Kept) (g : Got) (y : Member x work kept 0 [] g) where
   pub fault-read : (f : ModelFault) (q : ℕ) → g ≡ Faulty f q → refusal f q ≡ reading x
-  fault-read f q e = refused-is x f q (member-fault x work names 0 [] y e)
+  fault-read f q e = refused-is x f q (member-fault x work kept 0 [] y e)
 
   module _ (d : Cursor) (u : g ≡ Past d) where
-    b : Behind x work names 0 [] d
+    b : Behind x work kept 0 [] d
     b = rw u at y
 
     pub more-read : d .at < length x → refusal Misspelling (d .at) ≡ reading x
@@ -88,12 +90,12 @@ module _ (x : Text) (work names : List ℕ) (g : Got) (y : Member x work names 0
         let a = b .read .at-is in
         refused-is x Misspelling (d .at) (dead-answers x (d .at) (a .sized) (a .clean) h (rw (a .is) tt) (next a h ∙ b .read .settled))
 
-    pub buffers-fit : ((d .nodes ≤ 128) × (length work ≡ 128)) × ((d .names ≤ 64) × (length names ≡ 64))
+    pub buffers-fit : ((d .nodes ≤ 128) × (length work ≡ 128)) × ((d .names ≤ 64) × (length (kept .0) ≡ 64))
     unfolding b
-    buffers-fit = ((b .read .held .few, b .read .held .whole), (b .named .few, b .named .whole))
+    buffers-fit = ((b .read .held .few, b .read .held .whole), (b .named .held .few, b .named .held .whole))
 
     pub whole-read : length x ≤ d .at → (r : Rule) (n : Names) → r ≡ ruleWith (map nodeOf (take (d .nodes) work))
-        → n ≡ namesWith (map placeOf (take (d .names) names)) → _≡_ {A = Reading} (record { outcome = Read; rule = r; names = n }) (reading x)
+        → n ≡ namesWith (map placeOf (take (d .names) (kept .0))) → _≡_ {A = Reading} (record { outcome = Read; rule = r; names = n }) (reading x)
     unfolding b
     whole-read h r n e f =
         let a = b .read .at-is in
@@ -102,5 +104,5 @@ module _ (x : Text) (work names : List ℕ) (g : Got) (y : Member x work names 0
         let i : run start x ≡ at [] (behind t) = ap (run start) (sym (ap (λ (m : ℕ). take m x) q ∙ take-length x)) ∙ a .is in
         let w : Answers x (accepted t) = accepted-answers x t (a .sized) (rw q at (a .clean)) (ap result i ∙ whole-behind t) in
         let r′ : r ≡ ruleOf (modelOf t) = e ∙ ap ruleWith (b .read .held .held) in
-        let n′ : n ≡ namesOf x = f ∙ ap namesWith (b .named .held ∙ ap (map (namePlace x)) (sym (a .names) ∙ ap (places x) q)) in
+        let n′ : n ≡ namesOf x = f ∙ ap namesWith (b .named .held .held ∙ ap (map (namePlace x)) (sym (a .names) ∙ ap (places x) q)) in
         rw (r′, n′) (ap (readingBy x) (answer-is x (accepted t) w))

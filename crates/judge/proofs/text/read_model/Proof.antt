@@ -12,7 +12,7 @@ returns : tie.Need-returns
 returns c = c .refused .ensures ∙ size-refused (c .before .before .before .args .text .now) (c .before .if1 .taken)
 
 member-requires : tie.Need-member-requires
-member-requires c κs = start-ready (c .before .before .before .before .args .text .now) (c .before .before .if1 .left)
+member-requires c κs = start-ready (c .before .before .before .before .before .args .text .now) (c .before .before .before .if1 .left)
 
 enum-known-past : tie.Need-enum-known-past
 enum-known-past c = search needs
@@ -23,23 +23,23 @@ refused-requires-2 c κs = search needs
 returns-2 : tie.Need-returns-2
 returns-2 c =
     c .refused2 .ensures
-    ∙ more-read (c .before .before .before .before .before .before .before .before .before .before .args .text .now)
-    (c .before .before .before .before .before .member .last .1 .0) (c .before .before .before .before .before .member .last .1 .1 .0)
+    ∙ more-read (c .before .before .before .before .before .before .before .before .before .before .before .args .text .now)
+    (c .before .before .before .before .before .member .last .1 .0) (c .before .before .before .before .before .member .last .1 .1 .0, c .before .before .before .before .before .member .last .1 .1 .1 .0)
     (c .before .before .before .before .before .member .result) (c .before .before .before .before .before .member .ensures)
     (c .before .before .before .past .given .0 .0) (c .before .before .before .past .given .1) (c .before .if2 .taken)
 
 rule-of-requires : tie.Need-rule-of-requires
 rule-of-requires c κs =
-    buffers-fit (c .before .before .before .before .before .before .before .before .before .before .args .text .now)
-    (c .before .before .before .before .before .member .last .1 .0) (c .before .before .before .before .before .member .last .1 .1 .0)
+    buffers-fit (c .before .before .before .before .before .before .before .before .before .before .before .args .text .now)
+    (c .before .before .before .before .before .member .last .1 .0) (c .before .before .before .before .before .member .last .1 .1 .0, c .before .before .before .before .before .member .last .1 .1 .1 .0)
     (c .before .before .before .before .before .member .result) (c .before .before .before .before .before .member .ensures)
     (c .before .before .before .past .given .0 .0) (c .before .before .before .past .given .1) .0
 
 names-of-requires : tie.Need-names-of-requires
 names-of-requires c κs =
-    buffers-fit (c .before .before .before .before .before .before .before .before .before .before .before .before .args .text .now)
+    buffers-fit (c .before .before .before .before .before .before .before .before .before .before .before .before .before .args .text .now)
     (c .before .before .before .before .before .before .before .member .last .1 .0)
-    (c .before .before .before .before .before .before .before .member .last .1 .1 .0)
+    (c .before .before .before .before .before .before .before .member .last .1 .1 .0, c .before .before .before .before .before .before .before .member .last .1 .1 .1 .0)
     (c .before .before .before .before .before .before .before .member .result) (c .before .before .before .before .before .before .before .member .ensures)
     (c .before .before .before .before .before .past .given .0 .0) (c .before .before .before .before .before .past .given .1) .1
 
@@ -51,9 +51,9 @@ refused-requires-3 c κs = search needs
 
 returns-3 : tie.Need-returns-3
 returns-3 c =
-    whole-read (c .before .before .before .before .before .before .before .before .before .before .before .before .before .args .text .now)
+    whole-read (c .before .before .before .before .before .before .before .before .before .before .before .before .before .before .args .text .now)
     (c .before .before .before .before .before .before .before .before .member .last .1 .0)
-    (c .before .before .before .before .before .before .before .before .member .last .1 .1 .0)
+    (c .before .before .before .before .before .before .before .before .member .last .1 .1 .0, c .before .before .before .before .before .before .before .before .member .last .1 .1 .1 .0)
     (c .before .before .before .before .before .before .before .before .member .result)
     (c .before .before .before .before .before .before .before .before .member .ensures) (c .before .before .before .before .before .before .past .given .0 .0)
     (c .before .before .before .before .before .before .past .given .1) (c .before .before .before .before .if2 .left) (c .before .before .rule-of .result)
@@ -62,8 +62,8 @@ returns-3 c =
 returns-4 : tie.Need-returns-4
 returns-4 c =
     c .refused3 .ensures
-    ∙ fault-read (c .before .before .before .before .before .before .before .before .before .args .text .now)
-    (c .before .before .before .before .member .last .1 .0) (c .before .before .before .before .member .last .1 .1 .0)
+    ∙ fault-read (c .before .before .before .before .before .before .before .before .before .before .args .text .now)
+    (c .before .before .before .before .member .last .1 .0) (c .before .before .before .before .member .last .1 .1 .0, c .before .before .before .before .member .last .1 .1 .1 .0)
     (c .before .before .before .before .member .result) (c .before .before .before .before .member .ensures) (c .before .before .f .given .0 .0)
     (c .before .before .f .given .0 .1 .0) (c .before .before .f .given .1)
 
