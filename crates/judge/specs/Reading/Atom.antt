@@ -37,7 +37,7 @@ use Rattle.model.specs.Fault.Ties.{places, places-tally}
 use Rattle.judge.specs.Reading.{namePlace}
 use Rattle.judge.specs.Reading.Lexeme.{countAt}
 use Rattle.judge.specs.Reading.Lexeme.Laws.{front-step}
-use Rattle.judge.specs.Reading.Packed.{nodeOf, placeOf, plain}
+use Rattle.judge.specs.Packed.{nodeOf, placeOf, plain}
 use Rattle.judge.specs.Reading.Search.{name-fits, name-part, parts-named, twice-found, twice-missed}
 use Rattle.judge.specs.Reading.Table.{slots, hashOf, lastIn, partsIn, entryOf, Enters}
 use Rattle.judge.specs.Reading.Table.Laws.{head-fits, table-entry}

@@ -35,7 +35,7 @@ use Rattle.model.specs.Fault.{is, Fault, modelNumber, refused, Answers}
 use Rattle.model.specs.Fault.Places.{BracketFault, bracket-faults, bracket-next, bracket-faultless, found-by, clean-more, end-faultless}
 use Rattle.model.specs.Rule.{unused}
 use Rattle.judge.specs.Reading.Lexeme.Laws.{stands-inside}
-use Rattle.judge.specs.Reading.Packed.{nodeOf, plain, signBy, isSign}
+use Rattle.judge.specs.Packed.{nodeOf, plain, signBy, isSign}
 use Rattle.judge.specs.Reading.Buffer.{holds-count, holds-more, holds-set}
 use Rattle.judge.specs.Reading.At.{At, next, step-on, bad}
 use Rattle.judge.specs.Reading.Atom.{nodes-many}

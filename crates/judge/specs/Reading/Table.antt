@@ -9,7 +9,7 @@ use lib.ListN.{length, take, getD}
 use Rattle.fields.specs.Bytes.{Text, sameText}
 use Rattle.fields.specs.Limits.{maxText, maxName, maxAtoms}
 use Rattle.judge.specs.Reading.{partAt}
-use Rattle.judge.specs.Reading.Packed.{placeOf}
+use Rattle.judge.specs.Packed.{placeOf}
 
 abbrev pub slots : ℕ
 slots = 256

@@ -30,7 +30,7 @@ use Rattle.model.specs.Rule.{unused}
 use Rattle.model.specs.Fault.{is, nameFrom, refused, Answers}
 use Rattle.model.specs.Fault.Ties.{places, in-places}
 use Rattle.judge.specs.Reading.{namePlace}
-use Rattle.judge.specs.Reading.Packed.{nodeOf, placeOf, plain, optional}
+use Rattle.judge.specs.Packed.{nodeOf, placeOf, plain, optional}
 use Rattle.judge.specs.Reading.Table.{Table, Tabled}
 use Rattle.judge.specs.Reading.Search.{mapped-at, in-list, name-fits, parts-named}
 use Rattle.judge.specs.Reading.Lexeme.Laws.{stands-inside}

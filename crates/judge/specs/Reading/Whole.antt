@@ -32,8 +32,9 @@ use Rattle.model.specs.Fault.{refused, accepted, Answers}
 use Rattle.model.specs.Fault.Answered.{answer-is}
 use Rattle.model.specs.Fault.Ties.{places}
 use Rattle.model.specs.Fault.Places.{size-answers, dead-answers, accepted-answers}
-use Rattle.judge.specs.Reading.{ruleWith, namesWith, refusal, readingBy, reading, partAt}
-use Rattle.judge.specs.Reading.Packed.{nodeOf, placeOf}
+use Rattle.model.specs.Rule.{ruleWith}
+use Rattle.judge.specs.Reading.{namesWith, refusal, readingBy, reading, partAt}
+use Rattle.judge.specs.Packed.{nodeOf, placeOf}
 use Rattle.judge.specs.Reading.Table.{slots, partsIn, Tabled}
 use Rattle.judge.specs.Reading.Table.Laws.{table-none}
 use Rattle.judge.specs.Reading.At.{next}

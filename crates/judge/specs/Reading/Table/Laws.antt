@@ -16,7 +16,7 @@ use Rattle.fields.specs.Bytes.{Text, sameText}
 use Rattle.fields.specs.Bytes.Laws.{same-text}
 use Rattle.fields.specs.Limits.{maxAtoms}
 use Rattle.judge.specs.Reading.{partAt}
-use Rattle.judge.specs.Reading.Packed.{placeOf}
+use Rattle.judge.specs.Packed.{placeOf}
 use Rattle.judge.specs.Reading.Table.{slots, hashOf, lastOf, latest, lastIn, Table, partsIn, Tabled, entryOf}
 
 -- the last that passes a test
