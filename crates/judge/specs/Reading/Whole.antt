@@ -32,14 +32,18 @@ use Rattle.model.specs.Fault.{refused, accepted, Answers}
 use Rattle.model.specs.Fault.Answered.{answer-is}
 use Rattle.model.specs.Fault.Ties.{places}
 use Rattle.model.specs.Fault.Places.{size-answers, dead-answers, accepted-answers}
-use Rattle.model.specs.Rule.{ruleWith}
-use Rattle.judge.specs.Reading.{namesWith, refusal, readingBy, reading, partAt}
-use Rattle.judge.specs.Packed.{nodeOf, placeOf}
-use Rattle.judge.specs.Reading.Table.{slots, partsIn, Tabled}
+use Rattle.model.specs.Rule.{ruleWith, atomsIn}
+use Rattle.model.specs.Rule.Laws.{used-with}
+use Rattle.model.specs.Rule.Decide.{readable, readable-is}
+use Rattle.model.specs.Accept.Laws.{accepted-within}
+use Rattle.judge.specs.Reading.{namePlace, namesWith, refusal, readingBy, reading, partAt}
+use Rattle.judge.specs.Packed.{nodeOf, placeOf, ruleIn}
+use Rattle.judge.specs.Reading.Table.{slots, partsIn, Apart, Tabled}
 use Rattle.judge.specs.Reading.Table.Laws.{table-none}
+use Rattle.judge.specs.Reading.Buffer.{holds-count}
 use Rattle.judge.specs.Reading.At.{next}
 use Rattle.judge.specs.Reading.Search.{parts-named}
-use Rattle.judge.specs.Reading.Laws.{parts-begin, names-are}
+use Rattle.judge.specs.Reading.Laws.{parts-begin, names-are, names-many}
 use Rattle.judge.specs.Reading.Walk.{Kept, NodesHeld, NamesHeld, names-tabled, treeNodes, Behind, Member, Ready}
 
 -- the whole text was read: its tree, and what the lent arrays hold
@@ -125,13 +129,25 @@ pub refused-is : (x : Text) (f : ModelFault) (p : ℕ) → Answers x (refused f 
 refused-is x f p a = ap (readingBy x) (answer-is x (refused f p) a)
 
 module _ {x : Text} {work : List ℕ} {kept : Kept} {d : Cursor} (w : Whole x work kept d) where
-  pub whole-rule : ruleWith (map nodeOf (take (d .nodes) work)) ≡ ruleOf (modelOf (w .tree))
+  pub whole-rule : ruleIn work (d .nodes) ≡ ruleOf (modelOf (w .tree))
   whole-rule = ap ruleWith (w .nodes .held)
+
+  -- 40 does not refuse it
+  pub whole-readable : readable (ruleIn work (d .nodes)) ≡ true
+  whole-readable = readable-is (ruleIn work (d .nodes)) .1 (x, record { tree = w .tree; answered = w .answers; rule-is = whole-rule })
+
+  pub whole-count : d .names ≡ atomsIn (map nodeOf (take (d .nodes) work))
+  whole-count =
+      sym (holds-count placeOf 64 (kept .0) (d .names) (map (namePlace x) (places x (length x))) (w .named .held))
+      ∙ names-many x (w .tree) (w .answers) ∙ ap atomsIn (used-with (treeNodes (w .tree)) ∙ sym (w .nodes .held))
 
   pub whole-names : partsIn x (kept .0) (d .names) ≡ names (w .tree)
   whole-names = ap (map (partAt x)) (w .named .held .held) ∙ parts-named x (places x (length x)) ∙ sym (parts-begin x) ∙ names-are x (w .tree) (w .answers)
 
-  pub reading-is : (r : Rule) (n : Names) → r ≡ ruleWith (map nodeOf (take (d .nodes) work)) → n ≡ namesWith (map placeOf (take (d .names) (kept .0)))
+  pub whole-apart : Apart (partsIn x (kept .0) (d .names))
+  whole-apart = rw whole-names (accepted-within x (w .tree) (w .answers) .apart)
+
+  pub reading-is : (r : Rule) (n : Names) → r ≡ ruleIn work (d .nodes) → n ≡ namesWith (map placeOf (take (d .names) (kept .0)))
       → _≡_ {A = Reading} (record { outcome = Read; rule = r; names = n }) (reading x)
   reading-is r n e f =
       rw (e ∙ whole-rule, f ∙ ap namesWith (w .named .held .held)) (ap (readingBy x) (answer-is x (accepted (w .tree)) (w .answers)))
