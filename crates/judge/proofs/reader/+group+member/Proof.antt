@@ -11,20 +11,20 @@ use lib.ListN.{length}
 use Prim.Native.Nat.{ℕ, _<_}
 use borrow.Fn.Kinds.{In}
 use borrow.Fn.PlainCycle.{Measures, is, falls, and}
-use Rattle.judge.proofs.text.group.Reads as group
-use Rattle.judge.proofs.text.group.Kinds as group-kinds
-use Rattle.judge.proofs.text.+group+member.Lts-group as group-lts
-use Rattle.judge.proofs.text.member.Reads as member
-use Rattle.judge.proofs.text.member.Kinds as member-kinds
-use Rattle.judge.proofs.text.+group+member.Lts-member as member-lts
-use Rattle.judge.proofs.text.atom.Reads as atom-reads
+use Rattle.judge.proofs.reader.group.Reads as group
+use Rattle.judge.proofs.reader.group.Kinds as group-kinds
+use Rattle.judge.proofs.reader.+group+member.Lts-group as group-lts
+use Rattle.judge.proofs.reader.member.Reads as member
+use Rattle.judge.proofs.reader.member.Kinds as member-kinds
+use Rattle.judge.proofs.reader.+group+member.Lts-member as member-lts
+use Rattle.judge.proofs.reader.atom.Reads as atom-reads
 use Rattle.fields.proofs.bytes.is_letter.Reads as is-letter-reads
-use Rattle.judge.proofs.text.mark.Reads as mark-reads
+use Rattle.judge.proofs.reader.mark.Reads as mark-reads
 use Rattle.judge.proofs.packed.packed_group.Reads as packed-group-reads
-use Rattle.judge.proofs.text.parts.Reads as parts-reads
-use Rattle.judge.proofs.text.stands.Reads as stands-reads
-use Rattle.judge.proofs.text.+group+member.{statement}
-use Rattle.judge.proofs.text.+group+member.Tie.{close}
+use Rattle.judge.proofs.reader.parts.Reads as parts-reads
+use Rattle.judge.proofs.lexeme.stands.Reads as stands-reads
+use Rattle.judge.proofs.reader.+group+member.{statement}
+use Rattle.judge.proofs.reader.+group+member.Tie.{close}
 
 abbrev μ-group : Measures 4 group-kinds.ps ℕ
 μ-group κs a = (length (a .0 .now) - a .1 .1 .1 .1 .0 .at) * 2 + 1
