@@ -11,7 +11,8 @@ use Rattle.model.specs.Fault.{nameAt, nameFrom}
 use Rattle.model.specs.Fault.Ties.{places}
 use Rattle.desk.specs.declared.child.Located.{Located}
 use Rattle.desk.specs.declared.child.Located.the-variants.{InModel, InChildren, NoModel, NoChildren}
-use Rattle.desk.specs.Desk.{childrenIn, child, Reply, noModel, noChildren, good, replyNumber, Replies, reply}
+use Rattle.judge.specs.Reply.{childrenIn, child, Reply, noModel, noChildren, good, Replies, reply}
+use Rattle.desk.specs.Desk.{replyNumber}
 
 -- a part of one of the two texts: its first place and its length
 pub data Part : Type 0 where

@@ -37,8 +37,9 @@ use Rattle.fields.specs.Split.Laws.{joined, joined-split, part-at, end-within}
 use Rattle.fields.specs.Children.{cueNumber, allNames, childrenOf}
 use Rattle.desk.specs.declared.child.Located.{Located}
 use Rattle.desk.specs.declared.child.Located.the-variants.{InModel, InChildren, NoModel, NoChildren}
-use Rattle.desk.specs.Desk.{childrenIn, maxChildrenText, child, Reply, noModel, noChildren, good, replyNumber, childrenBy}
-use Rattle.desk.specs.Desk.Laws.{replies-exactly}
+use Rattle.judge.specs.Reply.{childrenIn, maxChildrenText, child, Reply, noModel, noChildren, good, childrenBy}
+use Rattle.judge.specs.Reply.Laws.{replies-exactly}
+use Rattle.desk.specs.Desk.{replyNumber}
 use Rattle.desk.specs.Names.{names-many, begins-at, name-is}
 use Rattle.desk.specs.Sound.{kidsBy, place-in, children-some}
 use Rattle.desk.specs.Child.{Part, ofModel, ofChildren, childName, startIn, Stands, Finds, partBy, partIn, found, childRefusal, partOf, childPart, located}
@@ -271,7 +272,7 @@ module _ (m c : Text) (k : ℕ) where
       by-number zero d = refl
       by-number (suc n) d =
           let f = name-here m c k t h n d in
-          let p = place-in m t h n (omega (arith, f .0, names-many m t h)) in
+          let p = place-in m n (omega (arith, f .0, names-many m t h)) in
           rw (p, f .2)
 
       go : (x : Children) → locatedBy m (namesOf m) c k x ≡ located (kidsBy x (partIn m c k t))

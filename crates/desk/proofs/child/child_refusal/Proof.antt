@@ -6,8 +6,8 @@ use Rattle.desk.proofs.child.child_refusal.Statement.{statement}
 use Rattle.desk.proofs.child.child_refusal.Tie as tie
 use Rattle.desk.proofs.child.child_refusal.Reads as reads
 use Rattle.desk.proofs.child.child_refusal.Lts as lts
-use Rattle.desk.proofs.answer.cue_number.Reads as cue-number-reads
-use Rattle.desk.proofs.answer.model_number.Reads as model-number-reads
+use Rattle.fields.proofs.fault.cue_number.Reads as cue-number-reads
+use Rattle.model.proofs.fault.model_number.Reads as model-number-reads
 use Rattle.desk.proofs.child.locate.Reads as locate-reads
 
 locate-requires : tie.Need-locate-requires
