@@ -249,12 +249,12 @@ module _ (m : Text) (ns : Names) (c : Text) (k : ℕ) where
   unfolding locatedRead
   read-missing f e = rw e
 
-  pub read-there : (n number at len : ℕ) (name : Text) → askedOf c k ≡ Count n → number ≡ numberIn (partsOf m ns) name → name ≡ getD (split tab c) (k - 1) []
-      → at ≡ startIn (split tab c) (k - 1) → len ≡ length (getD (split tab c) (k - 1) []) → locatedIn ns number at len ≡ locatedRead m ns c k
+  pub read-there : (x : Located) (n number at len : ℕ) (name : Text) → x ≡ locatedIn ns number at len → askedOf c k ≡ Count n → number ≡ numberIn (partsOf m ns) name
+      → name ≡ getD (split tab c) (k - 1) [] → at ≡ startIn (split tab c) (k - 1) → len ≡ length (getD (split tab c) (k - 1) []) → x ≡ locatedRead m ns c k
   unfolding locatedRead
-  read-there n number at len name e p d q l =
+  read-there x n number at len name i e p d q l =
       let s = children-some c (asked-within c k n e .3) in
-      rw (e, s, p, q, l, d)
+      i ∙ rw (e, s, p, q, l, d)
 
 -- no number is above the names
 pub read-below : (k : ℕ) (ns : List Text) (x : Text) → numberFrom (suc k) ns x ≤ k + length ns
@@ -280,12 +280,12 @@ module _ (m c : Text) (k : ℕ) where
       go (Refused f) = refl
 
   module _ (x : Reading) (e : x ≡ reading m) where
-    pub located-read : x .outcome ≡ Read → locatedRead m (x .names) c k ≡ located (found m c k)
-    located-read = rw e (go (answer m) refl)
+    pub located-read : (y : Located) → y ≡ locatedRead m (x .names) c k → x .outcome ≡ Read → y ≡ located (found m c k)
+    located-read y = rw e (go (answer m) refl)
       where
-        go : (a : Answer) → answer m ≡ a → readingBy m a .outcome ≡ Read → locatedRead m (readingBy m a .names) c k ≡ located (found m c k)
-        go (refused f p) d o = let z : _≡_ {A = ℕ} 0 1 = cc in absurd (omega arith)
-        go (accepted t) d o = located-is t (rw d at (answered m)) d
+        go : (a : Answer) → answer m ≡ a → y ≡ locatedRead m (readingBy m a .names) c k → readingBy m a .outcome ≡ Read → y ≡ located (found m c k)
+        go (refused f p) d i o = let z : _≡_ {A = ℕ} 0 1 = cc in absurd (omega arith)
+        go (accepted t) d i o = i ∙ located-is t (rw d at (answered m)) d
 
     pub located-unread : (f : ModelFault) (p : ℕ) → x .outcome ≡ Unread f p → NoModel f ≡ located (found m c k)
     unfolding found
