@@ -1,11 +1,13 @@
 -- What a model text reads into: the answer, the rule, and the names beside it as places in the text. Below it, from bytes up to the whole text:
 --   Lexeme, Count          numbers and counts at a place
 --   Packed, Filled, Buffer what the arrays of the reader hold
+--   Table                  the names read so far, by a hash of their bytes
 --   Search                 names that were written before, and the look-up of a name
 --   At, Walk, Atom, Group  the automaton's state where the reader stands, and what each byte does to it
 --   Whole, Laws            the whole text; what is known of a reading
 pub mod Lexeme
 pub mod Packed
+pub mod Table
 pub mod Search
 pub mod Filled
 pub mod Buffer

@@ -3,5 +3,6 @@
 pub mod fault;
 pub mod named;
 pub mod row;
+mod table;
 pub mod text;
 pub mod verdict;

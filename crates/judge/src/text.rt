@@ -1,4 +1,4 @@
-// Reads a model text: the group reader and the member reader call each other, and what they read goes into two lent arrays of numbers.
+// Reads a model text: the group reader and the member reader call each other, and what they read goes into lent arrays of numbers.
 
 ghost use mathlib.Core.Path.{_≡_};
 ghost use mathlib.Core.Bool.{true};
@@ -8,17 +8,20 @@ ghost use lib.Dec.{T};
 ghost use lib.ListN.{length, take, getD};
 ghost use Rattle.fields.specs.Bytes.{isLetter};
 ghost use Rattle.model.specs.Fault.{is, nameFrom};
-ghost use Rattle.model.specs.Fault.Ties.{capped, places};
+ghost use Rattle.model.specs.Fault.Ties.{capped};
 ghost use Rattle.model.specs.declared.rule.Kind.the-variants.{Atom, Group};
 ghost use Rattle.judge.specs.Reading.{ruleWith, namesWith, refusal, reading, partsOf};
 ghost use Rattle.judge.specs.Reading.Packed.{word, nodeOf, plain, optional, isSign, signBy, kindBy, markBy, placeOf};
-ghost use Rattle.judge.specs.Reading.Search.{among, Comparable};
 ghost use Rattle.model.specs.Rule.{unused};
 ghost use Rattle.model.specs.Syntax.{numberIn};
 ghost use Rattle.model.specs.Syntax.Machine.{opened, here};
 ghost use Rattle.judge.specs.Reading.Walk.{Marking, joins, stackOf, Expecting, Ready, Inside, Member, GroupRead};
 ghost use Rattle.judge.specs.Reading.Atom.{NameRead, AtomRead};
 ghost use Rattle.judge.specs.Reading.Lexeme.{numeralAt, countAt, onwardAt, betweenAt};
+use crate::table::SLOTS;
+use crate::table::enter;
+use crate::table::find;
+use crate::table::hash;
 use fields::bytes::is_digit;
 use fields::bytes::is_inner;
 use fields::bytes::is_letter;
@@ -307,25 +310,6 @@ fn unpacked(word: u64) -> Node
     }
 }
 
-// Is the name from start to end among the first n names?
-fn repeated(text: &[u8], names: &[u32; MAX_ATOMS], n: usize, start: usize, end: usize) -> bool
-    requires { ⌜ Comparable (now text) (now names) n start end ⌝ }
-    ensures { λ r. ⌜ r ≡ among (now (text .entry)) (places (now (text .entry)) start) start ⌝ }
-{
-    let name = &text[start..end];
-    let mut i: usize = 0;
-    while i < n {
-        let word = names[i];
-        let from = (word / 256 % 65536) as usize;
-        let len = (word % 256) as usize;
-        if same_bytes(&text[from..from + len], name) {
-            return true;
-        }
-        i += 1;
-    }
-    false
-}
-
 // ---- the readers
 
 // The mark behind node i at c.at, if there is one.
@@ -382,9 +366,15 @@ fn atom_rest(text: &[u8], work: &mut [u64; MAX_NODES], c: Cursor, end: usize) ->
 }
 
 // The atom whose name begins at c.at.
-fn atom(text: &[u8], work: &mut [u64; MAX_NODES], names: &mut [u32; MAX_ATOMS], c: Cursor) -> Got
-    requires { ⌜ Expecting (now text) (now work) (now names) c (stackOf (here (now text) (c .at))) × (isLetter (getD (now text) (c .at) 0) ≡ true) ⌝ }
-    ensures { λ r. ⌜ Member (now (text .entry)) (now (work .exit)) (now (names .exit)) (c .at) (stackOf (here (now (text .entry)) (c .at))) r ⌝ }
+fn atom(
+    text: &[u8],
+    work: &mut [u64; MAX_NODES],
+    names: &mut [u32; MAX_ATOMS],
+    heads: &mut [u8; SLOTS],
+    c: Cursor,
+) -> Got
+    requires { ⌜ Expecting (now text) (now work) (now names, now heads) c (stackOf (here (now text) (c .at))) × (isLetter (getD (now text) (c .at) 0) ≡ true) ⌝ }
+    ensures { λ r. ⌜ Member (now (text .entry)) (now (work .exit)) (now (names .exit), now (heads .exit)) (c .at) (stackOf (here (now (text .entry)) (c .at))) r ⌝ }
 {
     let at = c.at;
     let end = name_end(text, at + 1);
@@ -398,10 +388,12 @@ fn atom(text: &[u8], work: &mut [u64; MAX_NODES], names: &mut [u32; MAX_ATOMS], 
     if c.nodes == MAX_NODES {
         return Got::Fault(ModelFault::ManyNodes, at);
     }
-    if repeated(text, names, n, at, end) {
+    let name = &text[at..end];
+    let slot = hash(name);
+    if find(text, names, n, heads, name, slot) != 0 {
         return Got::Fault(ModelFault::Repeated, at);
     }
-    names[n] = (at as u32) * 256 + ((end - at) as u32);
+    enter(names, heads, n, at, end - at, slot);
     atom_rest(text, work, c, end)
 }
 
@@ -410,11 +402,12 @@ fn member(
     text: &[u8],
     work: &mut [u64; MAX_NODES],
     names: &mut [u32; MAX_ATOMS],
+    heads: &mut [u8; SLOTS],
     c: Cursor,
     left: usize,
 ) -> Got
-    requires { ⌜ Ready (now text) (now work) (now names) c left (stackOf (here (now text) (c .at))) ⌝ }
-    ensures { λ r. ⌜ Member (now (text .entry)) (now (work .exit)) (now (names .exit)) (c .at) (stackOf (here (now (text .entry)) (c .at))) r ⌝ }
+    requires { ⌜ Ready (now text) (now work) (now names, now heads) c left (stackOf (here (now text) (c .at))) ⌝ }
+    ensures { λ r. ⌜ Member (now (text .entry)) (now (work .exit)) (now (names .exit), now (heads .exit)) (c .at) (stackOf (here (now (text .entry)) (c .at))) r ⌝ }
 {
     let at = c.at;
     if at == text.len() {
@@ -422,7 +415,7 @@ fn member(
     }
     let b = text[at];
     if is_letter(b) {
-        return atom(text, work, names, c);
+        return atom(text, work, names, heads, c);
     }
     if b != b'(' {
         return Got::Fault(ModelFault::Spelling, at);
@@ -440,7 +433,7 @@ fn member(
         nodes: node + 1,
         names: c.names,
     };
-    match group(text, work, names, inside, left - 1, node) {
+    match group(text, work, names, heads, inside, left - 1, node) {
         Got::Past(past) => Got::Past(mark(text, work, past, node)),
         Got::Fault(f, p) => Got::Fault(f, p),
     }
@@ -462,12 +455,13 @@ fn group(
     text: &[u8],
     work: &mut [u64; MAX_NODES],
     names: &mut [u32; MAX_ATOMS],
+    heads: &mut [u8; SLOTS],
     c: Cursor,
     left: usize,
     node: usize,
 ) -> Got
-    requires { ⌜ Inside (now text) (now work) (now names) c left node opened (tail (stackOf (here (now text) (c .at)))) ⌝ }
-    ensures { λ r. ⌜ GroupRead (now (text .entry)) (now (work .exit)) (now (names .exit)) (c .at) (tail (stackOf (here (now (text .entry)) (c .at)))) r ⌝ }
+    requires { ⌜ Inside (now text) (now work) (now names, now heads) c left node opened (tail (stackOf (here (now text) (c .at)))) ⌝ }
+    ensures { λ r. ⌜ GroupRead (now (text .entry)) (now (work .exit)) (now (names .exit), now (heads .exit)) (c .at) (tail (stackOf (here (now (text .entry)) (c .at)))) r ⌝ }
 {
     let mut next = c;
     let at = c.at;
@@ -478,7 +472,7 @@ fn group(
     let mut sign: u8 = 0;
     let mut members: u16 = 0;
     loop {
-        match member(text, work, names, next, left) {
+        match member(text, work, names, heads, next, left) {
             Got::Past(past) => {
                 let p = past.at;
                 if p == text.len() {
@@ -565,8 +559,8 @@ fn names_of(words: &[u32; MAX_ATOMS], len: usize) -> Names
     let mut i: usize = 0;
     while i < len {
         names.places[i] = NamePlace {
-            start: (words[i] / 256 % 65536) as u16,
-            len: (words[i] % 256) as u16,
+            start: (words[i] / 65536 % 65536) as u16,
+            len: (words[i] / 256 % 256) as u16,
         };
         i += 1;
     }
@@ -582,12 +576,13 @@ pub fn read_model(text: &[u8]) -> Reading
     }
     let mut work = [0u64; MAX_NODES];
     let mut names = [0u32; MAX_ATOMS];
+    let mut heads = [0u8; SLOTS];
     let start = Cursor {
         at: 0,
         nodes: 0,
         names: 0,
     };
-    match member(text, &mut work, &mut names, start, MAX_DEPTH) {
+    match member(text, &mut work, &mut names, &mut heads, start, MAX_DEPTH) {
         Got::Past(past) => {
             let end = past.at;
             if end < text.len() {

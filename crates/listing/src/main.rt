@@ -1,9 +1,9 @@
 // Prints the listing of cues.txt by sheet.txt, both in the folder that it is run in, or the one line of a refusal.
 
+use fields::fault::cue_number;
 use libc::STDOUT_FILENO;
 use sheet::listing::Listed;
 use sheet::listing::list;
-use sheet::number::cue_number;
 use sheet::number::sheet_number;
 use sheet::sheet::SheetOutcome;
 use sheet::sheet::read_sheet;
@@ -24,7 +24,7 @@ fn without_cues(sheet: &[u8]) {
     let outcome = read.outcome;
     match outcome {
         SheetOutcome::Read => refuse(b"cues", 60, 0),
-        SheetOutcome::Refused(f, line) => refuse(b"sheet", sheet_number(f), line as u64),
+        SheetOutcome::Refused(f, line) => refuse(b"sheet", sheet_number(f) as u64, line as u64),
     }
 }
 
@@ -34,8 +34,8 @@ fn with_both(sheet: &[u8], cues: &[u8]) {
         Listed::Written(n) => {
             io::write_all(STDOUT_FILENO, &buffer[0..n]);
         }
-        Listed::SheetRefused(f, line) => refuse(b"sheet", sheet_number(f), line as u64),
-        Listed::CueRefused(f, line) => refuse(b"cues", cue_number(f), line as u64),
+        Listed::SheetRefused(f, line) => refuse(b"sheet", sheet_number(f) as u64, line as u64),
+        Listed::CueRefused(f, line) => refuse(b"cues", cue_number(f) as u64, line as u64),
         Listed::TooLong => refuse(b"listing", 50, 0),
     }
 }

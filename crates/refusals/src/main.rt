@@ -1,8 +1,8 @@
 // Runs the library on texts that are refused, each refusal once, and on empty ones: a line for each, with what is tried and the answer.
 
+use fields::fault::cue_number;
 use sheet::listing::Listed;
 use sheet::listing::list;
-use sheet::number::cue_number;
 use sheet::number::sheet_number;
 
 const ROOM: usize = 64;
@@ -31,8 +31,8 @@ fn answer(what: &[u8], sheet: &[u8], cues: &[u8], buffer: &mut [u8]) {
             io::print_decimal(1, n as u64);
             write(b"\n");
         }
-        Listed::SheetRefused(f, line) => write_refusal(b"sheet", sheet_number(f), line),
-        Listed::CueRefused(f, line) => write_refusal(b"cues", cue_number(f), line),
+        Listed::SheetRefused(f, line) => write_refusal(b"sheet", sheet_number(f) as u64, line),
+        Listed::CueRefused(f, line) => write_refusal(b"cues", cue_number(f) as u64, line),
         Listed::TooLong => write_refusal(b"listing", 50, 0),
     }
 }

@@ -6,7 +6,7 @@ use judge::text::Outcome;
 use judge::text::number_of;
 use judge::text::read_model;
 use judge::verdict::Judged;
-use model::fault::ModelFault;
+use model::fault::model_number;
 use model::verdict::Verdict;
 
 // No row here is longer.
@@ -66,24 +66,11 @@ fn run_longest(model: &[u8]) {
     write_row(model, b"4096 of a", judge_row(rule, &row));
 }
 
-fn number(fault: ModelFault) -> u64 {
-    match fault {
-        ModelFault::Size => 10,
-        ModelFault::Spelling => 11,
-        ModelFault::LongName => 12,
-        ModelFault::WrongCount => 13,
-        ModelFault::TooDeep => 14,
-        ModelFault::ManyAtoms => 15,
-        ModelFault::ManyNodes => 16,
-        ModelFault::Repeated => 17,
-    }
-}
-
 fn write_outcome(outcome: Outcome) {
     match outcome {
         Outcome::Read => write(b"read\n"),
         Outcome::Refused(fault, place) => {
-            io::print_decimal(1, number(fault));
+            io::print_decimal(1, model_number(fault) as u64);
             write(b"\t");
             io::print_decimal(1, place as u64);
             write(b"\n");

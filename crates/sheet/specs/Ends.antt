@@ -25,7 +25,8 @@ use Rattle.judge.specs.Judge.{Upto}
 use Rattle.model.specs.Verdict.{Says}
 use Rattle.fields.specs.Limits.{maxRow}
 use Rattle.judge.specs.Reading.Laws.{accepted-reading, names-are}
-use Rattle.model.specs.Ends.{some-verdict, type-conflict-free, verdict-exactly}
+use Rattle.model.specs.Ends.{some-verdict, type-conflict-free}
+use Rattle.judge.specs.Ends.{verdict-exactly}
 use Rattle.fields.specs.Split.{lines, field}
 use Rattle.judge.specs.Named.{rowOf}
 use Rattle.sheet.specs.declared.line.Said.{Said}

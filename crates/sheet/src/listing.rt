@@ -13,7 +13,6 @@ ghost use Rattle.sheet.specs.Coded.{codeOf, decoded, Ready, GoodCues, Co
 ghost use Rattle.sheet.specs.Sheet.Walk.{Loaded};
 ghost use Rattle.sheet.specs.Put.{Put};
 use crate::cues::CuesRead;
-use crate::cues::MAX_FILE;
 use crate::cues::read_cues;
 use crate::line::Said;
 use crate::line::line_length;
@@ -24,8 +23,9 @@ use crate::sheet::SheetFault;
 use crate::sheet::SheetOutcome;
 use crate::sheet::load;
 use fields::children::Children;
-use fields::children::MAX_ROW;
 use fields::fault::CueFault;
+use fields::limits::MAX_FILE;
+use fields::limits::MAX_ROW;
 use fields::split::LINE_FEED;
 use fields::split::first_fields;
 use fields::split::part_end;

@@ -43,8 +43,9 @@ optional n = record { kind = n .kind; mark = Optional }
 abbrev pub isSign : ℕ → Bool
 isSign b = eqb b 0 || eqb b (code ",") || eqb b (code "|") || eqb b (code "&")
 
+-- the rest of a name's number is `Reading.Table`'s
 unfoldable pub placeOf : ℕ → NamePlace
-placeOf w = record { start = w / 256 % 65536; len = w % 256 }
+placeOf w = record { start = w / 65536 % 65536; len = w / 256 % 256 }
 
 module _ (shape low high : ℕ) (s : shape < 128) (l : low < 65536) (h : high < 65536) where
   shape-is : word shape low high % 128 ≡ shape

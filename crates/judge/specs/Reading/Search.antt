@@ -1,59 +1,37 @@
--- Which names were written before: a search among the places where names begin.
-use mathlib.Core.Path.{_≡_, refl, sym, ap, subst, _∙_}
-use mathlib.Core.Logic.{⊎-elim}
-use mathlib.Core.Bool.{Bool, true, false, cond, _||_, and-false, or-true}
-use mathlib.Core.List.{List, [], _∷_, map, cons≢nil, head-eq-of-cons-eq, tail-eq-of-cons-eq, List·Memᴰ, List·Memᴰ·head, List·Memᴰ·tail, List·Memᴰ·not-nil, List·Memᴰ·cases-cons}
-use Prim.Native.Nat.{ℕ, zero, suc, _+_, _-_, _/_, _%_, _≤_, _<_, min}
+-- Which names were written before, and the look-up of a name.
+use mathlib.Core.Path.{_≡_, refl, sym, ap, _∙_}
+use mathlib.Core.Bool.{true, false, cond, and-false, true≢false}
+use mathlib.Core.List.{List, [], _∷_, map, List·Memᴰ}
+use Prim.Native.Nat.{ℕ, zero, suc, _+_, _-_, _≤_, _<_, min}
 use native.Mathlib.Numerals.{add-one}
 use native.Mathlib.Omega.{arith}
 use native.Mathlib.Decide.{decLe}
 use lib.Dec.{T, eqb}
 use lib.ListN.{length, take, drop, getD, drop-of-length-le, length-take, length-drop, length-map, List·getD-map}
 use lib.Seq.{drop-cons, getD-take, take-all, take-nil}
-use mir.Facts.{or-yes}
 use borrow.Author.Tests.{eq-eqb, ne-eqb}
 use Rattle.judge.specs.declared.text.NamePlace.{NamePlace}
 use Rattle.fields.specs.Bytes.{Text, isInner, sameText}
-use Rattle.fields.specs.Bytes.Laws.{T-true, front-take, same-text}
+use Rattle.fields.specs.Bytes.Laws.{front-take, same-text}
 use Rattle.model.specs.Fault.{nameAt, nameFrom, Twice}
-use Rattle.model.specs.Fault.Ties.{places, in-places, twice-there, twice-only}
+use Rattle.model.specs.Fault.Ties.{places, twice-there, twice-only}
+use Rattle.model.specs.Accept.Laws.{member-at, member-place}
 use Rattle.fields.specs.Limits.{maxAtoms}
 use Rattle.judge.specs.declared.text.Names.{Names}
 use Rattle.model.specs.Syntax.{numberFrom}
 use Rattle.judge.specs.Reading.{namePlace, noPlace, partAt, partsOf}
-use Rattle.judge.specs.Reading.Packed.{placeOf}
+use Rattle.judge.specs.Reading.Table.{lastIn}
+use Rattle.judge.specs.Reading.Table.Laws.{last-under, last-passes, last-missed}
 use Rattle.judge.specs.Reading.Lexeme.Laws.{front-short}
 
--- the name at p begins at one of these places too
-abbrev pub among : Text → List ℕ → ℕ → Bool
-among x [] p = false
-among x (q ∷ l) p = sameText (nameFrom x q) (nameFrom x p) || among x l p
-
--- the first n numbers are the places of the names that begin before `start`, where a name begins that ends at `end`
-pub record Comparable (x : Text) (names : List ℕ) (n start end : ℕ) : Type 0 where
-  pub whole : length names ≡ maxAtoms
-  pub few : n ≤ maxAtoms
-  pub held : map placeOf (take n names) ≡ map (namePlace x) (places x start)
-  pub begins : start < length x
-  pub ends : end ≡ start + length (nameFrom x start)
-
--- equal images: element by element
-pub images : {A B C : Type 0} (f : A → C) (g : B → C) (l : List A) (m : List B) → map f l ≡ map g m → (i : ℕ) (d : A) (e : B) → i < length l → f (getD l i d) ≡ g (getD m i e)
-images f g [] m q i d e h = absurd (omega arith)
-images f g (a ∷ l) [] q i d e h = absurd (cons≢nil q)
-images f g (a ∷ l) (b ∷ m) q zero d e h = head-eq-of-cons-eq q
-images f g (a ∷ l) (b ∷ m) q (suc i) d e h = images f g l m (tail-eq-of-cons-eq q) i d e (omega arith)
-
-pub images-long : {A B C : Type 0} (f : A → C) (g : B → C) (l : List A) (m : List B) → map f l ≡ map g m → length l ≡ length m
-images-long f g [] [] q = refl
-images-long f g [] (b ∷ m) q = absurd (cons≢nil (sym q))
-images-long f g (a ∷ l) [] q = absurd (cons≢nil q)
-images-long f g (a ∷ l) (b ∷ m) q = ap suc (images-long f g l m (tail-eq-of-cons-eq q))
+-- elements of lists
+pub mapped-at : {A B : Type 0} (f : A → B) (l : List A) (i : ℕ) (d : A) (e : B) → i < length l → getD (map f l) i e ≡ f (getD l i d)
+mapped-at f [] i d e h = absurd (omega arith)
+mapped-at f (a ∷ l) zero d e h = refl
+mapped-at f (a ∷ l) (suc i) d e h = mapped-at f l i d e (omega arith)
 
 pub in-list : (l : List ℕ) (i d : ℕ) → i < length l → List·Memᴰ (getD l i d) l
-in-list [] i d h = absurd (omega arith)
-in-list (a ∷ l) zero d h = List·Memᴰ·head refl
-in-list (a ∷ l) (suc i) d h = List·Memᴰ·tail (in-list l i d (omega arith))
+in-list l i d h = member-at d l i h
 
 -- a name lies inside its text
 pub name-fits : (x : Text) (p : ℕ) → p ≤ length x → p + length (nameFrom x p) ≤ length x
@@ -62,77 +40,39 @@ name-fits x p h = let k : length (nameFrom x p) ≤ length (drop p x) = front-sh
 pub name-part : (x : Text) (p n : ℕ) → n ≡ length (nameFrom x p) → take n (drop p x) ≡ nameFrom x p
 name-part x p n e = rw e (front-take isInner (drop p x))
 
--- a turn of the search
-module _ {x : Text} {names : List ℕ} {n start end : ℕ} (c : Comparable x names n start end) where
-  pub many : length (places x start) ≡ n
-  many = sym (images-long placeOf (namePlace x) (take n names) (places x start) (c .held)) ∙ length-take n names ∙ omega (arith, c .few, c .whole)
+-- the parts of a text where names begin
+pub parts-named : (x : Text) (l : List ℕ) → map (partAt x) (map (namePlace x) l) ≡ map (nameFrom x) l
+parts-named x [] = refl
+parts-named x (p ∷ l) = rw (front-take isInner (drop p x), parts-named x l)
 
-  module _ (i : ℕ) (h : i < n) where
-    pub earlier : ℕ
-    earlier = getD (places x start) i 0
+-- 17: the name at p was written before just if it has a number among the names before
+module _ (x : Text) (p : ℕ) where
+  abbrev earlier : List Text
+  earlier = map (nameFrom x) (places x p)
 
-    place-is : placeOf (getD names i 0) ≡ namePlace x earlier
-    unfolding earlier
-    place-is =
-        subst (λ (w : ℕ). placeOf w ≡ namePlace x (getD (places x start) i 0)) (getD-take n names i 0 h)
-        (images placeOf (namePlace x) (take n names) (places x start) (c .held) i 0 0 (rw length-take (omega (arith, c .few, c .whole))))
+  earlier-at : (i : ℕ) → i < length (places x p) → getD earlier i [] ≡ nameFrom x (getD (places x p) i 0)
+  earlier-at i h = mapped-at (nameFrom x) (places x p) i 0 [] h
 
-    pub from-is : getD names i 0 / 256 % 65536 ≡ earlier
-    unfolding placeOf place-is
-    from-is = ap (λ (p : NamePlace). p .start) place-is
+  pub twice-found : T (nameAt x p) → (lastIn (map (nameFrom x) (places x p)) (nameFrom x p) ≡ 0 → ⊥) → Twice x p
+  unfolding earlier-at
+  twice-found t n =
+      let k : ℕ = lastIn earlier (nameFrom x p) in
+      let u : k ≤ length earlier = last-under (λ m. sameText m (nameFrom x p)) earlier (length earlier) in
+      let h : k - 1 < length (places x p) = omega (arith, n, length-map (places x p) (nameFrom x)) in
+      let s : sameText (getD earlier (k - 1) []) (nameFrom x p) ≡ true = last-passes (λ m. sameText m (nameFrom x p)) earlier (length earlier) n in
+      twice-there x p (getD (places x p) (k - 1) 0) t (in-list (places x p) (k - 1) 0 h)
+      (sym (earlier-at (k - 1) h) ∙ same-text (getD earlier (k - 1) []) (nameFrom x p) .0 s)
 
-    pub len-is : getD names i 0 % 256 ≡ length (nameFrom x earlier)
-    unfolding placeOf place-is
-    len-is = ap (λ (p : NamePlace). p .len) place-is
-
-    pub earlier-fits : getD names i 0 / 256 % 65536 + getD names i 0 % 256 ≤ length x
-    unfolding earlier from-is len-is
-    earlier-fits =
-        let b : earlier < start = in-places x start earlier (in-list (places x start) i 0 (omega (arith, many))) .0 in
-        let f : earlier + length (nameFrom x earlier) ≤ length x = name-fits x earlier (omega (arith, c .begins)) in
-        omega (arith, from-is, len-is)
-
-    -- the part of the text that the code takes
-    abbrev pub part : Text
-    part = take (getD names i 0 / 256 % 65536 + getD names i 0 % 256 - getD names i 0 / 256 % 65536) (drop (getD names i 0 / 256 % 65536) x)
-
-    among-here : among x (drop i (places x start)) start ≡ (sameText part (nameFrom x start) || among x (drop (i + 1) (places x start)) start)
-    unfolding earlier from-is len-is
-    among-here =
-        let e : getD names i 0 / 256 % 65536 + getD names i 0 % 256 - getD names i 0 / 256 % 65536 ≡ length (nameFrom x earlier) = omega (arith, len-is) in
-        rw (drop-cons (places x start) i 0 (omega (arith, many)), e, from-is, name-part x earlier (length (nameFrom x earlier)) refl, add-one)
-
-    pub search-found : sameText part (nameFrom x start) ≡ true → true ≡ among x (drop i (places x start)) start
-    unfolding among-here
-    search-found s = rw (among-here, s)
-
-    pub search-next : sameText part (nameFrom x start) ≡ false → among x (drop (i + 1) (places x start)) start ≡ among x (drop i (places x start)) start
-    unfolding among-here
-    search-next s = rw (among-here, s)
-
-  pub search-end : (i : ℕ) → n ≤ i → false ≡ among x (drop i (places x start)) start
-  search-end i h = rw (drop-of-length-le (places x start) {i = i} (omega (arith, many)))
-
--- the search finds just what 17 says
-pub among-is : (x : Text) (l : List ℕ) (p : ℕ) → T (among x l p) → (q : ℕ) × (List·Memᴰ q l × (nameFrom x q ≡ nameFrom x p))
-among-is x [] p h = absurd h
-among-is x (q ∷ l) p h =
-    ⊎-elim (λ s. (q, (List·Memᴰ·head refl, same-text (nameFrom x q) (nameFrom x p) .0 (T-true (sameText (nameFrom x q) (nameFrom x p)) s))))
-    (λ s. let r = among-is x l p s in (r .0, (List·Memᴰ·tail (r .1 .0), r .1 .1)))
-    (or-yes (sameText (nameFrom x q) (nameFrom x p)) (among x l p) h)
-
-pub is-among : (x : Text) (l : List ℕ) (p q : ℕ) → List·Memᴰ q l → nameFrom x q ≡ nameFrom x p → T (among x l p)
-is-among x [] p q m e = absurd (List·Memᴰ·not-nil m)
-is-among x (r ∷ l) p q m e = ⊎-elim (λ i. here r i) (λ k. rw (T-true (among x l p) (is-among x l p q k e), or-true) tt) (List·Memᴰ·cases-cons m)
-  where
-    here : (r : ℕ) → q ≡ r → T (sameText (nameFrom x r) (nameFrom x p) || among x l p)
-    here r i = rw (same-text (nameFrom x r) (nameFrom x p) .1 (ap (nameFrom x) (sym i) ∙ e)) tt
-
-pub twice-found : (x : Text) (p : ℕ) → T (nameAt x p) → among x (places x p) p ≡ true → Twice x p
-twice-found x p h e = let r = among-is x (places x p) p (rw e tt) in twice-there x p (r .0) h (r .1 .0) (r .1 .1)
-
-pub twice-missed : (x : Text) (p : ℕ) → among x (places x p) p ≡ false → Twice x p → ⊥
-twice-missed x p e t = twice-only x p (λ q m s. subst T e (is-among x (places x p) p q m s)) t
+  pub twice-missed : lastIn (map (nameFrom x) (places x p)) (nameFrom x p) ≡ 0 → Twice x p → ⊥
+  unfolding earlier-at
+  twice-missed e t = twice-only x p missed t
+    where
+      missed : (q : ℕ) → List·Memᴰ q (places x p) → nameFrom x q ≡ nameFrom x p → ⊥
+      missed q m s =
+          let i = member-place 0 m in
+          let n : getD earlier (i .0) [] ≡ nameFrom x p = earlier-at (i .0) (i .1) ∙ ap (nameFrom x) (i .2) ∙ s in
+          let f : sameText (getD earlier (i .0) []) (nameFrom x p) ≡ false = last-missed earlier (nameFrom x p) .0 e (i .0) (omega (arith, i .1, length-map (places x p) (nameFrom x))) in
+          true≢false (sym (same-text (getD earlier (i .0) []) (nameFrom x p) .1 n) ∙ f)
 
 -- a turn of the look-up among any places
 clipped : (x : Text) (s l : ℕ) → take (min (s + l) (length x) - min s (length x)) (drop (min s (length x)) x) ≡ take l (drop s x)

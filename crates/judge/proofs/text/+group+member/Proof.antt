@@ -26,23 +26,23 @@ use Rattle.judge.proofs.text.stands.Reads as stands-reads
 use Rattle.judge.proofs.text.+group+member.{statement}
 use Rattle.judge.proofs.text.+group+member.Tie.{close}
 
-abbrev μ-group : Measures 3 group-kinds.ps ℕ
-μ-group κs a = (length (a .0 .now) - a .1 .1 .1 .0 .at) * 2 + 1
+abbrev μ-group : Measures 4 group-kinds.ps ℕ
+μ-group κs a = (length (a .0 .now) - a .1 .1 .1 .1 .0 .at) * 2 + 1
 
-abbrev μ-member : Measures 3 member-kinds.ps ℕ
-μ-member κs a = (length (a .0 .now) - a .1 .1 .1 .0 .at) * 2
+abbrev μ-member : Measures 4 member-kinds.ps ℕ
+μ-member κs a = (length (a .0 .now) - a .1 .1 .1 .1 .0 .at) * 2
 
-abbrev group-at : ℕ → In 3 group-kinds.ps
-group-at t = and 3 group-kinds.ps (is 3 group-kinds.ps μ-group t) group.Pre
+abbrev group-at : ℕ → In 4 group-kinds.ps
+group-at t = and 4 group-kinds.ps (is 4 group-kinds.ps μ-group t) group.Pre
 
-abbrev group-below : ℕ → In 3 group-kinds.ps
-group-below t = and 3 group-kinds.ps (falls 3 group-kinds.ps _<_ μ-group t) group.Pre
+abbrev group-below : ℕ → In 4 group-kinds.ps
+group-below t = and 4 group-kinds.ps (falls 4 group-kinds.ps _<_ μ-group t) group.Pre
 
-abbrev member-at : ℕ → In 3 member-kinds.ps
-member-at t = and 3 member-kinds.ps (is 3 member-kinds.ps μ-member t) member.Pre
+abbrev member-at : ℕ → In 4 member-kinds.ps
+member-at t = and 4 member-kinds.ps (is 4 member-kinds.ps μ-member t) member.Pre
 
-abbrev member-below : ℕ → In 3 member-kinds.ps
-member-below t = and 3 member-kinds.ps (falls 3 member-kinds.ps _<_ μ-member t) member.Pre
+abbrev member-below : ℕ → In 4 member-kinds.ps
+member-below t = and 4 member-kinds.ps (falls 4 member-kinds.ps _<_ μ-member t) member.Pre
 
 abbrev group-claims : ℕ → group-lts.Claims
 group-claims t = (
@@ -57,11 +57,11 @@ group-claims t = (
 )
 
 abbrev group-Inv-loop : group-lts.InvT-loop
-group-Inv-loop text work₀ names₀ left node next₀ at sign₀ members₀ work names next sign members =
-    AtMember text work names at next left node sign members (tail (stackOf (here text at)))
+group-Inv-loop text work₀ names₀ heads₀ left node next₀ at sign₀ members₀ work names heads next sign members =
+    AtMember text work (names, heads) at next left node sign members (tail (stackOf (here text at)))
 
 abbrev group-μ-loop : group-lts.MeasureT-loop
-group-μ-loop text work₀ names₀ left node next₀ at sign₀ members₀ work names next sign members = length text - next .at
+group-μ-loop text work₀ names₀ heads₀ left node next₀ at sign₀ members₀ work names heads next sign members = length text - next .at
 
 abbrev member-claims : ℕ → member-lts.Claims
 member-claims t = (is-letter-reads.Asked, is-letter-reads.Learnt, atom-reads.Asked, atom-reads.Learnt, group-below t, group.Post, mark-reads.Asked, mark-reads.Learnt)
@@ -83,89 +83,89 @@ group-loop-holds t c =
 
 group-member-requires : (t : ℕ) → group-lts.Need-member-requires (group-claims t) (group-at t) group.Post group-Inv-loop group-μ-loop
 group-member-requires t c κs =
-    let i = c .before .before .loop .inv in (omega (arith, c .before .before .before .before .before .before .pre .0, i .inside .expecting .at-is .within, i .from), group-ready i)
+    let i = c .before .before .before .loop .inv in (omega (arith, c .before .before .before .before .before .before .before .pre .0, i .inside .expecting .at-is .within, i .from), group-ready i)
 
 group-enum-known-past : (t : ℕ) → group-lts.Need-enum-known-past (group-claims t) (group-at t) group.Post group-Inv-loop group-μ-loop
 group-enum-known-past t c = search needs
 
 group-returns-2 : (t : ℕ) → group-lts.Need-returns-2 (group-claims t) (group-at t) group.Post group-Inv-loop group-μ-loop
 group-returns-2 t c =
-    let i = c .before .before .before .before .before .before .before .loop .inv in
+    let i = c .before .before .before .before .before .before .before .before .loop .inv in
     let m = c .before .before .before .before .member in
     let p = c .before .before .past .given in
-    group-stops i (m .last .1 .0) (m .last .1 .1 .0) (m .ensures) (p .1) (c .if2 .taken)
+    group-stops i (m .last .1 .0) (m .last .1 .1 .0, m .last .1 .1 .1 .0) (m .ensures) (p .1) (c .if2 .taken)
 
 group-shared-slice-read-b : (t : ℕ) → group-lts.Need-shared-slice-read-b (group-claims t) (group-at t) group.Post group-Inv-loop group-μ-loop
 group-shared-slice-read-b t c =
-    let i = c .before .before .before .before .before .before .before .before .loop .inv in
+    let i = c .before .before .before .before .before .before .before .before .before .loop .inv in
     let m = c .before .before .before .before .before .member in
     let p = c .before .before .before .past .given in
-    past-inside i (m .last .1 .0) (m .last .1 .1 .0) (m .ensures) (p .1) (c .before .if2 .left)
+    past-inside i (m .last .1 .0) (m .last .1 .1 .0, m .last .1 .1 .1 .0) (m .ensures) (p .1) (c .before .if2 .left)
 
 group-add-members : (t : ℕ) → group-lts.Need-add-members (group-claims t) (group-at t) group.Post group-Inv-loop group-μ-loop
 group-add-members t c =
-    omega (arith, members-fit (c .before .before .before .before .before .before .before .before .loop .inv))
+    omega (arith, members-fit (c .before .before .before .before .before .before .before .before .before .loop .inv))
 
 group-add-next-2 : (t : ℕ) → group-lts.Need-add-next-2 (group-claims t) (group-at t) group.Post group-Inv-loop group-μ-loop
 group-add-next-2 t c =
-    let i = c .before .before .before .before .before .before .before .before .loop .inv in
+    let i = c .before .before .before .before .before .before .before .before .before .loop .inv in
     let m = c .before .before .before .before .before .member in
     let p = c .before .before .before .past .given in
-    omega (arith, past-inside i (m .last .1 .0) (m .last .1 .1 .0) (m .ensures) (p .1) (c .before .if2 .left))
+    omega (arith, past-inside i (m .last .1 .0) (m .last .1 .1 .0, m .last .1 .1 .1 .0) (m .ensures) (p .1) (c .before .if2 .left))
 
 group-packed-group-requires : (t : ℕ) → group-lts.Need-packed-group-requires (group-claims t) (group-at t) group.Post group-Inv-loop group-μ-loop
 group-packed-group-requires t c κs =
-    sign-known (c .before .before .before .before .before .before .before .before .before .loop .inv)
+    sign-known (c .before .before .before .before .before .before .before .before .before .before .loop .inv)
 
 group-mul-work : (t : ℕ) → group-lts.Need-mul-work (group-claims t) (group-at t) group.Post group-Inv-loop group-μ-loop
 group-mul-work t c =
-    omega (arith, node-fits (c .before .before .before .before .before .before .before .before .before .before .loop .inv))
+    omega (arith, node-fits (c .before .before .before .before .before .before .before .before .before .before .before .loop .inv))
 
 group-element-write-work : (t : ℕ) → group-lts.Need-element-write-work (group-claims t) (group-at t) group.Post group-Inv-loop group-μ-loop
 group-element-write-work t c =
-    node-fits (c .before .before .before .before .before .before .before .before .before .before .loop .inv)
+    node-fits (c .before .before .before .before .before .before .before .before .before .before .before .loop .inv)
 
 group-returns-3 : (t : ℕ) → group-lts.Need-returns-3 (group-claims t) (group-at t) group.Post group-Inv-loop group-μ-loop
 group-returns-3 t c =
-    let i = c .before .before .before .before .before .before .before .before .before .before .loop .inv in
+    let i = c .before .before .before .before .before .before .before .before .before .before .before .loop .inv in
     let m = c .before .before .before .before .before .before .before .member in
     let p = c .before .before .before .before .before .past .given in
-    group-ends i (m .last .1 .0) (m .last .1 .1 .0) (m .ensures) (p .1) (c .before .before .before .if2 .left) (c .before .if3 .taken) (c .packed-group .result) (c .packed-group .ensures)
+    group-ends i (m .last .1 .0) (m .last .1 .1 .0, m .last .1 .1 .1 .0) (m .ensures) (p .1) (c .before .before .before .if2 .left) (c .before .if3 .taken) (c .packed-group .result) (c .packed-group .ensures)
 
 group-parts-requires : (t : ℕ) → group-lts.Need-parts-requires (group-claims t) (group-at t) group.Post group-Inv-loop group-μ-loop
 group-parts-requires t c κs = tt
 
 group-loop-less : (t : ℕ) → group-lts.Need-loop-less (group-claims t) (group-at t) group.Post group-Inv-loop group-μ-loop
 group-loop-less t c =
-    let i = c .before .before .before .before .before .before .before .before .before .before .before .loop .inv in
+    let i = c .before .before .before .before .before .before .before .before .before .before .before .before .loop .inv in
     let m = c .before .before .before .before .before .before .before .before .member in
     let p = c .before .before .before .before .before .before .past .given in
-    turn-less i (m .last .1 .0) (m .last .1 .1 .0) (m .ensures) (p .1) (c .before .before .before .before .if2 .left)
+    turn-less i (m .last .1 .0) (m .last .1 .1 .0, m .last .1 .1 .1 .0) (m .ensures) (p .1) (c .before .before .before .before .if2 .left)
 
 group-loop-again : (t : ℕ) → group-lts.Need-loop-again (group-claims t) (group-at t) group.Post group-Inv-loop group-μ-loop
 group-loop-again t c =
-    let i = c .before .before .before .before .before .before .before .before .before .before .before .loop .inv in
+    let i = c .before .before .before .before .before .before .before .before .before .before .before .before .loop .inv in
     let m = c .before .before .before .before .before .before .before .before .member in
     let p = c .before .before .before .before .before .before .past .given in
-    group-joins i (m .last .1 .0) (m .last .1 .1 .0) (m .ensures) (p .1) (c .before .before .before .before .if2 .left) (c .before .before .if3 .left) (sym (c .before .parts .ensures) ∙ c .if4 .taken)
+    group-joins i (m .last .1 .0) (m .last .1 .1 .0, m .last .1 .1 .1 .0) (m .ensures) (p .1) (c .before .before .before .before .if2 .left) (c .before .before .if3 .left) (sym (c .before .parts .ensures) ∙ c .if4 .taken)
 
 group-returns-4 : (t : ℕ) → group-lts.Need-returns-4 (group-claims t) (group-at t) group.Post group-Inv-loop group-μ-loop
 group-returns-4 t c =
-    let i = c .before .before .before .before .before .before .before .before .before .before .before .loop .inv in
+    let i = c .before .before .before .before .before .before .before .before .before .before .before .before .loop .inv in
     let m = c .before .before .before .before .before .before .before .before .member in
     let p = c .before .before .before .before .before .before .past .given in
-    group-bad i (m .last .1 .0) (m .last .1 .1 .0) (m .ensures) (p .1) (c .before .before .before .before .if2 .left) (c .before .before .if3 .left) (sym (c .before .parts .ensures) ∙ c .if4 .left)
+    group-bad i (m .last .1 .0) (m .last .1 .1 .0, m .last .1 .1 .1 .0) (m .ensures) (p .1) (c .before .before .before .before .if2 .left) (c .before .before .if3 .left) (sym (c .before .parts .ensures) ∙ c .if4 .left)
 
 group-enum-known-f : (t : ℕ) → group-lts.Need-enum-known-f (group-claims t) (group-at t) group.Post group-Inv-loop group-μ-loop
 group-enum-known-f t c = search needs
 
 group-returns-5 : (t : ℕ) → group-lts.Need-returns-5 (group-claims t) (group-at t) group.Post group-Inv-loop group-μ-loop
 group-returns-5 t c =
-    let a = c .before .before .before .before .before .before .before .before .before .before .args in
-    let l = c .before .before .before .before .before .before .loop in
+    let a = c .before .before .before .before .before .before .before .before .before .before .before .args in
+    let l = c .before .before .before .before .before .before .before .loop in
     let m = c .before .before .before .member in
     let f = c .before .f .given in
-    member-fault (a .text .now) (m .last .1 .0) (m .last .1 .1 .0) (l .next .at) (stackOf (here (a .text .now) (l .next .at))) (m .ensures) (f .1)
+    member-fault (a .text .now) (m .last .1 .0) (m .last .1 .1 .0, m .last .1 .1 .1 .0) (l .next .at) (stackOf (here (a .text .now) (l .next .at))) (m .ensures) (f .1)
 
 member-returns : (t : ℕ) → member-lts.Need-returns (member-claims t) (member-at t) member.Post
 member-returns t c = member-stops (c .before .before .pre .1) (c .if1 .taken)
@@ -178,8 +178,8 @@ member-is-letter-requires t c κs = tt
 
 member-atom-requires : (t : ℕ) → member-lts.Need-atom-requires (member-claims t) (member-at t) member.Post
 member-atom-requires t c κs = (
-  c .before .before .before .before .before .before .before .pre .1 .expecting,
-  sym (c .before .before .before .is-letter .ensures) ∙ c .before .before .if2 .taken,
+  c .before .before .before .before .before .before .before .before .pre .1 .expecting,
+  sym (c .before .before .before .before .is-letter .ensures) ∙ c .before .before .before .if2 .taken,
 )
 
 member-returns-2 : (t : ℕ) → member-lts.Need-returns-2 (member-claims t) (member-at t) member.Post
@@ -211,19 +211,19 @@ member-add-group t c =
     omega
     (arith, c .before .before .before .before .before .before .before .before .pre .1 .expecting .at-is .within, c .before .before .before .before .before .before .if1 .left)
 
-member-add-t26 : (t : ℕ) → member-lts.Need-add-t26 (member-claims t) (member-at t) member.Post
-member-add-t26 t c = omega (arith, c .before .before .before .before .before .before .before .before .pre .1 .expecting .held .few)
+member-add-t28 : (t : ℕ) → member-lts.Need-add-t28 (member-claims t) (member-at t) member.Post
+member-add-t28 t c = omega (arith, c .before .before .before .before .before .before .before .before .pre .1 .expecting .held .few)
 
 member-sub-group : (t : ℕ) → member-lts.Need-sub-group (member-claims t) (member-at t) member.Post
-member-sub-group t c = omega (arith, c .before .before .before .if4 .left)
+member-sub-group t c = omega (arith, c .before .before .before .before .if4 .left)
 
 member-group-requires : (t : ℕ) → member-lts.Need-group-requires (member-claims t) (member-at t) member.Post
 member-group-requires t c κs =
-    let s = c .before .before .before .before .before .before .before .before .before .before in (
-      omega (arith, s .pre .0, s .pre .1 .expecting .at-is .within, c .before .before .before .before .before .before .before .before .if1 .left),
-      goes-in (s .pre .1) (omega (arith, s .pre .1 .expecting .at-is .within, c .before .before .before .before .before .before .before .before .if1 .left))
-          (c .before .before .before .before .if3 .left) (c .before .before .before .if4 .left)
-          (omega (arith, s .pre .1 .expecting .held .few, c .before .before .if5 .left)),
+    let s = c .before .before .before .before .before .before .before .before .before .before .before in (
+      omega (arith, s .pre .0, s .pre .1 .expecting .at-is .within, c .before .before .before .before .before .before .before .before .before .if1 .left),
+      goes-in (s .pre .1) (omega (arith, s .pre .1 .expecting .at-is .within, c .before .before .before .before .before .before .before .before .before .if1 .left))
+          (c .before .before .before .before .before .if3 .left) (c .before .before .before .before .if4 .left)
+          (omega (arith, s .pre .1 .expecting .held .few, c .before .before .before .if5 .left)),
     )
 
 member-enum-known-past : (t : ℕ) → member-lts.Need-enum-known-past (member-claims t) (member-at t) member.Post
@@ -231,15 +231,15 @@ member-enum-known-past t c = search needs
 
 member-mark-requires : (t : ℕ) → member-lts.Need-mark-requires (member-claims t) (member-at t) member.Post
 member-mark-requires t c κs =
-    let s = c .before .before .before .before .before .before .before .before .before .before .before .before .before .before .before in
+    let s = c .before .before .before .before .before .before .before .before .before .before .before .before .before .before .before .before in
     let g = c .before .before .before .before .group in
     let p = c .before .before .past .given in (
-      (omega (arith, s .pre .1 .expecting .held .few, c .before .before .before .before .before .before .before .if5 .left)),
+      (omega (arith, s .pre .1 .expecting .held .few, c .before .before .before .before .before .before .before .before .if5 .left)),
       closed-fits (s .pre .1)
-          (omega (arith, s .pre .1 .expecting .at-is .within, c .before .before .before .before .before .before .before .before .before .before .before .before .before .if1 .left))
-          (c .before .before .before .before .before .before .before .before .before .if3 .left)
-          (c .before .before .before .before .before .before .before .before .if4 .left)
-          (omega (arith, s .pre .1 .expecting .held .few, c .before .before .before .before .before .before .before .if5 .left)) (g .last .1 .0) (g .last .1 .1 .0)
+          (omega (arith, s .pre .1 .expecting .at-is .within, c .before .before .before .before .before .before .before .before .before .before .before .before .before .before .if1 .left))
+          (c .before .before .before .before .before .before .before .before .before .before .if3 .left)
+          (c .before .before .before .before .before .before .before .before .before .if4 .left)
+          (omega (arith, s .pre .1 .expecting .held .few, c .before .before .before .before .before .before .before .before .if5 .left)) (g .last .1 .0) (g .last .1 .1 .0, g .last .1 .1 .1 .0)
           (g .ensures) (p .1),
     )
 
@@ -248,22 +248,22 @@ member-enum-known-f t c = search needs
 
 member-returns-6 : (t : ℕ) → member-lts.Need-returns-6 (member-claims t) (member-at t) member.Post
 member-returns-6 t c =
-    let s = c .before .before .before .before .before .before .before .before .before .before .before .before .before .before .before .before in
+    let s = c .before .before .before .before .before .before .before .before .before .before .before .before .before .before .before .before .before in
     let g = c .before .before .before .before .before .group in
     let p = c .before .before .before .past .given in
     group-member (s .pre .1)
-    (omega (arith, s .pre .1 .expecting .at-is .within, c .before .before .before .before .before .before .before .before .before .before .before .before .before .before .if1 .left))
-    (c .before .before .before .before .before .before .before .before .before .before .if3 .left)
-    (c .before .before .before .before .before .before .before .before .before .if4 .left)
-    (omega (arith, s .pre .1 .expecting .held .few, c .before .before .before .before .before .before .before .before .if5 .left)) (g .last .1 .0)
-    (g .last .1 .1 .0) (g .ensures) (p .1) (c .mark .ensures)
+    (omega (arith, s .pre .1 .expecting .at-is .within, c .before .before .before .before .before .before .before .before .before .before .before .before .before .before .before .if1 .left))
+    (c .before .before .before .before .before .before .before .before .before .before .before .if3 .left)
+    (c .before .before .before .before .before .before .before .before .before .before .if4 .left)
+    (omega (arith, s .pre .1 .expecting .held .few, c .before .before .before .before .before .before .before .before .before .if5 .left)) (g .last .1 .0)
+    (g .last .1 .1 .0, g .last .1 .1 .1 .0) (g .ensures) (p .1) (c .mark .ensures)
 
 member-returns-7 : (t : ℕ) → member-lts.Need-returns-7 (member-claims t) (member-at t) member.Post
 member-returns-7 t c =
-    let a = c .before .before .before .before .before .before .before .before .before .before .before .before .before .before .args in
+    let a = c .before .before .before .before .before .before .before .before .before .before .before .before .before .before .before .args in
     let g = c .before .before .before .group in
     let f = c .before .f .given in
-    group-fault (a .text .now) (g .last .1 .0) (g .last .1 .1 .0) (a .c .at + 1) (tail (stackOf (here (a .text .now) (a .c .at + 1)))) (g .ensures) (f .1)
+    group-fault (a .text .now) (g .last .1 .0) (g .last .1 .1 .0, g .last .1 .1 .1 .0) (a .c .at + 1) (tail (stackOf (here (a .text .now) (a .c .at + 1)))) (g .ensures) (f .1)
 
 pub +group+member-spec : {M : Type 1} → statement M
 +group+member-spec = close μ-group μ-member (λ t. group-lts.spec (group-claims t) (group-at t) group.Post group-Inv-loop group-μ-loop
@@ -299,7 +299,7 @@ pub +group+member-spec : {M : Type 1} → statement M
     (member-mul-work t)
     (member-element-write-work t)
     (member-add-group t)
-    (member-add-t26 t)
+    (member-add-t28 t)
     (member-sub-group t)
     (member-group-requires t)
     (member-enum-known-past t)
