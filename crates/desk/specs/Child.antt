@@ -1,5 +1,7 @@
 -- Where the name of a child stands: document 01, "Desk and layers". Child k counts from 1.
+pub mod Names
 pub mod Laws
+pub mod Code
 use mathlib.Core.Path.{_≡_}
 use mathlib.Core.List.{List, [], _∷_}
 use Prim.Native.Nat.{ℕ, zero, suc, _+_, _-_}

@@ -6,7 +6,7 @@ ghost use lib.ListN.{length};
 ghost use Rattle.fields.specs.Split.{tab, split};
 ghost use Rattle.judge.specs.Reply.{maxChildrenText};
 ghost use Rattle.desk.specs.Child.{startIn, found, located, childPart, childRefusal, textOf, startOf, bytesOf};
-ghost use Rattle.desk.specs.Child.Laws.{Reached, askedOf, locatedIn, locatedRead};
+ghost use Rattle.desk.specs.Child.Code.{Reached, askedOf, locatedIn, locatedRead};
 use fields::children::Children;
 use fields::children::count_children;
 use fields::fault::CueFault;

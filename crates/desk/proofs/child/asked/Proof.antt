@@ -1,6 +1,6 @@
 -- Each refusal in its turn.
 use native.Mathlib.Omega.{arith}
-use Rattle.desk.specs.Child.Laws.{asked-long, asked-none, asked-there, asked-missing, asked-bad}
+use Rattle.desk.specs.Child.Code.{asked-long, asked-none, asked-there, asked-missing, asked-bad}
 use borrow.Author.Needs.{needs}
 use Rattle.desk.proofs.child.asked.Statement.{statement}
 use Rattle.desk.proofs.child.asked.Tie as tie

@@ -1,7 +1,7 @@
 -- The part lies inside its text, and stands where the look-up says.
 use mathlib.Core.Path.{refl}
 use native.Mathlib.Omega.{arith}
-use Rattle.desk.specs.Child.Laws.{in-model, in-children, no-model, no-children, part-sized}
+use Rattle.desk.specs.Child.Code.{in-model, in-children, no-model, no-children, part-sized}
 use borrow.Author.Needs.{needs}
 use Rattle.desk.proofs.child.child.Statement.{statement}
 use Rattle.desk.proofs.child.child.Tie as tie

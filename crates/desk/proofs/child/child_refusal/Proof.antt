@@ -1,6 +1,6 @@
 -- By the look-up.
 use mathlib.Core.Path.{sym, _∙_}
-use Rattle.desk.specs.Child.Laws.{in-model, in-children, no-model, no-children}
+use Rattle.desk.specs.Child.Code.{in-model, in-children, no-model, no-children}
 use borrow.Author.Needs.{needs}
 use Rattle.desk.proofs.child.child_refusal.Statement.{statement}
 use Rattle.desk.proofs.child.child_refusal.Tie as tie

@@ -1,5 +1,5 @@
 -- By the reading.
-use Rattle.desk.specs.Child.Laws.{located-read, located-unread}
+use Rattle.desk.specs.Child.Code.{located-read, located-unread}
 use borrow.Author.Needs.{needs}
 use Rattle.desk.proofs.child.locate.Statement.{statement}
 use Rattle.desk.proofs.child.locate.Tie as tie

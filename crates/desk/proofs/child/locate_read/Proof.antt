@@ -7,7 +7,7 @@ use Rattle.fields.specs.Stack.{unmapped}
 use Rattle.judge.specs.Reading.{partsOf}
 use Rattle.judge.specs.Reading.Search.{parts-many}
 use Rattle.fields.specs.Split.{tab, split}
-use Rattle.desk.specs.Child.Laws.{asked-within, reached-name, reached-bounds, reached-long, read-below, read-there, read-missing}
+use Rattle.desk.specs.Child.Code.{asked-within, reached-name, reached-bounds, reached-long, read-below, read-there, read-missing}
 use borrow.Author.Needs.{needs}
 use Rattle.desk.proofs.child.locate_read.Statement.{statement}
 use Rattle.desk.proofs.child.locate_read.Tie as tie
