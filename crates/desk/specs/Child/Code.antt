@@ -1,5 +1,5 @@
 -- What the code finds on the way to a child.
-use mathlib.Core.Path.{_≡_, refl, sym, ap, _∙_}
+use mathlib.Core.Path.{_≡_, refl, sym, ap, subst, _∙_}
 use mathlib.Core.Logic.{inl, inr, by-cases}
 use mathlib.Core.Bool.{true, false, cond, _&&_}
 use mathlib.Core.List.{List, [], _∷_, head-eq-of-cons-eq, tail-eq-of-cons-eq}
@@ -251,55 +251,57 @@ child-within : (c : Text) (i : ℕ) → i < length (childrenIn c) → startIn (c
 child-within [] i h = absurd (omega arith)
 child-within (b ∷ c) i h = omega (arith, start-within (split tab (b ∷ c)) i h, ap length (joined-split tab (b ∷ c)))
 
--- what the code takes from it: where the part lies, and the number of a refusal
-module _ (m c : Text) (k : ℕ) (x : Located) (e : x ≡ located (found m c k)) where
-  by-found : (P : Reply Part → Type 0) → ((r : Reply Part) → Finds m c k r → x ≡ located r → P r) → P (found m c k)
-  by-found P f = f (found m c k) (finds-exactly m c k (found m c k) .0 refl) e
+-- what the code takes from it: the part, where it lies, and the number of a refusal
+abbrev partAs : Located → Part
+partAs (InModel s n) = ofModel s n
+partAs (InChildren s n) = ofChildren s n
+partAs (NoModel f) = ofChildren 0 0
+partAs (NoChildren f) = ofChildren 0 0
 
-  pub in-model : (s n : ℕ) → x ≡ InModel s n → (childPart m c k ≡ ofModel s n) × (childRefusal m c k ≡ 0) × (s + n ≤ length m)
-  in-model s n d = by-found (λ r. (partOf r ≡ ofModel s n) × (replyNumber (λ p. 0) r ≡ 0) × (s + n ≤ length m)) go
-    where
-      go : (r : Reply Part) → Finds m c k r → x ≡ located r → (partOf r ≡ ofModel s n) × (replyNumber (λ p. 0) r ≡ 0) × (s + n ≤ length m)
-      go (noModel f) h g = let z : _≡_ {A = ℕ} 0 1 = cc in absurd (omega arith)
-      go (noChildren f) h g = let z : _≡_ {A = ℕ} 0 1 = cc in absurd (omega arith)
-      go (good (ofChildren p l)) h g = let z : _≡_ {A = ℕ} 0 1 = cc in absurd (omega arith)
-      go (good (ofModel p l)) (t, a, b, q) g =
-          let i : p ≡ s = cc in
-          let j : l ≡ n = cc in
-          let w = name-fits m p (omega (arith, name-inside m p (q .0))) in
-          (cc, refl, omega (arith, w, q .2, ap length (q .1)))
+abbrev numberAs : Located → ℕ
+numberAs (InModel s n) = 0
+numberAs (InChildren s n) = 0
+numberAs (NoModel f) = modelNumber f
+numberAs (NoChildren f) = cueNumber f
 
-  pub in-children : (s n : ℕ) → x ≡ InChildren s n → (childPart m c k ≡ ofChildren s n) × (childRefusal m c k ≡ 0) × (s + n ≤ length c)
-  in-children s n d = by-found (λ r. (partOf r ≡ ofChildren s n) × (replyNumber (λ p. 0) r ≡ 0) × (s + n ≤ length c)) go
-    where
-      go : (r : Reply Part) → Finds m c k r → x ≡ located r → (partOf r ≡ ofChildren s n) × (replyNumber (λ p. 0) r ≡ 0) × (s + n ≤ length c)
-      go (noModel f) h g = let z : _≡_ {A = ℕ} 0 1 = cc in absurd (omega arith)
-      go (noChildren f) h g = let z : _≡_ {A = ℕ} 0 1 = cc in absurd (omega arith)
-      go (good (ofModel p l)) h g = let z : _≡_ {A = ℕ} 0 1 = cc in absurd (omega arith)
-      go (good (ofChildren p l)) (t, a, b, q) g =
-          let i : p ≡ s = cc in
-          let j : l ≡ n = cc in
-          let y : k - 1 < length (childrenIn c) = by-cases (decLt (k - 1) (length (childrenIn c))) (λ o. o) (λ o. absurd (b NoChild (by-cases (decLt 0 k) (λ u. inr (omega arith)) (λ u. inl (omega arith))))) in
-          let w = child-within c (k - 1) y in
-          (cc, refl, omega (arith, w, q .1, q .2))
+abbrev Inside : Text → Text → Located → Type 0
+Inside m c (InModel s n) = s + n ≤ length m
+Inside m c (InChildren s n) = s + n ≤ length c
+Inside m c (NoModel f) = Unit {0}
+Inside m c (NoChildren f) = Unit {0}
 
-  pub no-model : (f : ModelFault) → x ≡ NoModel f → (childPart m c k ≡ ofChildren 0 0) × (childRefusal m c k ≡ modelNumber f)
-  no-model f d = by-found (λ r. (partOf r ≡ ofChildren 0 0) × (replyNumber (λ p. 0) r ≡ modelNumber f)) go
-    where
-      go : (r : Reply Part) → Finds m c k r → x ≡ located r → (partOf r ≡ ofChildren 0 0) × (replyNumber (λ p. 0) r ≡ modelNumber f)
-      go (noModel g) h i = let z : g ≡ f = cc in (refl, rw z)
-      go (noChildren g) h i = let z : _≡_ {A = ℕ} 0 1 = cc in absurd (omega arith)
-      go (good (ofModel p l)) h i = let z : _≡_ {A = ℕ} 0 1 = cc in absurd (omega arith)
-      go (good (ofChildren p l)) h i = let z : _≡_ {A = ℕ} 0 1 = cc in absurd (omega arith)
+module _ (m c : Text) (k : ℕ) (x y : Located) (e : x ≡ located (found m c k)) (d : x ≡ y) where
+  is : located (found m c k) ≡ y
+  is = sym e ∙ d
 
-  pub no-children : (f : CueFault) → x ≡ NoChildren f → (childPart m c k ≡ ofChildren 0 0) × (childRefusal m c k ≡ cueNumber f)
-  no-children f d = by-found (λ r. (partOf r ≡ ofChildren 0 0) × (replyNumber (λ p. 0) r ≡ cueNumber f)) go
+  pub part-is : childPart m c k ≡ partAs y
+  part-is = go (found m c k) ∙ ap partAs is
     where
-      go : (r : Reply Part) → Finds m c k r → x ≡ located r → (partOf r ≡ ofChildren 0 0) × (replyNumber (λ p. 0) r ≡ cueNumber f)
-      go (noModel g) h i = let z : _≡_ {A = ℕ} 0 1 = cc in absurd (omega arith)
-      go (noChildren g) h i = let z : g ≡ f = cc in (refl, rw z)
-      go (good (ofModel p l)) h i = let z : _≡_ {A = ℕ} 0 1 = cc in absurd (omega arith)
-      go (good (ofChildren p l)) h i = let z : _≡_ {A = ℕ} 0 1 = cc in absurd (omega arith)
+      go : (r : Reply Part) → partOf r ≡ partAs (located r)
+      go (noModel f) = refl
+      go (noChildren f) = refl
+      go (good (ofModel p n)) = refl
+      go (good (ofChildren p n)) = refl
+
+  pub refusal-is : numberAs y ≡ childRefusal m c k
+  refusal-is = sym (go (found m c k) ∙ ap numberAs is)
+    where
+      go : (r : Reply Part) → replyNumber (λ p. 0) r ≡ numberAs (located r)
+      go (noModel f) = refl
+      go (noChildren f) = refl
+      go (good (ofModel p n)) = refl
+      go (good (ofChildren p n)) = refl
+
+  pub inside : Inside m c y
+  inside = subst (Inside m c) is (go (found m c k) (finds-exactly m c k (found m c k) .0 refl))
+    where
+      go : (r : Reply Part) → Finds m c k r → Inside m c (located r)
+      go (noModel f) h = tt
+      go (noChildren f) h = tt
+      go (good (ofModel p n)) (t, a, b, q) = omega (arith, name-fits m p (omega (arith, name-inside m p (q .0))), q .2, ap length (q .1))
+      go (good (ofChildren p n)) (t, a, b, q) =
+          let l : k - 1 < length (childrenIn c) = by-cases (decLt (k - 1) (length (childrenIn c))) (λ o. o) (λ o. absurd (b NoChild (by-cases (decLt 0 k) (λ u. inr (omega arith)) (λ u. inl (omega arith))))) in
+          omega (arith, child-within c (k - 1) l, q .1, q .2)
 
 -- a part by its end is the part by its length
 pub part-sized : (x : Text) (s n : ℕ) → take (s + n - s) (drop s x) ≡ take n (drop s x)
