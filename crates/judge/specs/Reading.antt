@@ -1,12 +1,10 @@
 -- What a model text reads into: the answer, the rule, and the names beside it as places in the text. Below it, from bytes up to the whole text:
 --   Lexeme, Count          numbers and counts at a place
---   Packed, Filled, Buffer what the arrays of the reader hold
---   Table                  the names read so far, by a hash of their bytes
---   Search                 names that were written before, and the look-up of a name
+--   Filled, Buffer         what the arrays of the reader hold
+--   Table, Search          names that were written before, and the look-up of a name
 --   At, Walk, Atom, Group  the automaton's state where the reader stands, and what each byte does to it
 --   Whole, Laws            the whole text; what is known of a reading
 pub mod Lexeme
-pub mod Packed
 pub mod Table
 pub mod Search
 pub mod Filled
@@ -36,19 +34,16 @@ use Rattle.model.specs.Fault.{nameFrom, Answer, refused, accepted}
 use Rattle.model.specs.Fault.Answered.{answer}
 use Rattle.model.specs.Fault.Ties.{places}
 use Rattle.model.specs.Model.{modelOf}
-use Rattle.model.specs.Rule.{unused, ruleOf}
-use Rattle.fields.specs.Limits.{maxAtoms, maxNodes}
+use Rattle.model.specs.Rule.{ruleOf}
+use Rattle.fields.specs.Limits.{maxAtoms}
 
 abbrev pub namePlace : Text → ℕ → NamePlace
 namePlace x p = record { start = p; len = length (nameFrom x p) }
 
--- a rule of just these nodes (`ruleOf t` is the rule of `encode t`), and names at just these places
-abbrev pub ruleWith : List RuleNode → Rule
-ruleWith l = record { nodes = l ++ replicate (maxNodes - length l) unused; len = length l }
-
 abbrev pub noPlace : NamePlace
 noPlace = record { start = 0; len = 0 }
 
+-- names at just these places
 abbrev pub namesWith : List NamePlace → Names
 namesWith l = record { places = l ++ replicate (maxAtoms - length l) noPlace; len = length l }
 

@@ -2,6 +2,7 @@
 
 pub mod fault;
 pub mod named;
+mod packed;
 pub mod row;
 mod table;
 pub mod text;

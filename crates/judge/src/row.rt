@@ -3,21 +3,23 @@
 ghost use mathlib.Core.Path.{_≡_};
 ghost use mathlib.Core.Bool.{true, _&&_};
 ghost use lib.Dec.{eqb};
-ghost use mathlib.Core.List.{[]};
+ghost use mathlib.Core.List.{[], map};
 ghost use Prim.Native.Nat.{_+_, _≤_, _<_, max, min};
-ghost use lib.ListN.{length, getD};
+ghost use lib.ListN.{length, take, getD};
 ghost use Rattle.fields.specs.Limits.{maxAtoms, maxNodes, maxRow};
 ghost use Rattle.model.specs.Types.Decide.{under, joined, begun};
 ghost use Rattle.judge.specs.Judge.Attribute.{emptyAttribute, atomAttribute, pairAttribute, countedAttribute, markedAttribute};
 ghost use Rattle.model.specs.Model.{operator};
-ghost use Rattle.model.specs.Rule.{names};
+ghost use Rattle.model.specs.Rule.{atomsIn};
+ghost use Rattle.judge.specs.Packed.{nodeOf, ruleIn};
 ghost use Rattle.judge.specs.Judge.Tally.{unseen, noting, Tallied};
 ghost use Rattle.judge.specs.Judge.Root.{partAttribute, grownAttribute, rootAttribute};
 ghost use Rattle.model.specs.Verdict.Laws.{verdictOf, verdict};
 ghost use Rattle.model.specs.Rule.Decide.{readable, ruleType};
 ghost use Rattle.judge.specs.Judge.Laws.{upto, judged};
-ghost use Rattle.judge.specs.Judge.Pass.{seenVerdict};
 use crate::fault::JudgeFault;
+use crate::packed::pack;
+use crate::packed::unpacked;
 use crate::verdict::Judged;
 use fields::limits::MAX_ROW;
 use fields::limits::lesser;
@@ -48,12 +50,6 @@ pub struct Attribute {
     pub behind: u16,
     pub done: bool,
     pub alive: bool,
-}
-
-// What is seen of each name by its number, and whether no number is above the names.
-pub struct Tally {
-    pub seen: [Seen; MAX_ATOMS + 1],
-    pub named: bool,
 }
 
 fn earlier(a: u16, b: u16) -> u16
@@ -91,29 +87,34 @@ fn noted(seen: Seen, i: u16) -> Seen
     }
 }
 
-// The first pass. A number above the names is not counted.
-fn tally_row(row: &[u16], names: usize) -> Tally
-    requires { ⌜ (length (now row) ≤ maxRow) × (names ≤ maxAtoms) ⌝ }
-    ensures { λ r. ⌜ Tallied names (now (row .entry)) r ⌝ }
+// Whether no number is above the names.
+pub fn all_named(names: usize, row: &[u16]) -> bool
+    ensures { λ r. ⌜ r ≡ upto names (now (row .entry)) ⌝ }
+{
+    let mut named = true;
+    let mut i = row.len();
+    while 0 < i {
+        i -= 1;
+        named = (row[i] as usize <= names) & named;
+    }
+    named
+}
+
+// The first pass: what is seen of each name by its number.
+fn tally_row(row: &[u16]) -> [Seen; MAX_ATOMS + 1]
+    requires { ⌜ (length (now row) ≤ maxRow) × (upto maxAtoms (now row) ≡ true) ⌝ }
+    ensures { λ r. ⌜ Tallied (now (row .entry)) r ⌝ }
 {
     let none = nothing_seen(row.len() as u16);
     let mut seen = [none; MAX_ATOMS + 1];
-    let mut named = true;
     let mut i: usize = 0;
     while i < row.len() {
         let name = row[i] as usize;
-        if name <= names {
-            let before = seen[name];
-            seen[name] = noted(before, i as u16);
-        } else {
-            named = false;
-        }
+        let before = seen[name];
+        seen[name] = noted(before, i as u16);
         i += 1;
     }
-    Tally {
-        seen: seen,
-        named: named,
-    }
+    seen
 }
 
 // What nothing has: its part of every row is empty.
@@ -240,26 +241,33 @@ fn grown(kind: Kind, first: bool, x: Attribute, y: Attribute) -> Attribute
     }
 }
 
-// The second pass: the attribute of the first node, by what is seen of each name in a row of this length. Nodes from the last to the first: the
-// attributes of the trees that are read stand on a stack that grows down, and a group takes its members from it. Names are counted down with the
-// atoms.
-fn root(rule: Rule, length: u16, seen: [Seen; MAX_ATOMS + 1]) -> Attribute
-    requires { ⌜ (rule .len ≤ maxNodes) × (names rule ≤ maxAtoms) ⌝ }
-    ensures { λ r. ⌜ r ≡ rootAttribute rule length (λ k. getD seen k (unseen 0)) ⌝ }
+// The second pass: the attribute of the first of len nodes, with so many names, by what is seen of each name in a row of so many children. Nodes from
+// the last to the first: the attributes of the trees that are read stand on a stack that grows down, and a group takes its members from it. Names are
+// counted down with the atoms.
+fn root(
+    words: &[u64; MAX_NODES],
+    len: usize,
+    names: usize,
+    children: u16,
+    seen: [Seen; MAX_ATOMS + 1],
+) -> Attribute
+    requires { ⌜ (len ≤ maxNodes) × (length (now words) ≡ maxNodes) ⌝ }
+    requires { ⌜ (names ≡ atomsIn (map nodeOf (take len (now words)))) × (names ≤ maxAtoms) ⌝ }
+    ensures { λ r. ⌜ r ≡ rootAttribute (ruleIn (now (words .entry)) len) children (λ k. getD seen k (unseen 0)) ⌝ }
 {
-    let none = empty(length);
+    let none = empty(children);
     let mut stack = [none; MAX_NODES];
     let mut top = MAX_NODES;
-    let mut name = names(rule);
-    let mut i = rule.len;
+    let mut name = names;
+    let mut i = len;
     while 0 < i {
         i -= 1;
-        let node = rule.nodes[i];
+        let node = unpacked(words[i]);
         let kind = node.kind;
         let mark = node.mark;
         let end = lesser(members_of(kind), MAX_NODES - top) + top;
         let here = seen[name];
-        let mut x = begin(length, kind, here);
+        let mut x = begin(children, kind, here);
         let mut at = top;
         while at < end {
             let y = stack[at];
@@ -268,7 +276,7 @@ fn root(rule: Rule, length: u16, seen: [Seen; MAX_ATOMS + 1]) -> Attribute
         }
         name -= atoms_of(kind);
         top = end - 1;
-        stack[top] = marked(length, mark, x);
+        stack[top] = marked(children, mark, x);
     }
     if top < MAX_NODES { stack[top] } else { none }
 }
@@ -291,23 +299,19 @@ fn verdict_of(foreign: u16, root: Attribute) -> Verdict
     }
 }
 
-// The verdict on a row of this length, by what is seen of each name.
-fn verdict_seen(rule: Rule, length: u16, seen: [Seen; MAX_ATOMS + 1]) -> Verdict
-    requires { ⌜ (rule .len ≤ maxNodes) × (names rule ≤ maxAtoms) ⌝ }
-    ensures { λ r. ⌜ r ≡ seenVerdict rule length (λ k. getD seen k (unseen 0)) ⌝ }
+// The verdict on a row that is not refused, by the first len nodes, which are a rule that some model text reads into and have so many names.
+pub(crate) fn verdict_on(words: &[u64; MAX_NODES], len: usize, names: usize, row: &[u16]) -> Verdict
+    requires { ⌜ (len ≤ maxNodes) × (length (now words) ≡ maxNodes) ⌝ }
+    requires { ⌜ (readable (ruleIn (now words) len) ≡ true) × (names ≡ atomsIn (map nodeOf (take len (now words)))) ⌝ }
+    requires { ⌜ (length (now row) ≤ maxRow) × (upto names (now row) ≡ true) ⌝ }
+    ensures { λ r. ⌜ r ≡ verdict (ruleType (ruleIn (now (words .entry)) len)) (now (row .entry)) ⌝ }
 {
+    let seen = tally_row(row);
     let foreign = seen[0];
-    verdict_of(foreign.count, root(rule, length, seen))
-}
-
-// The verdict by a rule that some model text reads into, on a row that is not refused.
-pub(crate) fn verdict_by(rule: Rule, row: &[u16]) -> Verdict
-    requires { ⌜ (readable rule ≡ true) × (length (now row) ≤ maxRow) × (upto (names rule) (now row) ≡ true) ⌝ }
-    ensures { λ r. ⌜ r ≡ verdict (ruleType rule) (now (row .entry)) ⌝ }
-{
-    let tally = tally_row(row, names(rule));
-    let seen = tally.seen;
-    verdict_seen(rule, row.len() as u16, seen)
+    verdict_of(
+        foreign.count,
+        root(words, len, names, row.len() as u16, seen),
+    )
 }
 
 // Refused with 40, 41 or 43, tried in this order. Else the verdict.
@@ -317,10 +321,12 @@ pub fn judge_row(rule: Rule, row: &[u16]) -> Judged
     let good = is_readable(rule);
     if good {
         if row.len() <= MAX_ROW {
-            let tally = tally_row(row, names(rule));
-            if tally.named {
-                let seen = tally.seen;
-                return Judged::Verdict(verdict_seen(rule, row.len() as u16, seen));
+            let names = names(rule);
+            let named = all_named(names, row);
+            if named {
+                let mut words = [0u64; MAX_NODES];
+                pack(rule, &mut words);
+                return Judged::Verdict(verdict_on(&words, rule.len, names, row));
             }
             return Judged::Refused(JudgeFault::NoName);
         }

@@ -4,20 +4,23 @@ ghost use mathlib.Core.Path.{_≡_};
 ghost use mathlib.Core.Bool.{true};
 ghost use mathlib.Core.List.{[], _∷_, map, tail};
 ghost use Prim.Native.Nat.{_+_, _*_, _-_, _≤_, _<_, min};
-ghost use lib.Dec.{T};
 ghost use lib.ListN.{length, take, getD};
 ghost use Rattle.fields.specs.Bytes.{isLetter};
 ghost use Rattle.model.specs.Fault.{is, nameFrom};
 ghost use Rattle.model.specs.Fault.Ties.{capped};
-ghost use Rattle.model.specs.declared.rule.Kind.the-variants.{Atom, Group};
-ghost use Rattle.judge.specs.Reading.{ruleWith, namesWith, refusal, reading, partsOf};
-ghost use Rattle.judge.specs.Reading.Packed.{word, nodeOf, plain, optional, isSign, signBy, kindBy, markBy, placeOf};
+ghost use Rattle.model.specs.Rule.{ruleWith};
+ghost use Rattle.judge.specs.Reading.{namesWith, refusal, reading, partsOf};
+ghost use Rattle.judge.specs.Packed.{nodeOf, placeOf};
 ghost use Rattle.model.specs.Rule.{unused};
 ghost use Rattle.model.specs.Syntax.{numberIn};
 ghost use Rattle.model.specs.Syntax.Machine.{opened, here};
 ghost use Rattle.judge.specs.Reading.Walk.{Marking, joins, stackOf, Expecting, Ready, Inside, Member, GroupRead};
 ghost use Rattle.judge.specs.Reading.Atom.{NameRead, AtomRead};
 ghost use Rattle.judge.specs.Reading.Lexeme.{numeralAt, countAt, onwardAt, betweenAt};
+use crate::packed::packed_atom;
+use crate::packed::packed_group;
+use crate::packed::packed_optional;
+use crate::packed::unpacked;
 use crate::table::SLOTS;
 use crate::table::enter;
 use crate::table::find;
@@ -215,98 +218,6 @@ fn bounded(text: &[u8], at: usize, min: u32) -> Counted
             Counted::Counts(min as u16, Upper::Number(max as u16), p + 1)
         }
         Numeral::Bad(p) => Counted::Bad(p),
-    }
-}
-
-// ---- what is kept of nodes and names while reading: one number each
-
-// The number of a node that has no mark: its shape is a sign's byte or 0, or 1 or 2 for an atom.
-fn packed(shape: u8, low: u16, high: u16) -> u64
-    ensures { λ r. ⌜ r ≡ word shape low high ⌝ }
-{
-    ((high as u64) * 65536 + (low as u64)) * 256 + (shape as u64)
-}
-
-fn packed_atom(min: u16, max: Upper) -> u64
-    ensures { λ r. ⌜ nodeOf r ≡ plain (Atom min max) ⌝ }
-{
-    match max {
-        Upper::Number(n) => packed(1, min, n),
-        Upper::Unbounded => packed(2, min, 0),
-    }
-}
-
-// `sign` is the byte of a sign, or 0.
-fn packed_group(sign: u8, members: u16) -> u64
-    requires { ⌜ T (isSign sign) ⌝ }
-    ensures { λ r. ⌜ nodeOf r ≡ plain (Group (signBy sign) members) ⌝ }
-{
-    packed(sign, members, 0)
-}
-
-// The number of the same node with `?`.
-fn packed_optional(word: u64) -> u64
-    ensures { λ r. ⌜ nodeOf r ≡ optional (nodeOf word) ⌝ }
-{
-    word / 256 * 256 + 128 + word % 128
-}
-
-fn sign_by(byte: u64) -> Sign
-    ensures { λ r. ⌜ r ≡ signBy byte ⌝ }
-{
-    if byte == 44 {
-        return Sign::Sequence;
-    }
-    if byte == 124 {
-        return Sign::Choice;
-    }
-    if byte == 38 {
-        return Sign::Interleaving;
-    }
-    Sign::None
-}
-
-fn kind_of(shape: u64, low: u16, high: u16) -> Kind
-    ensures { λ r. ⌜ r ≡ kindBy shape low high ⌝ }
-{
-    if shape == 1 {
-        return Kind::Atom {
-            min: low,
-            max: Upper::Number(high),
-        };
-    }
-    if shape == 2 {
-        return Kind::Atom {
-            min: low,
-            max: Upper::Unbounded,
-        };
-    }
-    Kind::Group {
-        sign: sign_by(shape),
-        members: low,
-    }
-}
-
-fn mark_of(bit: u64) -> Mark
-    ensures { λ r. ⌜ r ≡ markBy bit ⌝ }
-{
-    if bit == 0 {
-        Mark::Plain
-    } else {
-        Mark::Optional
-    }
-}
-
-fn unpacked(word: u64) -> Node
-    ensures { λ r. ⌜ r ≡ nodeOf word ⌝ }
-{
-    Node {
-        kind: kind_of(
-            word % 128,
-            (word / 256 % 65536) as u16,
-            (word / 256 / 65536 % 65536) as u16,
-        ),
-        mark: mark_of(word / 128 % 2),
     }
 }
 

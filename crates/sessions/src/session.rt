@@ -2,12 +2,12 @@
 
 ghost use mathlib.Core.Path.{_≡_};
 ghost use lib.ListN.{length, replicate};
-ghost use Rattle.judge.specs.Judge.Laws.{upto};
 ghost use Rattle.sessions.specs.Book.{opening, adding, takingBack, room};
 ghost use Rattle.sessions.specs.Session.{free, allFree, intact, checked, Does, asked};
 use fields::limits::MAX_ROW;
 use fields::limits::lesser;
 use judge::fault::JudgeFault;
+use judge::row::all_named;
 use judge::row::judge_row;
 use judge::verdict::Judged;
 use model::check::is_readable;
@@ -39,19 +39,6 @@ fn room_in(places: usize) -> usize
     ensures { λ r. ⌜ r ≡ room places ⌝ }
 {
     lesser(places, MAX_ROW)
-}
-
-// Whether no number is above the names.
-fn all_named(names: usize, row: &[u16]) -> bool
-    ensures { λ r. ⌜ r ≡ upto names (now (row .entry)) ⌝ }
-{
-    let mut named = true;
-    let mut i = row.len();
-    while 0 < i {
-        i -= 1;
-        named = (row[i] as usize <= names) & named;
-    }
-    named
 }
 
 fn all_free(places: &[u16]) -> bool

@@ -1,17 +1,17 @@
 -- What the first pass over a row knows of each name: of the whole row at its end, of the children passed at each turn.
 use mathlib.Core.Path.{_≡_, refl, sym, ap, _∙_}
-use mathlib.Core.Bool.{Bool, true, false, cond, _&&_, and-true, and-false, true≢false, false≢true}
+use mathlib.Core.Bool.{true, cond, and-eq-true-iff, true≢false, false≢true}
 use mathlib.Core.List.{List, [], _∷_, _++_}
-use Prim.Native.Nat.{ℕ, _+_, _≤_, _<_, min}
+use Prim.Native.Nat.{ℕ, zero, suc, _+_, _≤_, _<_, min}
 use native.Mathlib.Numerals.{add-one}
 use native.Mathlib.Nat.{min-eq-left, min-eq-right}
 use native.Mathlib.Omega.{arith}
 use lib.Dec.{leb}
 use lib.ListN.{length, take, getD, set, replicate, getD-replicate, length-replicate, length-set, length-take}
 use lib.Seq.{take-suc, getD-set-same, getD-set-other, length-take-le}
-use borrow.Author.Tests.{le-leb, lt-leb}
+use borrow.Author.Tests.{leb-true, le-leb}
 use Rattle.judge.specs.declared.row.Seen.{Seen}
-use Rattle.judge.specs.declared.row.Tally.{Tally}
+use Rattle.fields.specs.Limits.{maxAtoms}
 use Rattle.fields.specs.Tests.{by-test}
 use Rattle.model.specs.Word.{Word, Names, only}
 use Rattle.model.specs.Word.Laws.{only-is, only-self}
@@ -58,27 +58,31 @@ seen-more n w x a h =
     (λ t. let j : length w ≤ n = omega arith in
     by-test (only a x) (λ e. rw (t, e, min-eq-right j) (simp add-one)) (λ e. rw (t, e))))
 
-upto-more : (m : ℕ) (w : Word) (x : ℕ) → upto m (w ++ (x ∷ [])) ≡ (upto m w && leb x m)
-upto-more m [] x = and-true (leb x m)
-upto-more m (y ∷ w) x = by-test (leb y m) (λ e. rw e (upto-more m w x)) (λ e. rw e)
+pub upto-at : (m : ℕ) (w : Word) → upto m w ≡ true → (i : ℕ) → i < length w → getD w i 0 ≤ m
+upto-at m [] e i h = absurd (omega arith)
+upto-at m (x ∷ w) e zero h = leb-true x m (and-eq-true-iff (leb x m) (upto m w) .0 e .0)
+upto-at m (x ∷ w) e (suc i) h = upto-at m w (and-eq-true-iff (leb x m) (upto m w) .0 e .1) i (omega arith)
 
--- what is known of the first children w of a row of n: of each name up to m what is seen, and whether no number is above m
-pub record Seeing (m n : ℕ) (w : Word) (s : List Seen) (named : Bool) : Type 0 where
+pub upto-more : (m n : ℕ) (w : Word) → m ≤ n → upto m w ≡ true → upto n w ≡ true
+upto-more m n [] h e = refl
+upto-more m n (x ∷ w) h e =
+    let (a, b) = and-eq-true-iff (leb x m) (upto m w) .0 e in
+    and-eq-true-iff (leb x n) (upto n w) .1 (le-leb x n (omega (arith, leb-true x m a)), upto-more m n w h b)
+
+-- what is known of the first children w of a row of n: of each name up to m what is seen
+pub record Seeing (m n : ℕ) (w : Word) (s : List Seen) : Type 0 where
   pub room : m < length s
   pub seen-is : (k : ℕ) → k ≤ m → getD s k (unseen 0) ≡ seenIn n w k
-  pub named-is : named ≡ upto m w
 
--- t tells it of the row w
-pub record Tallied (m : ℕ) (w : Word) (t : Tally) : Type 0 where
-  pub seen-is : (k : ℕ) → k ≤ m → getD (t .seen) k (unseen 0) ≡ seen w k
-  pub named-is : t .named ≡ upto m w
+-- s tells it of the row w, by as many names as a rule can have
+abbrev pub Tallied : Word → List Seen → Type 0
+Tallied w s = (k : ℕ) → k ≤ maxAtoms → getD s k (unseen 0) ≡ seen w k
 
-pub seeing-none : (m n size : ℕ) → m < size → Seeing m n [] (replicate size (unseen n)) true
+pub seeing-none : (m n size : ℕ) → m < size → Seeing m n [] (replicate size (unseen n))
 seeing-none m n size g =
     record {
       room = rw length-replicate g;
       seen-is = λ k h. getD-replicate size k (unseen n) (unseen 0) (omega arith) ∙ sym (seen-none n k);
-      named-is = refl;
     }
 
 keep-bound : (p : Names) (w : Word) → length (keep p w) ≤ length w
@@ -88,14 +92,14 @@ keep-bound p (x ∷ w) =
     let h = keep-bound p w in
     by-test (p x) (λ e. rw e (omega arith)) (λ e. rw e (omega arith))
 
-pub seeing-bound : (m : ℕ) (row : Word) (i : ℕ) (s : List Seen) (b : Bool) → Seeing m (length row) (take i row) s b
+pub seeing-bound : (m : ℕ) (row : Word) (i : ℕ) (s : List Seen) → Seeing m (length row) (take i row) s
     → (k : ℕ) → k ≤ m → getD s k (unseen 0) .count ≤ length row
 unfolding seenIn
-seeing-bound m row i s b t k h =
+seeing-bound m row i s t k h =
     rw (t .seen-is k h) (omega (arith, keep-bound (only k) (take i row), length-take i row))
 
 -- a child more, at place i
-module _ (m : ℕ) (row : Word) (i : ℕ) (s : List Seen) (b : Bool) (h : i < length row) (t : Seeing m (length row) (take i row) s b) where
+module _ (m : ℕ) (row : Word) (i : ℕ) (s : List Seen) (h : i < length row) (t : Seeing m (length row) (take i row) s) where
   one-more : take (i + 1) row ≡ take i row ++ (getD row i 0 ∷ [])
   one-more = rw (add-one, take-suc row i 0 h)
 
@@ -107,7 +111,7 @@ module _ (m : ℕ) (row : Word) (i : ℕ) (s : List Seen) (b : Bool) (h : i < le
   seen-next k = rw (one-more, seen-more (length row) (take i row) (getD row i 0) k (omega (arith, passed)), passed)
 
   pub seeing-more : getD row i 0 ≤ m
-      → Seeing m (length row) (take (i + 1) row) (set s (getD row i 0) (noting (getD s (getD row i 0) (unseen 0)) i)) b
+      → Seeing m (length row) (take (i + 1) row) (set s (getD row i 0) (noting (getD s (getD row i 0) (unseen 0)) i))
   seeing-more g =
       let x = getD row i 0 in
       let y = noting (getD s x (unseen 0)) i in
@@ -118,16 +122,7 @@ module _ (m : ℕ) (row : Word) (i : ℕ) (s : List Seen) (b : Bool) (h : i < le
             (by-test (only k x)
             (λ f. rw (f, ← only-is k x f, getD-set-same s x y (unseen 0) r) (ap (λ z. noting z i) (t .seen-is x g)))
             (λ f. rw (f, getD-set-other s x k y (unseen 0) (λ q. true≢false (sym (only-self x) ∙ (rw q at f)))) (t .seen-is k l)));
-        named-is = rw (one-more, upto-more, le-leb x m g, and-true) (t .named-is);
       }
 
-  pub seeing-less : m < getD row i 0 → Seeing m (length row) (take (i + 1) row) s false
-  seeing-less g = record {
-    room = t .room;
-    seen-is = λ k l. rw (seen-next k)
-        (by-test (only k (getD row i 0)) (λ f. absurd (omega (arith, only-is k (getD row i 0) f))) (λ f. rw f (t .seen-is k l)));
-    named-is = rw (one-more, upto-more, lt-leb (getD row i 0) m g, and-false);
-  }
-
-pub tallied : (m : ℕ) (w : Word) (s : List Seen) (b : Bool) → Seeing m (length w) w s b → Tallied m w (record { seen = s; named = b })
-tallied m w s b t = record { seen-is = λ k h. t .seen-is k h ∙ seen-whole w k; named-is = t .named-is }
+pub tallied : (w : Word) (s : List Seen) → Seeing maxAtoms (length w) w s → Tallied w s
+tallied w s t k h = t .seen-is k h ∙ seen-whole w k

@@ -3,11 +3,11 @@
 use mathlib.Core.Path.{_≡_, refl, ap, _∙_}
 use mathlib.Core.List.{List, [], _∷_, _++_, map, append-assoc, append-nil}
 use Prim.Native.Nat.{ℕ, zero, suc, _+_, _-_, _≤_, _<_}
-use native.Mathlib.Nat.{zero-add, add-zero, add-assoc, min-eq-left}
+use native.Mathlib.Nat.{zero-add, add-zero, add-assoc}
 use native.Mathlib.Numerals.{add-one}
 use native.Mathlib.Omega.{arith}
-use lib.ListN.{length, take, drop, getD, length-take, length-drop}
-use lib.Seq.{take-at, drop-at, take-suc, getD-take}
+use lib.ListN.{length, take, drop, getD, length-drop}
+use lib.Seq.{take-at, drop-at, take-suc}
 use Rattle.model.specs.declared.rule.Upper.{Upper}
 use Rattle.model.specs.declared.rule.Sign.{Sign}
 use Rattle.model.specs.declared.rule.Mark.{Mark}
@@ -144,8 +144,6 @@ mutual
   number-encodeAll (t ▹ ts) k =
       rw (number-append, number-encode t k, number-encodeAll ts (k + weight 1 0 t), add-assoc)
 
-pub number-next : (nodes : List RuleNode) (len i k : ℕ) (d : RuleNode) → i < len → len ≤ length nodes
-    → number (take (i + 1) (take len nodes)) k ≡ after (getD nodes i d .kind) (number (take i (take len nodes)) k)
-number-next nodes len i k d h e =
-    let l : i < length (take len nodes) = rw (length-take, min-eq-left e) h in
-    rw (add-one, take-suc (take len nodes) i d l, getD-take len nodes i d h, number-append)
+pub number-next : (l : List RuleNode) (i k : ℕ) (d : RuleNode) → i < length l
+    → number (take (i + 1) l) k ≡ after (getD l i d .kind) (number (take i l) k)
+number-next l i k d h = rw (add-one, take-suc l i d h, number-append)

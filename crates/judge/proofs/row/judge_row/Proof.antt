@@ -1,10 +1,9 @@
 -- each answer is the branch of `judged` to which the tests lead
 use borrow.Author.Needs.{needs}
-use native.Mathlib.Omega.{arith}
-use mathlib.Core.Path.{_≡_}
+use mathlib.Core.Path.{_≡_, refl, sym, _∙_}
 use lib.ListN.{length}
 use Rattle.fields.specs.Stack.{unmapped}
-use Rattle.judge.specs.Judge.Code.{within, no-model, long-row, no-name, a-verdict}
+use Rattle.judge.specs.Judge.Code.{readable-within, packed-is, packed-readable, packed-names, tested, no-model, long-row, no-name, a-verdict}
 use Rattle.judge.proofs.row.judge_row.Statement.{statement}
 use Rattle.judge.proofs.row.judge_row.Tie as tie
 
@@ -14,37 +13,47 @@ is-readable-requires c κs = search needs
 names-requires : tie.Need-names-requires
 names-requires c κs = search needs
 
-tally-row-requires : tie.Need-tally-row-requires
-tally-row-requires c κs =
-    let a = c .before .before .before .before .before .args in
-    let i = c .before .before in
-    (search needs, omega (arith, within (a .rule) _ (i .before .is-readable .ensures) (i .if1 .taken) .1))
+all-named-requires : tie.Need-all-named-requires
+all-named-requires c κs = search needs
 
-cast-verdict-seen : tie.Need-cast-verdict-seen
-cast-verdict-seen c = search needs
-
-verdict-seen-requires : tie.Need-verdict-seen-requires
-verdict-seen-requires c κs =
+pack-requires : tie.Need-pack-requires
+pack-requires c κs =
     let a = c .before .before .before .before .before .before .before .before .args in
     let i = c .before .before .before .before .before in
-    within (a .rule) _ (i .before .is-readable .ensures) (i .if1 .taken)
+    (readable-within (a .rule) (tested (a .rule) _ (i .before .is-readable .ensures) _ (i .if1 .taken)) .0, refl)
+
+verdict-on-requires : tie.Need-verdict-on-requires
+verdict-on-requires c κs =
+    let a = c .before .before .before .before .before .before .before .before .before .before .args in
+    let i = c .before .before .before .before .before .before .before in
+    let n = c .before .before .before .before .before in
+    let p = c .before .pack in
+    let e = tested (a .rule) _ (i .before .is-readable .ensures) _ (i .if1 .taken) in (
+      (p .ensures .few, p .ensures .whole),
+      (
+        (packed-readable (a .rule) e _ (p .ensures), packed-names (a .rule) e _ (p .ensures) _ (n .names .ensures)),
+        (n .before .if2 .taken, sym (c .before .before .before .before .all-named .ensures) ∙ c .before .before .before .if3 .taken),
+      ),
+    )
 
 returns : tie.Need-returns
 returns c =
-    let a = c .before .before .before .before .before .before .before .before .before .args in
-    let t = c .before .before in
-    let n = t .before .before in
-    let i = n .before .before in
+    let a = c .before .before .before .before .before .before .before .before .before .before .before .args in
+    let i = c .before .before .before .before .before .before .before .before in
+    let n = c .before .before .before .before .before .before in
+    let d = c .before .before .before .before in
+    let e = tested (a .rule) _ (i .before .is-readable .ensures) _ (i .if1 .taken) in
     a-verdict (a .rule) _ (i .before .is-readable .ensures) (a .row .now) (i .if1 .taken) (n .before .if2 .taken)
-    _ (n .names .ensures) (t .before .tally-row .result) (t .before .tally-row .ensures) (t .if3 .taken) _ (c .verdict-seen .ensures)
+    _ (n .names .ensures) _ (d .before .all-named .ensures) (d .if3 .taken)
+    _ (rw (packed-is (a .rule) e _ (c .before .before .pack .ensures)) at (c .verdict-on .ensures))
 
 returns-2 : tie.Need-returns-2
 returns-2 c =
     let a = c .before .before .before .before .before .before .before .args in
+    let i = c .before .before .before .before in
     let n = c .before .before in
-    let i = n .before .before in
     no-name (a .rule) _ (i .before .is-readable .ensures) (a .row .now) (i .if1 .taken) (n .before .if2 .taken)
-    _ (n .names .ensures) (c .before .tally-row .result) (c .before .tally-row .ensures) (c .if3 .left)
+    _ (n .names .ensures) _ (c .before .all-named .ensures) (c .if3 .left)
 
 returns-3 : tie.Need-returns-3
 returns-3 c =
@@ -63,9 +72,9 @@ judge-row-spec =
     (tie.spec
     is-readable-requires
     names-requires
-    tally-row-requires
-    cast-verdict-seen
-    verdict-seen-requires
+    all-named-requires
+    pack-requires
+    verdict-on-requires
     returns
     returns-2
     returns-3

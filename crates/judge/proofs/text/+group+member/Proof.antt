@@ -20,7 +20,7 @@ use Rattle.judge.proofs.text.+group+member.Lts-member as member-lts
 use Rattle.judge.proofs.text.atom.Reads as atom-reads
 use Rattle.fields.proofs.bytes.is_letter.Reads as is-letter-reads
 use Rattle.judge.proofs.text.mark.Reads as mark-reads
-use Rattle.judge.proofs.text.packed_group.Reads as packed-group-reads
+use Rattle.judge.proofs.packed.packed_group.Reads as packed-group-reads
 use Rattle.judge.proofs.text.parts.Reads as parts-reads
 use Rattle.judge.proofs.text.stands.Reads as stands-reads
 use Rattle.judge.proofs.text.+group+member.{statement}

@@ -1,0 +1,154 @@
+// Nodes as numbers, one each: so the reader and the judge of rows hold them, in an array that is lent.
+
+ghost use mathlib.Core.Path.{_≡_};
+ghost use Prim.Native.Nat.{_+_, _*_, _≤_};
+ghost use lib.Dec.{T};
+ghost use lib.ListN.{length};
+ghost use Rattle.model.specs.declared.rule.Kind.the-variants.{Atom, Group};
+ghost use Rattle.fields.specs.Limits.{maxNodes};
+ghost use Rattle.model.specs.Rule.Laws.{used};
+ghost use Rattle.judge.specs.Reading.Buffer.{Holds};
+ghost use Rattle.judge.specs.Packed.{word, nodeOf, plain, optional, isSign, signBy, kindBy, markBy};
+use model::rule::Kind;
+use model::rule::MAX_NODES;
+use model::rule::Mark;
+use model::rule::Node;
+use model::rule::Rule;
+use model::rule::Sign;
+use model::rule::Upper;
+
+// The number of a node that has no mark: its shape is a sign's byte or 0, or 1 or 2 for an atom.
+fn packed(shape: u8, low: u16, high: u16) -> u64
+    ensures { λ r. ⌜ r ≡ word shape low high ⌝ }
+{
+    ((high as u64) * 65536 + (low as u64)) * 256 + (shape as u64)
+}
+
+pub(crate) fn packed_atom(min: u16, max: Upper) -> u64
+    ensures { λ r. ⌜ nodeOf r ≡ plain (Atom min max) ⌝ }
+{
+    match max {
+        Upper::Number(n) => packed(1, min, n),
+        Upper::Unbounded => packed(2, min, 0),
+    }
+}
+
+// `sign` is the byte of a sign, or 0.
+pub(crate) fn packed_group(sign: u8, members: u16) -> u64
+    requires { ⌜ T (isSign sign) ⌝ }
+    ensures { λ r. ⌜ nodeOf r ≡ plain (Group (signBy sign) members) ⌝ }
+{
+    packed(sign, members, 0)
+}
+
+// The number of the same node with `?`.
+pub(crate) fn packed_optional(word: u64) -> u64
+    ensures { λ r. ⌜ nodeOf r ≡ optional (nodeOf word) ⌝ }
+{
+    word / 256 * 256 + 128 + word % 128
+}
+
+fn sign_by(byte: u64) -> Sign
+    ensures { λ r. ⌜ r ≡ signBy byte ⌝ }
+{
+    if byte == 44 {
+        return Sign::Sequence;
+    }
+    if byte == 124 {
+        return Sign::Choice;
+    }
+    if byte == 38 {
+        return Sign::Interleaving;
+    }
+    Sign::None
+}
+
+fn kind_of(shape: u64, low: u16, high: u16) -> Kind
+    ensures { λ r. ⌜ r ≡ kindBy shape low high ⌝ }
+{
+    if shape == 1 {
+        return Kind::Atom {
+            min: low,
+            max: Upper::Number(high),
+        };
+    }
+    if shape == 2 {
+        return Kind::Atom {
+            min: low,
+            max: Upper::Unbounded,
+        };
+    }
+    Kind::Group {
+        sign: sign_by(shape),
+        members: low,
+    }
+}
+
+fn mark_of(bit: u64) -> Mark
+    ensures { λ r. ⌜ r ≡ markBy bit ⌝ }
+{
+    if bit == 0 {
+        Mark::Plain
+    } else {
+        Mark::Optional
+    }
+}
+
+pub(crate) fn unpacked(word: u64) -> Node
+    ensures { λ r. ⌜ r ≡ nodeOf word ⌝ }
+{
+    Node {
+        kind: kind_of(
+            word % 128,
+            (word / 256 % 65536) as u16,
+            (word / 256 / 65536 % 65536) as u16,
+        ),
+        mark: mark_of(word / 128 % 2),
+    }
+}
+
+// The byte of a sign, 0 for none.
+fn byte_of(sign: Sign) -> u8
+    ensures { λ r. ⌜ T (isSign r) × (signBy r ≡ sign) ⌝ }
+{
+    match sign {
+        Sign::None => 0,
+        Sign::Sequence => 44,
+        Sign::Choice => 124,
+        Sign::Interleaving => 38,
+    }
+}
+
+fn packed_kind(kind: Kind) -> u64
+    ensures { λ r. ⌜ nodeOf r ≡ plain kind ⌝ }
+{
+    match kind {
+        Kind::Atom { min, max } => packed_atom(min, max),
+        Kind::Group { sign, members } => packed_group(byte_of(sign), members),
+    }
+}
+
+fn packed_node(node: Node) -> u64
+    ensures { λ r. ⌜ nodeOf r ≡ node ⌝ }
+{
+    let kind = node.kind;
+    let mark = node.mark;
+    match mark {
+        Mark::Plain => packed_kind(kind),
+        Mark::Optional => packed_optional(packed_kind(kind)),
+    }
+}
+
+// The nodes of a rule. Places from len on stay as they were.
+pub(crate) fn pack(rule: Rule, words: &mut [u64; MAX_NODES])
+    requires { ⌜ (rule .len ≤ maxNodes) × (length (now words) ≡ maxNodes) ⌝ }
+    ensures { λ r. ⌜ Holds nodeOf maxNodes (now (words .exit)) (rule .len) (used rule) ⌝ }
+{
+    let len = rule.len;
+    let mut i: usize = 0;
+    while i < len {
+        let node = rule.nodes[i];
+        words[i] = packed_node(node);
+        i += 1;
+    }
+}
