@@ -1,5 +1,7 @@
 -- The reply to a model text and a children text: document 01, "Desk and layers". The model text's refusal comes first, then the children text's.
 pub mod Laws
+pub mod Children
+pub mod Judged
 use mathlib.Core.Path.{_≡_}
 use mathlib.Core.Logic.{_⊎_}
 use mathlib.Core.Bool.{false, cond, _&&_}

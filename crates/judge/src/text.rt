@@ -4,8 +4,9 @@ ghost use mathlib.Core.Path.{_≡_};
 ghost use mathlib.Core.Bool.{true};
 ghost use mathlib.Core.List.{[], _∷_, map, tail};
 ghost use Prim.Native.Nat.{_+_, _*_, _-_, _≤_, _<_, min};
-ghost use lib.ListN.{length, take, getD};
+ghost use lib.ListN.{length, take, getD, replicate};
 ghost use Rattle.fields.specs.Bytes.{isLetter};
+ghost use Rattle.fields.specs.Limits.{maxAtoms, maxNodes};
 ghost use Rattle.model.specs.Fault.{is, nameFrom};
 ghost use Rattle.model.specs.Fault.Ties.{capped};
 ghost use Rattle.model.specs.Rule.{ruleWith};
@@ -16,6 +17,8 @@ ghost use Rattle.model.specs.Syntax.{numberIn};
 ghost use Rattle.model.specs.Syntax.Machine.{opened, here};
 ghost use Rattle.judge.specs.Reading.Walk.{Marking, joins, stackOf, Expecting, Ready, Inside, Member, GroupRead};
 ghost use Rattle.judge.specs.Reading.Atom.{NameRead, AtomRead};
+ghost use Rattle.judge.specs.Reading.Table.{slots};
+ghost use Rattle.judge.specs.Reading.Whole.{WholeRead};
 ghost use Rattle.judge.specs.Reading.Lexeme.{numeralAt, countAt, onwardAt, betweenAt};
 use crate::packed::packed_atom;
 use crate::packed::packed_group;
@@ -73,13 +76,13 @@ pub struct Reading {
 }
 
 // Where the reader stands, and how many nodes and names it has begun.
-struct Cursor {
-    at: usize,
-    nodes: usize,
-    names: usize,
+pub(crate) struct Cursor {
+    pub(crate) at: usize,
+    pub(crate) nodes: usize,
+    pub(crate) names: usize,
 }
 
-enum Got {
+pub(crate) enum Got {
     Past(Cursor),
     Fault(ModelFault, usize),
 }
@@ -98,7 +101,7 @@ enum Counted {
 }
 
 // Is the byte at `at` there, and is it b?
-fn stands(text: &[u8], at: usize, b: u8) -> bool
+pub(crate) fn stands(text: &[u8], at: usize, b: u8) -> bool
     requires { ⌜ 0 < b ⌝ }
     ensures { λ r. ⌜ r ≡ is (now (text .entry)) b at ⌝ }
 {
@@ -110,7 +113,7 @@ fn stands(text: &[u8], at: usize, b: u8) -> bool
 }
 
 // Where the letters, digits and hyphens from `at` on end.
-fn name_end(text: &[u8], at: usize) -> usize
+pub(crate) fn name_end(text: &[u8], at: usize) -> usize
     requires { ⌜ at ≤ length (now text) ⌝ }
     ensures { λ r. ⌜ (r ≡ at + length (nameFrom (now (text .entry)) at)) × (r ≤ length (now (text .entry))) ⌝ }
 {
@@ -479,32 +482,48 @@ fn names_of(words: &[u32; MAX_ATOMS], len: usize) -> Names
     names
 }
 
-pub fn read_model(text: &[u8]) -> Reading
-    ensures { λ r. ⌜ r ≡ reading (now (text .entry)) ⌝ }
+// Reads the whole text into lent arrays, of which the heads hold zeros.
+pub(crate) fn read_whole(
+    text: &[u8],
+    work: &mut [u64; MAX_NODES],
+    names: &mut [u32; MAX_ATOMS],
+    heads: &mut [u8; SLOTS],
+) -> Got
+    requires { ⌜ (length (now work) ≡ maxNodes) × (length (now names) ≡ maxAtoms) × (now heads ≡ replicate slots 0) ⌝ }
+    ensures { λ r. ⌜ WholeRead (now (text .entry)) (now (work .exit)) (now (names .exit), now (heads .exit)) r ⌝ }
 {
     if (text.len() == 0) | (MAX_TEXT < text.len()) {
-        return refused(ModelFault::Size, 0);
+        return Got::Fault(ModelFault::Size, 0);
     }
-    let mut work = [0u64; MAX_NODES];
-    let mut names = [0u32; MAX_ATOMS];
-    let mut heads = [0u8; SLOTS];
     let start = Cursor {
         at: 0,
         nodes: 0,
         names: 0,
     };
-    match member(text, &mut work, &mut names, &mut heads, start, MAX_DEPTH) {
+    match member(text, work, names, heads, start, MAX_DEPTH) {
         Got::Past(past) => {
             let end = past.at;
             if end < text.len() {
-                return refused(ModelFault::Spelling, end);
+                return Got::Fault(ModelFault::Spelling, end);
             }
-            Reading {
-                outcome: Outcome::Read,
-                rule: rule_of(&work, past.nodes),
-                names: names_of(&names, past.names),
-            }
+            Got::Past(past)
         }
+        Got::Fault(f, p) => Got::Fault(f, p),
+    }
+}
+
+pub fn read_model(text: &[u8]) -> Reading
+    ensures { λ r. ⌜ r ≡ reading (now (text .entry)) ⌝ }
+{
+    let mut work = [0u64; MAX_NODES];
+    let mut names = [0u32; MAX_ATOMS];
+    let mut heads = [0u8; SLOTS];
+    match read_whole(text, &mut work, &mut names, &mut heads) {
+        Got::Past(past) => Reading {
+            outcome: Outcome::Read,
+            rule: rule_of(&work, past.nodes),
+            names: names_of(&names, past.names),
+        },
         Got::Fault(f, p) => refused(f, p),
     }
 }

@@ -11,7 +11,8 @@ use Rattle.judge.specs.declared.verdict.Judged.{Judged}
 use Rattle.sessions.specs.Book.{Call, opening, Reply, nothing, Book, book, room, Keeps}
 use Rattle.sessions.specs.Book.Laws.{keeps-once}
 use Rattle.sessions.specs.Session.{Trail, outcome, asked}
-use Rattle.sessions.specs.Session.Table.{Answers as Tried, Asks, outcome-is, asked-is}
+use Rattle.sessions.specs.Refusal.{Tried, Asks}
+use Rattle.sessions.specs.Refusal.Laws.{outcome-is, asked-is}
 use Rattle.sessions.specs.Session.Calls.{World, plays, replyTo, after, replies, shown}
 use Rattle.sessions.specs.Session.Theorem.{agrees-with-book}
 

@@ -1,7 +1,9 @@
 -- What sessions promise. Open Ends first: the theorems, each a citation. Then the definitions; a folder beside a file holds the laws of what the file
 -- defines.
 --   Book       what a list of calls is answered
+--   Refusal    when each refusal of the table stands for a call
 --   Session    what each method of a session does
 pub mod Ends
 pub mod Book
+pub mod Refusal
 pub mod Session

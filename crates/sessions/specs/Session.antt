@@ -1,7 +1,6 @@
 -- What each call of a session answers, and what it leaves: document 01, "Sessions", with refusals 40 and 42 to 45 in the order tried.
 -- The methods of src/session.rt promise just this, of any session and any trail.
 pub mod Laws
-pub mod Table
 pub mod Code
 pub mod Calls
 pub mod Agree
@@ -39,7 +38,7 @@ allFree [] = true
 allFree (x ∷ t) = eqb x free && allFree t
 
 -- 42 does not stand, for so many children and names: no more children than room, no filled place above the names, and every other place free, past
--- the room too (`Session.Laws.intact-tells`)
+-- the room too (`Refusal.Intact`, `Session.Laws.intact-tells`)
 unfoldable pub intact : ℕ → ℕ → Trail → Bool
 intact children named t = leb children (room (length t)) && (upto named (take children t) && allFree (drop children t))
 

@@ -11,9 +11,9 @@ use lib.Seq.{take-suc, take-all, take-length, take-nil, take-append-le, drop-con
 use borrow.Author.Tests.{eqb-true, eqb-false, ltb-true, ltb-false, leb-true, le-leb, lt-leb}
 use Rattle.fields.specs.Tests.{by-test}
 use Rattle.fields.specs.Stack.{drop-back}
-use Rattle.fields.specs.Bytes.{Text, isLetter, isInner, all, isName}
+use Rattle.fields.specs.Bytes.{Text, sameText, isLetter, isInner, all, isName}
 use Rattle.model.specs.Word.{Word}
-use Rattle.model.specs.Syntax.{numberIn}
+use Rattle.model.specs.Syntax.{numberFrom, numberIn}
 use Rattle.fields.specs.Limits.{maxName, maxRow}
 use Rattle.fields.specs.Split.{tab, split, part, partEnd, more, times}
 use Rattle.fields.specs.Split.Laws.{part-at, split-count}
@@ -22,6 +22,7 @@ use Rattle.fields.specs.declared.fault.CueFault.the-variants.{NoName, ManyChild
 use Rattle.fields.specs.declared.children.Children.the-variants.{Count, Refused}
 use Rattle.fields.specs.Children.{childrenOf}
 use Rattle.fields.specs.Children.Laws.{counted}
+use Rattle.judge.specs.Judge.Laws.{upto}
 use Rattle.judge.specs.Named.{rowOf, rowAfter, RowPut}
 
 -- an element more of a list that a loop goes through
@@ -89,3 +90,12 @@ module _ (ns cs : List Text) (old : Word) where
 module _ (cs : List Text) (n : ℕ) where
   pub counted-put : (ns : List Text) (old new : Word) → childrenOf cs ≡ Count n → RowPut ns cs old new → new ≡ rowAfter (Count n) (rowOf ns cs) old
   counted-put ns old new e p = p ∙ ap (λ k. take (length old) (rowOf ns cs) ++ drop k old) (counted cs n e .0)
+
+-- no number is above the names
+number-below : (k : ℕ) (ns : List Text) (x : Text) → numberFrom (suc k) ns x ≤ k + length ns
+number-below k [] x = omega arith
+number-below k (u ∷ ns) x = by-test (sameText u x) (λ e. rw e (omega arith)) (λ e. rw e (omega (arith, number-below (suc k) ns x)))
+
+pub row-upto : (n : ℕ) (ns cs : List Text) → length ns ≤ n → upto n (rowOf ns cs) ≡ true
+row-upto n ns [] h = refl
+row-upto n ns (x ∷ cs) h = rw (le-leb (numberIn ns x) n (omega (arith, number-below 0 ns x)), row-upto n ns cs h)

@@ -23,7 +23,8 @@ use Rattle.sessions.specs.Book.{Call, opening, adding, takingBack, askin
 use Rattle.sessions.specs.Book.Laws.{takes-last}
 use Rattle.sessions.specs.Session.{free, intact, checked, outcome}
 use Rattle.sessions.specs.Session.Calls.{World, plays, replyTo, shown}
-use Rattle.sessions.specs.Session.Laws.{AllFree, intact-tells}
+use Rattle.sessions.specs.Refusal.{AllFree}
+use Rattle.sessions.specs.Session.Laws.{intact-tells}
 
 replicate-free : (n : ℕ) → AllFree (replicate n free)
 replicate-free zero = tt

@@ -18,20 +18,12 @@ use Rattle.model.specs.Rule.Decide.{readable}
 use Rattle.judge.specs.Judge.{Upto}
 use Rattle.judge.specs.Judge.Laws.{upto-tells}
 use Rattle.sessions.specs.Book.{room}
+use Rattle.sessions.specs.Refusal.{AllFree, Intact}
 use Rattle.sessions.specs.Session.{Trail, free, allFree, intact, check, _then_, checked}
-
--- every place is free
-abbrev pub AllFree : Trail → Type 0
-AllFree [] = Unit {0}
-AllFree (x ∷ t) = (x ≡ free) × AllFree t
 
 pub all-free-tells : (t : Trail) → Tells (allFree t) (AllFree t)
 all-free-tells [] = (λ e. tt, λ h. refl)
 all-free-tells (x ∷ t) = tells-and (eqb x free) (allFree t) (eqb-true x free, eq-eqb x free) (all-free-tells t)
-
--- 42 does not stand
-abbrev pub Intact : ℕ → ℕ → Trail → Type 0
-Intact children named t = (children ≤ room (length t)) × Upto named (take children t) × AllFree (drop children t)
 
 pub intact-tells : (children named : ℕ) (t : Trail) → Tells (intact children named t) (Intact children named t)
 unfolding intact

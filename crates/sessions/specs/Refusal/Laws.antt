@@ -1,4 +1,4 @@
--- The table of document 01 for the calls of a session: when each refusal stands, and that a call is refused with the one of the smallest number.
+-- A call is refused exactly as the table says.
 use mathlib.Core.Path.{_≡_, refl, sym, ap, _∙_}
 use mathlib.Core.Logic.{_↔_}
 use mathlib.Core.Bool.{cond}
@@ -25,27 +25,8 @@ use Rattle.model.specs.Rule.Decide.{readable, readable-is, ruleType, type-means
 use Rattle.judge.specs.Judge.{judgeNumber}
 use Rattle.sessions.specs.Book.{Call, opening, adding, takingBack, asking, room}
 use Rattle.sessions.specs.Session.{Trail, intact, _then_, checked, outcome, judgedBy, asked}
-use Rattle.sessions.specs.Session.Laws.{Intact, intact-tells, checked-done}
-
--- every call but opening looks at the session that it is given
-abbrev pub Later : Call → Type 0
-Later (opening r) = ⊥
-Later (adding x) = Unit {0}
-Later takingBack = Unit {0}
-Later asking = Unit {0}
-
--- a refusal that the call tries, and when it stands
-pub data Fault (s : Session) (t : Trail) : Call → JudgeFault → Type 0 where
-  no-rule : {r : Rule} → ¬ Readable r → Fault s t (opening r) NoModel
-  no-model : {q : Call} → Later q → ¬ Readable (s .rule) → Fault s t q NoModel
-  bad-trail : {q : Call} → Later q → ¬ Intact (s .children) (names (s .rule)) t → Fault s t q BadTrail
-  no-name : {x : ℕ} → names (s .rule) < x → Fault s t (adding x) NoName
-  no-room : {x : ℕ} → room (length t) ≤ s .children → Fault s t (adding x) NoRoom
-  no-children : s .children ≡ 0 → Fault s t takingBack NoChildren
-
-abbrev pub Answers : Session → Trail → Call → Outcome → Type 0
-Answers s t q Done = (g : JudgeFault) → ¬ Fault s t q g
-Answers s t q (Refused f) = Fault s t q f × ((g : JudgeFault) → Fault s t q g → judgeNumber f ≤ judgeNumber g)
+use Rattle.sessions.specs.Session.Laws.{intact-tells, checked-done}
+use Rattle.sessions.specs.Refusal.{Intact, Later, Fault, no-rule, no-model, bad-trail, no-name, no-room, no-children, Tried, Asks}
 
 then-no-more : (o : Outcome) → (o then Done) ≡ o
 then-no-more Done = refl
@@ -66,11 +47,11 @@ numbered-is NoRoom = refl
 numbered-is NoChildren = refl
 
 module _ (s : Session) (t : Trail) where
-  pub answers-once : (q : Call) (o p : Outcome) → Answers s t q o → Answers s t q p → o ≡ p
-  answers-once q Done Done h k = refl
-  answers-once q Done (Refused g) h k = absurd (h g (k .0))
-  answers-once q (Refused f) Done h k = absurd (k f (h .0))
-  answers-once q (Refused f) (Refused g) h k =
+  pub tried-once : (q : Call) (o p : Outcome) → Tried s t q o → Tried s t q p → o ≡ p
+  tried-once q Done Done h k = refl
+  tried-once q Done (Refused g) h k = absurd (h g (k .0))
+  tried-once q (Refused f) Done h k = absurd (k f (h .0))
+  tried-once q (Refused f) (Refused g) h k =
       let i = h .1 g (k .0) in
       let j = k .1 f (h .0) in
       let e : judgeNumber f ≡ judgeNumber g = omega arith in
@@ -131,7 +112,7 @@ module _ (s : Session) (t : Trail) where
       askable g (no-model l h) = absurd (h r)
       askable g (bad-trail l h) = absurd (h i)
 
-  opening-answers : (r : Rule) → Answers s t (opening r) (outcome (opening r) s t)
+  opening-answers : (r : Rule) → Tried s t (opening r) (outcome (opening r) s t)
   unfolding outcome
   opening-answers r = by-test (readable r)
       (λ e. rw e (openable r (readable-is r .0 e)))
@@ -139,7 +120,7 @@ module _ (s : Session) (t : Trail) where
 
   -- 40 and 42 come before what else a call tries
   checked-answers : (q : Call) → Later q → (o : Outcome)
-      → (Readable (s .rule) → Intact (s .children) (names (s .rule)) t → Answers s t q o) → Answers s t q (checked s t then o)
+      → (Readable (s .rule) → Intact (s .children) (names (s .rule)) t → Tried s t q o) → Tried s t q (checked s t then o)
   unfolding checked
   checked-answers q l o k =
       by-test (readable (s .rule))
@@ -149,7 +130,7 @@ module _ (s : Session) (t : Trail) where
       (λ f. rw (e, f) (bad-trail l (untold _ (intact-tells (s .children) (names (s .rule)) t) f), above-trail r l)))
       (λ e. rw e (no-model l (untold _ (readable-is (s .rule)) e), above-model))
 
-  pub outcome-answers : (q : Call) → Answers s t q (outcome q s t)
+  pub outcome-answers : (q : Call) → Tried s t q (outcome q s t)
   unfolding outcome
   outcome-answers (opening r) = opening-answers r
   outcome-answers (adding x) = checked-answers (adding x) tt _ (λ r i.
@@ -166,13 +147,8 @@ module _ (s : Session) (t : Trail) where
   outcome-answers asking = rw (then-no-more (checked s t)) at (checked-answers asking tt Done (λ r i. askable r i))
 
   -- a call is refused exactly as the table says
-  pub outcome-is : (q : Call) (o : Outcome) → (outcome q s t ≡ o) ↔ Answers s t q o
-  outcome-is q o = (λ e. rw e at (outcome-answers q), λ h. answers-once q (outcome q s t) o (outcome-answers q) h)
-
--- what asking is answered
-abbrev pub Asks : Session → Trail → Judged → Type 0
-Asks s t (Verdict v) = ((g : JudgeFault) → ¬ Fault s t asking g) × ((A : Ty) × Means (s .rule) A × Says A (take (s .children) t) v)
-Asks s t (RefusedRow f) = Answers s t asking (Refused f)
+  pub outcome-is : (q : Call) (o : Outcome) → (outcome q s t ≡ o) ↔ Tried s t q o
+  outcome-is q o = (λ e. rw e at (outcome-answers q), λ h. tried-once q (outcome q s t) o (outcome-answers q) h)
 
 module _ (s : Session) (t : Trail) where
   asks-once : (a b : Judged) → Asks s t a → Asks s t b → a ≡ b
@@ -181,7 +157,7 @@ module _ (s : Session) (t : Trail) where
       ap Verdict (says-once A (take (s .children) t) u v i (rw e at j))
   asks-once (Verdict u) (RefusedRow g) h k = absurd (h .0 g (k .0))
   asks-once (RefusedRow f) (Verdict v) h k = absurd (k .0 f (h .0))
-  asks-once (RefusedRow f) (RefusedRow g) h k = let e = answers-once s t asking (Refused f) (Refused g) h k in cc
+  asks-once (RefusedRow f) (RefusedRow g) h k = let e = tried-once s t asking (Refused f) (Refused g) h k in cc
 
   asked-asks : (o : Outcome) → o ≡ outcome asking s t → Asks s t (judgedBy o s t)
   unfolding outcome

@@ -1,0 +1,55 @@
+-- The table of document 01 for the calls of a session: when each refusal stands, and which one a call is answered.
+pub mod Laws
+use mathlib.Core.Path.{_≡_}
+use mathlib.Core.List.{[], _∷_}
+use Prim.Native.Nat.{ℕ, _≤_, _<_}
+use lib.ListN.{length, take, drop}
+use Rattle.model.specs.declared.rule.Rule.{Rule}
+use Rattle.model.specs.Types.{Ty}
+use Rattle.model.specs.Verdict.{Says}
+use Rattle.model.specs.Rule.{Readable, Means, names}
+use Rattle.judge.specs.declared.fault.JudgeFault.{JudgeFault}
+use Rattle.judge.specs.declared.fault.JudgeFault.the-variants.{NoModel, BadTrail, NoName, NoRoom, NoChildren}
+use Rattle.judge.specs.declared.verdict.Judged.{Judged}
+use Rattle.judge.specs.declared.verdict.Judged.the-variants.{Verdict, Refused as RefusedRow}
+use Rattle.judge.specs.Judge.{Upto, judgeNumber}
+use Rattle.sessions.specs.declared.session.Outcome.{Outcome}
+use Rattle.sessions.specs.declared.session.Outcome.the-variants.{Done, Refused}
+use Rattle.sessions.specs.declared.session.Session.{Session}
+use Rattle.sessions.specs.Book.{Call, opening, adding, takingBack, asking, room}
+use Rattle.sessions.specs.Session.{Trail, free}
+
+-- every place is free
+abbrev pub AllFree : Trail → Type 0
+AllFree [] = Unit {0}
+AllFree (x ∷ t) = (x ≡ free) × AllFree t
+
+-- 42 does not stand: no more children than room, no filled place above the names, every other place free
+abbrev pub Intact : ℕ → ℕ → Trail → Type 0
+Intact children named t = (children ≤ room (length t)) × Upto named (take children t) × AllFree (drop children t)
+
+-- every call but opening looks at the session that it is given
+abbrev pub Later : Call → Type 0
+Later (opening r) = ⊥
+Later (adding x) = Unit {0}
+Later takingBack = Unit {0}
+Later asking = Unit {0}
+
+-- a refusal that the call tries, and when it stands
+pub data Fault (s : Session) (t : Trail) : Call → JudgeFault → Type 0 where
+  no-rule : {r : Rule} → ¬ Readable r → Fault s t (opening r) NoModel
+  no-model : {q : Call} → Later q → ¬ Readable (s .rule) → Fault s t q NoModel
+  bad-trail : {q : Call} → Later q → ¬ Intact (s .children) (names (s .rule)) t → Fault s t q BadTrail
+  no-name : {x : ℕ} → names (s .rule) < x → Fault s t (adding x) NoName
+  no-room : {x : ℕ} → room (length t) ≤ s .children → Fault s t (adding x) NoRoom
+  no-children : s .children ≡ 0 → Fault s t takingBack NoChildren
+
+-- what a call is answered: the refusal of the smallest number that stands, if one does
+abbrev pub Tried : Session → Trail → Call → Outcome → Type 0
+Tried s t q Done = (g : JudgeFault) → ¬ Fault s t q g
+Tried s t q (Refused f) = Fault s t q f × ((g : JudgeFault) → Fault s t q g → judgeNumber f ≤ judgeNumber g)
+
+-- what asking is answered: else the verdict by the meaning
+abbrev pub Asks : Session → Trail → Judged → Type 0
+Asks s t (Verdict v) = ((g : JudgeFault) → ¬ Fault s t asking g) × ((A : Ty) × Means (s .rule) A × Says A (take (s .children) t) v)
+Asks s t (RefusedRow f) = Tried s t asking (Refused f)
