@@ -35,19 +35,12 @@ use Rattle.fields.specs.Children.{cueNumber, allNames, childrenOf}
 use Rattle.desk.specs.declared.child.Located.{Located}
 use Rattle.desk.specs.declared.child.Located.the-variants.{InModel, InChildren, NoModel, NoChildren}
 use Rattle.judge.specs.Reply.{childrenIn, maxChildrenText, child, Reply, noModel, noChildren, good, childrenBy}
+use Rattle.judge.specs.Reply.Children.Laws.{children-some}
+use Rattle.judge.specs.Reply.Judged.{childrenGive}
 use Rattle.desk.specs.Desk.{replyNumber}
 use Rattle.desk.specs.Child.Names.{names-many, place-in}
 use Rattle.desk.specs.Child.Laws.{name-here, finds-exactly}
 use Rattle.desk.specs.Child.{Part, ofModel, ofChildren, childName, startIn, Finds, partBy, partIn, found, childRefusal, partOf, childPart, located}
-
--- by what the children are
-abbrev kidsBy : {A : Type 0} → Children → A → Reply A
-kidsBy (Count n) v = good v
-kidsBy (Refused f) v = noChildren f
-
-children-some : (c : Text) → 0 < length c → childrenIn c ≡ split tab c
-children-some [] h = absurd (omega arith)
-children-some (b ∷ c) h = refl
 
 -- what the code finds of the children
 abbrev askedCount : Children → ℕ → Children
@@ -70,7 +63,7 @@ module _ (c : Text) (k : ℕ) where
       go [] h = by-test (leb 1 k) (λ e. rw (e, lt-leb k 0 (omega (arith, leb-true 1 k e)))) (λ e. rw e)
       go (b ∷ y) h = absurd (omega arith)
 
-  module _ (size : length c ≤ maxChildrenText) (some : 0 < length c) (x : Children) (e : x ≡ childrenOf (split tab c)) where
+  module _ (size : length c ≤ maxChildrenText) (some : length c ≡ 0 → ⊥) (x : Children) (e : x ≡ childrenOf (split tab c)) where
     asked-some : askedOf c k ≡ askedCount x k
     unfolding askedOf
     asked-some = rw (le-ltb maxChildrenText (length c) size, children-some c some, ← e)
@@ -84,7 +77,7 @@ module _ (c : Text) (k : ℕ) where
     pub asked-bad : (f : CueFault) → x ≡ Refused f → Refused f ≡ askedOf c k
     asked-bad f d = sym (asked-some ∙ rw d)
 
-  kids-asked : {A : Type 0} (v : A) → childrenBy (child k) c v ≡ kidsBy (askedOf c k) v
+  kids-asked : {A : Type 0} (v : A) → childrenBy (child k) c v ≡ childrenGive (askedOf c k) v
   unfolding askedOf
   kids-asked v =
       by-test (ltb maxChildrenText (length c)) (λ e. rw e)
@@ -95,7 +88,7 @@ module _ (c : Text) (k : ℕ) where
       (λ n. rw (e, n)))
 
   -- a child that is asked for and counted is there
-  pub asked-within : (n : ℕ) → askedOf c k ≡ Count n → (1 ≤ k) × (k ≤ length (split tab c)) × (length c ≤ maxChildrenText) × (0 < length c)
+  pub asked-within : (n : ℕ) → askedOf c k ≡ Count n → (1 ≤ k) × (k ≤ length (split tab c)) × (length c ≤ maxChildrenText) × (length c ≡ 0 → ⊥)
   unfolding askedOf
   asked-within n e =
       by-test (ltb maxChildrenText (length c))
@@ -113,9 +106,9 @@ module _ (c : Text) (k : ℕ) where
           (λ b. let z : Refused ManyChildren ≡ Count n = rw (a, b) at d in let o : _≡_ {A = ℕ} 0 1 = cc in absurd (omega arith)))
           (λ a. let z : Refused NoName ≡ Count n = rw a at d in let o : _≡_ {A = ℕ} 0 1 = cc in absurd (omega arith))
 
-      go : (y : Text) → length y ≤ maxChildrenText → askedCount (childrenOf (childrenIn y)) k ≡ Count n → (1 ≤ k) × (k ≤ length (split tab y)) × (length y ≤ maxChildrenText) × (0 < length y)
+      go : (y : Text) → length y ≤ maxChildrenText → askedCount (childrenOf (childrenIn y)) k ≡ Count n → (1 ≤ k) × (k ≤ length (split tab y)) × (length y ≤ maxChildrenText) × (length y ≡ 0 → ⊥)
       go [] l d = let h = there [] d in absurd (omega (arith, h .0, h .1))
-      go (b ∷ y) l d = let h = there (split tab (b ∷ y)) d in (h .0, h .1, l, omega arith)
+      go (b ∷ y) l d = let h = there (split tab (b ∷ y)) d in (h .0, h .1, l, λ z. omega arith)
 
 -- A walk over the children stands where child i begins, counted from 0.
 pub record Reached (c : Text) (i at : ℕ) : Type 0 where
@@ -219,7 +212,7 @@ module _ (m c : Text) (k : ℕ) where
           let p = place-in m n (omega (arith, f .0, names-many m t h)) in
           rw (p, f .2)
 
-      go : (x : Children) → locatedBy m (namesOf m) c k x ≡ located (kidsBy x (partIn m c k t))
+      go : (x : Children) → locatedBy m (namesOf m) c k x ≡ located (childrenGive x (partIn m c k t))
       go (Count n) = rw (names-are m t h) (by-number (numberIn (names t) (childName c k)) refl)
       go (Refused f) = refl
 

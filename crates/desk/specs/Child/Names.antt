@@ -5,14 +5,13 @@ use Prim.Native.Nat.{ℕ, _<_}
 use native.Mathlib.Omega.{arith}
 use lib.Dec.{T}
 use lib.ListN.{length, getD, length-map, List·getD-append}
-use lib.Seq.{take-append-seam}
 use Rattle.fields.specs.Bytes.{Text}
 use Rattle.model.specs.Syntax.{Syntax, names}
 use Rattle.model.specs.Fault.{nameAt, nameFrom, Answers, accepted}
 use Rattle.model.specs.Fault.Ties.{places, in-places}
-use Rattle.judge.specs.Reading.{namePlace, noPlace, namesOf, partAt}
-use Rattle.judge.specs.Reading.Laws.{names-are}
-use Rattle.judge.specs.Reading.Search.{mapped-at, in-list, parts-named}
+use Rattle.judge.specs.Reading.{namePlace, noPlace, namesOf}
+use Rattle.judge.specs.Reading.Laws.{parts-begin, names-are}
+use Rattle.judge.specs.Reading.Search.{mapped-at, in-list}
 
 pub place-in : (x : Text) (i : ℕ) → i < length (places x (length x)) → getD (namesOf x .places) i noPlace ≡ namePlace x (getD (places x (length x)) i 0)
 place-in x i h =
@@ -21,8 +20,7 @@ place-in x i h =
 
 module _ (x : Text) (t : Syntax) (a : Answers x (accepted t)) where
   names-placed : map (nameFrom x) (places x (length x)) ≡ names t
-  names-placed =
-      sym (ap (map (partAt x)) (take-append-seam (map (namePlace x) (places x (length x))) _) ∙ parts-named x (places x (length x))) ∙ names-are x t a
+  names-placed = sym (parts-begin x) ∙ names-are x t a
 
   pub names-many : length (places x (length x)) ≡ length (names t)
   names-many = sym (length-map (places x (length x)) (nameFrom x)) ∙ ap length names-placed
