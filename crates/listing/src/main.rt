@@ -8,13 +8,13 @@ use sheet::number::sheet_number;
 use sheet::sheet::SheetOutcome;
 use sheet::sheet::read_sheet;
 
-fn refuse(which: &[u8], number: u64, line: u64) {
+fn refuse(which: &[u8], number: u32, line: usize) {
     io::write_all(STDOUT_FILENO, b"refused\t");
     io::write_all(STDOUT_FILENO, which);
     io::write_all(STDOUT_FILENO, b"\t");
-    io::print_decimal(STDOUT_FILENO, number);
+    io::print_decimal(STDOUT_FILENO, number as u64);
     io::write_all(STDOUT_FILENO, b"\t");
-    io::print_decimal(STDOUT_FILENO, line);
+    io::print_decimal(STDOUT_FILENO, line as u64);
     io::write_all(STDOUT_FILENO, b"\n");
 }
 
@@ -24,7 +24,7 @@ fn without_cues(sheet: &[u8]) {
     let outcome = read.outcome;
     match outcome {
         SheetOutcome::Read => refuse(b"cues", 60, 0),
-        SheetOutcome::Refused(f, line) => refuse(b"sheet", sheet_number(f) as u64, line as u64),
+        SheetOutcome::Refused(f, line) => refuse(b"sheet", sheet_number(f), line),
     }
 }
 
@@ -34,8 +34,8 @@ fn with_both(sheet: &[u8], cues: &[u8]) {
         Listed::Written(n) => {
             io::write_all(STDOUT_FILENO, &buffer[0..n]);
         }
-        Listed::SheetRefused(f, line) => refuse(b"sheet", sheet_number(f) as u64, line as u64),
-        Listed::CueRefused(f, line) => refuse(b"cues", cue_number(f) as u64, line as u64),
+        Listed::SheetRefused(f, line) => refuse(b"sheet", sheet_number(f), line),
+        Listed::CueRefused(f, line) => refuse(b"cues", cue_number(f), line),
         Listed::TooLong => refuse(b"listing", 50, 0),
     }
 }

@@ -13,10 +13,10 @@ fn write(text: &[u8]) {
     io::write_all(1, text);
 }
 
-fn write_refusal(which: &[u8], number: u64, line: usize) {
+fn write_refusal(which: &[u8], number: u32, line: usize) {
     write(which);
     write(b"\t");
-    io::print_decimal(1, number);
+    io::print_decimal(1, number as u64);
     write(b"\t");
     io::print_decimal(1, line as u64);
     write(b"\n");
@@ -31,8 +31,8 @@ fn answer(what: &[u8], sheet: &[u8], cues: &[u8], buffer: &mut [u8]) {
             io::print_decimal(1, n as u64);
             write(b"\n");
         }
-        Listed::SheetRefused(f, line) => write_refusal(b"sheet", sheet_number(f) as u64, line),
-        Listed::CueRefused(f, line) => write_refusal(b"cues", cue_number(f) as u64, line),
+        Listed::SheetRefused(f, line) => write_refusal(b"sheet", sheet_number(f), line),
+        Listed::CueRefused(f, line) => write_refusal(b"cues", cue_number(f), line),
         Listed::TooLong => write_refusal(b"listing", 50, 0),
     }
 }
