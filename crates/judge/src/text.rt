@@ -394,8 +394,12 @@ fn group(
                 }
                 let b = text[p];
                 members += 1;
-                next = past;
-                next.at = p + 1;
+                let behind = p + 1;
+                next = Cursor {
+                    at: behind,
+                    nodes: past.nodes,
+                    names: past.names,
+                };
                 if b == b')' {
                     work[node] = packed_group(sign, members);
                     return Got::Past(next);

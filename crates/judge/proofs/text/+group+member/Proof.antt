@@ -106,8 +106,8 @@ group-add-members : (t : ℕ) → group-lts.Need-add-members (group-claims t) (g
 group-add-members t c =
     omega (arith, members-fit (c .before .before .before .before .before .before .before .before .before .loop .inv))
 
-group-add-next-2 : (t : ℕ) → group-lts.Need-add-next-2 (group-claims t) (group-at t) group.Post group-Inv-loop group-μ-loop
-group-add-next-2 t c =
+group-add-behind : (t : ℕ) → group-lts.Need-add-behind (group-claims t) (group-at t) group.Post group-Inv-loop group-μ-loop
+group-add-behind t c =
     let i = c .before .before .before .before .before .before .before .before .before .loop .inv in
     let m = c .before .before .before .before .before .member in
     let p = c .before .before .before .past .given in
@@ -276,7 +276,7 @@ pub +group+member-spec : {M : Type 1} → statement M
     (group-returns-2 t)
     (group-shared-slice-read-b t)
     (group-add-members t)
-    (group-add-next-2 t)
+    (group-add-behind t)
     (group-packed-group-requires t)
     (group-mul-work t)
     (group-element-write-work t)
