@@ -255,8 +255,13 @@ fn root(
     requires { ⌜ (names ≡ atomsIn (map nodeOf (take len (now words)))) × (names ≤ maxAtoms) ⌝ }
     ensures { λ r. ⌜ r ≡ rootAttribute (ruleIn (now (words .entry)) len) children (λ k. getD seen k (unseen 0)) ⌝ }
 {
-    let none = empty(children);
-    let mut stack = [none; MAX_NODES];
+    let blank = Attribute {
+        first: 0,
+        behind: 0,
+        done: false,
+        alive: false,
+    };
+    let mut stack = [blank; MAX_NODES];
     let mut top = MAX_NODES;
     let mut name = names;
     let mut i = len;
@@ -278,7 +283,11 @@ fn root(
         top = end - 1;
         stack[top] = marked(children, mark, x);
     }
-    if top < MAX_NODES { stack[top] } else { none }
+    if top < MAX_NODES {
+        stack[top]
+    } else {
+        empty(children)
+    }
 }
 
 // A row with a foreign name is dead.

@@ -18,26 +18,23 @@ abbrev nodes : List ℕ → ℕ → List Node
 nodes words n = map nodeOf (take n words)
 
 abbrev Inv-loop2 : tie.InvT-loop2
-Inv-loop2 words len names children seen none stack top name i kind mark end x₀ at₀ x at =
+Inv-loop2 words len names children seen stack top name i kind mark end x₀ at₀ x at =
     (top ≤ at) × (at ≤ end) × (x ≡ partAttribute children kind (getD seen name (unseen 0)) (take (at - top) (drop top stack)))
 
 abbrev μ-loop2 : tie.MeasureT-loop2
-μ-loop2 words len names children seen none stack top name i kind mark end x₀ at₀ x at = end - at
+μ-loop2 words len names children seen stack top name i kind mark end x₀ at₀ x at = end - at
 
 abbrev Inv-loop : tie.InvT-loop
-Inv-loop words len names children seen none stack₀ top₀ name₀ i₀ stack top name i =
+Inv-loop words len names children seen stack₀ top₀ name₀ i₀ stack top name i =
     (i ≤ len) × (i ≤ top) × (top ≤ 128) × (name ≤ 64) × Passed children (λ k. getD seen k (unseen 0)) (nodes words len) i stack top name
 
 abbrev μ-loop : tie.MeasureT-loop
-μ-loop words len names children seen none stack₀ top₀ name₀ i₀ stack top name i = i
-
-empty-requires : tie.Need-empty-requires Inv-loop2 μ-loop2 Inv-loop μ-loop
-empty-requires c κs = search needs
+μ-loop words len names children seen stack₀ top₀ name₀ i₀ stack top name i = i
 
 loop-holds : tie.Need-loop-holds Inv-loop2 μ-loop2 Inv-loop μ-loop
 loop-holds c =
-    let a = c .before .args in
-    let p = c .before .pre in (
+    let a = c .args in
+    let p = c .pre in (
       search needs,
       search needs,
       search needs,
@@ -112,7 +109,7 @@ sub-name : tie.Need-sub-name Inv-loop2 μ-loop2 Inv-loop μ-loop
 sub-name c =
     let q = c .before .before .before .before .before .before .before in
     let v = q .before .before .before .loop in
-    let s = q .before .before .before .before .before in
+    let s = q .before .before .before .before in
     let h = holds-own nodeOf 128 (s .args .words .now) (s .args .len) (s .pre .0 .1) (s .pre .0 .0) in
     omega (arith, name-turn (s .args .words .now) (s .args .len) _ h (v .i) _ (omega arith) (omega arith) (q .unpacked .ensures) (v .name) _ (v .inv .4 .name-is) (c .atoms-of .ensures .0))
 
@@ -136,7 +133,7 @@ loop-again c =
     let s = c .before .before .before .before .before .before in
     let q = s .before .before in
     let v = q .before .before .before .loop in
-    let b = q .before .before .before .before .before in
+    let b = q .before .before .before .before in
     let a = b .args in
     let u = c .before .before .before .loop2 in
     let h = holds-own nodeOf 128 (a .words .now) (a .len) (b .pre .0 .1) (b .pre .0 .0) in
@@ -157,17 +154,20 @@ mul-result c = search needs
 array-copy-out-result : tie.Need-array-copy-out-result Inv-loop2 μ-loop2 Inv-loop μ-loop
 array-copy-out-result c = search needs
 
+empty-requires : tie.Need-empty-requires Inv-loop2 μ-loop2 Inv-loop μ-loop
+empty-requires c κs = search needs
+
 returns : tie.Need-returns Inv-loop2 μ-loop2 Inv-loop μ-loop
 returns c =
     let v = c .before .before .before .loop in
-    let a = c .before .before .before .before .before .args in
+    let a = c .before .before .before .before .args in
     pass-top (a .children) (λ k. getD (a .t5) k (unseen 0)) (nodes (a .words .now) (a .len)) (v .i) (v .stack) (v .top) (v .name) (omega arith) (v .inv .4) _ (omega arith)
 
 returns-2 : tie.Need-returns-2 Inv-loop2 μ-loop2 Inv-loop μ-loop
 returns-2 c =
-    let v = c .before .before .loop in
+    let v = c .before .before .before .loop in
     let a = c .before .before .before .before .args in
-    c .before .before .before .empty .ensures
+    c .empty .ensures
     ∙ pass-empty (a .children) (λ k. getD (a .t5) k (unseen 0)) (nodes (a .words .now) (a .len)) (v .i) (v .stack) (v .top) (v .name) (omega arith) (v .inv .4) (omega arith)
 
 pub root-spec : {M : Type 1} → statement M
@@ -178,7 +178,6 @@ root-spec =
     μ-loop2
     Inv-loop
     μ-loop
-    empty-requires
     loop-holds
     sub-i
     mul-unpacked
@@ -208,5 +207,6 @@ root-spec =
     loop-again
     mul-result
     array-copy-out-result
+    empty-requires
     returns
     returns-2)
