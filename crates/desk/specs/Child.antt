@@ -1,5 +1,7 @@
 -- Where the name of a child stands: document 01, "Desk and layers". Child k counts from 1.
+pub mod Names
 pub mod Laws
+pub mod Code
 use mathlib.Core.Path.{_≡_}
 use mathlib.Core.List.{List, [], _∷_}
 use Prim.Native.Nat.{ℕ, zero, suc, _+_, _-_}
@@ -11,7 +13,8 @@ use Rattle.model.specs.Fault.{nameAt, nameFrom}
 use Rattle.model.specs.Fault.Ties.{places}
 use Rattle.desk.specs.declared.child.Located.{Located}
 use Rattle.desk.specs.declared.child.Located.the-variants.{InModel, InChildren, NoModel, NoChildren}
-use Rattle.desk.specs.Desk.{childrenIn, child, Reply, noModel, noChildren, good, replyNumber, Replies, reply}
+use Rattle.judge.specs.Reply.{childrenIn, child, Reply, noModel, noChildren, good, Replies, reply}
+use Rattle.desk.specs.Desk.{replyNumber}
 
 -- a part of one of the two texts: its first place and its length
 pub data Part : Type 0 where

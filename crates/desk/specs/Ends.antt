@@ -4,13 +4,14 @@ use mathlib.Core.Logic.{_↔_}
 use Prim.Native.Nat.{ℕ}
 use Rattle.model.specs.declared.verdict.Verdict.{Verdict}
 use Rattle.fields.specs.Bytes.{Text}
-use Rattle.desk.specs.Desk.{Reply, replyNumber, verdictNumber, DeskJudges, deskAnswer}
+use Rattle.judge.specs.Reply.{Reply, ChildrenJudges}
+use Rattle.desk.specs.Desk.{replyNumber, verdictNumber, deskAnswer}
 use Rattle.desk.specs.Desk.Laws.{answer-exactly}
 use Rattle.desk.specs.Child.{Part, Finds, found}
 use Rattle.desk.specs.Child.Laws.{finds-exactly}
 
 -- `desk_judge`: the number is that of the one reply that the meaning gives
-pub desk-exactly : (m c : Text) (r : Reply Verdict) → (deskAnswer m c ≡ replyNumber verdictNumber r) ↔ DeskJudges m c r
+pub desk-exactly : (m c : Text) (r : Reply Verdict) → (deskAnswer m c ≡ replyNumber verdictNumber r) ↔ ChildrenJudges m c r
 desk-exactly = answer-exactly
 
 -- `child` and `child_refusal`: one reply, and only one

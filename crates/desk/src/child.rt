@@ -4,15 +4,14 @@ ghost use mathlib.Core.Path.{_≡_};
 ghost use Prim.Native.Nat.{_+_, _-_, _≤_, _<_};
 ghost use lib.ListN.{length};
 ghost use Rattle.fields.specs.Split.{tab, split};
-ghost use Rattle.desk.specs.Desk.{maxChildrenText};
+ghost use Rattle.judge.specs.Reply.{maxChildrenText};
 ghost use Rattle.desk.specs.Child.{startIn, found, located, childPart, childRefusal, textOf, startOf, bytesOf};
-ghost use Rattle.desk.specs.Child.Laws.{Reached, askedOf, locatedIn, locatedRead};
-use crate::answer::MAX_CHILDREN_TEXT;
-use crate::answer::cue_number;
-use crate::answer::model_number;
+ghost use Rattle.desk.specs.Child.Code.{Reached, askedOf, locatedIn, locatedRead};
 use fields::children::Children;
 use fields::children::count_children;
 use fields::fault::CueFault;
+use fields::fault::cue_number;
+use fields::limits::MAX_FILE;
 use fields::split::TAB;
 use fields::split::part_end;
 use judge::text::Names;
@@ -20,9 +19,10 @@ use judge::text::Outcome;
 use judge::text::number_of;
 use judge::text::read_model;
 use model::fault::ModelFault;
+use model::fault::model_number;
 
 // A first place and a length, in the model text or in the children text; or the refusal.
-pub enum Located {
+enum Located {
     InModel(usize, usize),
     InChildren(usize, usize),
     NoModel(ModelFault),
@@ -34,7 +34,7 @@ fn asked(children: &[u8], k: usize) -> Children
     ensures { λ r. ⌜ r ≡ askedOf (now (children .entry)) k ⌝ }
 {
     let size = children.len();
-    if MAX_CHILDREN_TEXT < size {
+    if MAX_FILE < size {
         return Children::Refused(CueFault::LongFile);
     }
     if size == 0 {

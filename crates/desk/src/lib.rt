@@ -2,5 +2,3 @@
 
 pub mod answer;
 pub mod child;
-mod row;
-mod table;

@@ -1,47 +1,25 @@
--- Every child asked for has one reply, and `found` computes it; and what the code sees on the way.
+-- Every child asked for has one reply, and `found` computes it.
 use mathlib.Core.Path.{_≡_, refl, sym, ap, subst, _∙_}
-use mathlib.Core.Logic.{_↔_, inl, inr, by-cases}
-use mathlib.Core.Bool.{true, false, cond, _&&_}
-use mathlib.Core.List.{List, [], _∷_, head-eq-of-cons-eq, tail-eq-of-cons-eq}
+use mathlib.Core.Logic.{_↔_, by-cases}
+use mathlib.Core.Bool.{true}
+use mathlib.Core.List.{List, [], _∷_}
 use Prim.Native.Nat.{ℕ, zero, suc, _+_, _-_, _≤_, _<_}
 use native.Mathlib.Decide.{decLt}
-use native.Mathlib.Numerals.{add-one}
 use native.Mathlib.Omega.{arith}
-use lib.Dec.{T, leb, ltb}
-use lib.ListN.{length, take, drop, getD, length-drop, length-take, length-append}
-use lib.Seq.{drop-cons}
-use borrow.Author.Tests.{leb-true, lt-leb, le-ltb, lt-ltb, ltb-true, ltb-false}
+use lib.Dec.{T}
+use lib.ListN.{length, getD}
 use Rattle.fields.specs.Tests.{by-test}
-use Rattle.model.specs.declared.fault.ModelFault.{ModelFault}
 use Rattle.model.specs.declared.fault.ModelFault.the-variants.{Repeated}
-use Rattle.judge.specs.declared.text.Names.{Names}
-use Rattle.judge.specs.declared.text.Outcome.the-variants.{Read, Refused as Unread}
-use Rattle.judge.specs.declared.text.Reading.{Reading}
 use Rattle.fields.specs.Bytes.{Text, sameText}
 use Rattle.fields.specs.Bytes.Laws.{same-text}
 use Rattle.model.specs.Syntax.{Syntax, text, names, numberFrom, numberIn}
-use Rattle.model.specs.Fault.{nameAt, nameFrom, tally, modelNumber, Answer, Answers, refused, accepted}
-use Rattle.model.specs.Fault.Answered.{answer, answered, name-inside}
+use Rattle.model.specs.Fault.{nameAt, nameFrom, tally, Answers, accepted}
 use Rattle.model.specs.Fault.Ties.{places}
 use Rattle.model.specs.Accept.Starts.{name-at}
-use Rattle.judge.specs.Reading.{noPlace, namesOf, readingBy, reading, partsOf}
-use Rattle.judge.specs.Reading.Laws.{names-are}
-use Rattle.judge.specs.Reading.Search.{name-fits}
-use Rattle.fields.specs.Limits.{maxRow}
-use Rattle.fields.specs.declared.fault.CueFault.{CueFault}
-use Rattle.fields.specs.declared.fault.CueFault.the-variants.{LongFile, NoName, ManyChildren, NoChild}
-use Rattle.fields.specs.declared.children.Children.{Children}
-use Rattle.fields.specs.declared.children.Children.the-variants.{Count, Refused}
-use Rattle.fields.specs.Split.{tab, split, part, partEnd, more}
-use Rattle.fields.specs.Split.Laws.{joined, joined-split, part-at, end-within}
-use Rattle.fields.specs.Children.{cueNumber, allNames, childrenOf}
-use Rattle.desk.specs.declared.child.Located.{Located}
-use Rattle.desk.specs.declared.child.Located.the-variants.{InModel, InChildren, NoModel, NoChildren}
-use Rattle.desk.specs.Desk.{childrenIn, maxChildrenText, child, Reply, noModel, noChildren, good, replyNumber, childrenBy}
-use Rattle.desk.specs.Desk.Laws.{replies-exactly}
-use Rattle.desk.specs.Names.{names-many, begins-at, name-is}
-use Rattle.desk.specs.Sound.{kidsBy, place-in, children-some}
-use Rattle.desk.specs.Child.{Part, ofModel, ofChildren, childName, startIn, Stands, Finds, partBy, partIn, found, childRefusal, partOf, childPart, located}
+use Rattle.judge.specs.Reply.{child, Reply}
+use Rattle.judge.specs.Reply.Laws.{replies-exactly}
+use Rattle.desk.specs.Child.Names.{begins-at, name-is}
+use Rattle.desk.specs.Child.{Part, ofModel, ofChildren, childName, Stands, Finds, partBy, partIn, found}
 
 -- the number of a name: of the first that is the same
 number-found : (k : ℕ) (ns : List Text) (x : Text) (n : ℕ) → numberFrom (suc k) ns x ≡ suc n → (k ≤ n) × (n < k + length ns) × (getD ns (n - k) [] ≡ x)
@@ -63,7 +41,7 @@ number-none k (u ∷ ns) x (suc i) e l d =
 
 -- the function and what it means agree
 module _ (m c : Text) (k : ℕ) (t : Syntax) (h : Answers m (accepted t)) where
-  name-here : (n : ℕ) → numberIn (names t) (childName c k) ≡ suc n
+  pub name-here : (n : ℕ) → numberIn (names t) (childName c k) ≡ suc n
       → (n < length (names t)) × T (nameAt m (getD (places m (length m)) n 0)) × (nameFrom m (getD (places m (length m)) n 0) ≡ childName c k)
   name-here n e =
       let f = number-found 0 (names t) (childName c k) n e in
@@ -103,259 +81,3 @@ module _ (m c : Text) (k : ℕ) (t : Syntax) (h : Answers m (accepted t)) where
 pub finds-exactly : (m c : Text) (k : ℕ) (r : Reply Part) → (found m c k ≡ r) ↔ Finds m c k r
 unfolding found
 finds-exactly m c k = replies-exactly (child k) (partIn m c k) (Stands m c k) m c (λ t h g v. agrees m c k t h v)
-
--- what the code finds of the children
-abbrev askedCount : Children → ℕ → Children
-askedCount (Count n) k = cond (leb 1 k && leb k n) (Count n) (Refused NoChild)
-askedCount (Refused f) k = Refused f
-
-unfoldable pub askedOf : Text → ℕ → Children
-askedOf c k = cond (ltb maxChildrenText (length c)) (Refused LongFile) (askedCount (childrenOf (childrenIn c)) k)
-
-module _ (c : Text) (k : ℕ) where
-  pub asked-long : maxChildrenText < length c → Refused LongFile ≡ askedOf c k
-  unfolding askedOf
-  asked-long h = rw (lt-ltb maxChildrenText (length c) h)
-
-  pub asked-none : length c ≡ 0 → Refused NoChild ≡ askedOf c k
-  unfolding askedOf
-  asked-none h = rw (le-ltb maxChildrenText (length c) (omega arith)) (go c h)
-    where
-      go : (y : Text) → length y ≡ 0 → Refused NoChild ≡ askedCount (childrenOf (childrenIn y)) k
-      go [] h = by-test (leb 1 k) (λ e. rw (e, lt-leb k 0 (omega (arith, leb-true 1 k e)))) (λ e. rw e)
-      go (b ∷ y) h = absurd (omega arith)
-
-  module _ (size : length c ≤ maxChildrenText) (some : 0 < length c) (x : Children) (e : x ≡ childrenOf (split tab c)) where
-    asked-some : askedOf c k ≡ askedCount x k
-    unfolding askedOf
-    asked-some = rw (le-ltb maxChildrenText (length c) size, children-some c some, ← e)
-
-    pub asked-there : (n : ℕ) → x ≡ Count n → leb 1 k && leb k n ≡ true → Count n ≡ askedOf c k
-    asked-there n d t = sym (asked-some ∙ rw (d, t))
-
-    pub asked-missing : (n : ℕ) → x ≡ Count n → leb 1 k && leb k n ≡ false → Refused NoChild ≡ askedOf c k
-    asked-missing n d t = sym (asked-some ∙ rw (d, t))
-
-    pub asked-bad : (f : CueFault) → x ≡ Refused f → Refused f ≡ askedOf c k
-    asked-bad f d = sym (asked-some ∙ rw d)
-
-  kids-asked : {A : Type 0} (v : A) → childrenBy (child k) c v ≡ kidsBy (askedOf c k) v
-  unfolding askedOf
-  kids-asked v =
-      by-test (ltb maxChildrenText (length c)) (λ e. rw e)
-      (λ e. by-test (allNames (childrenIn c))
-      (λ n. by-test (leb (length (childrenIn c)) maxRow)
-      (λ l. by-test (leb 1 k && leb k (length (childrenIn c))) (λ t. rw (e, n, l, t)) (λ t. rw (e, n, l, t)))
-      (λ l. rw (e, n, l)))
-      (λ n. rw (e, n)))
-
-  -- a child that is asked for and counted is there
-  pub asked-within : (n : ℕ) → askedOf c k ≡ Count n → (1 ≤ k) × (k ≤ length (split tab c)) × (length c ≤ maxChildrenText) × (0 < length c)
-  unfolding askedOf
-  asked-within n e =
-      by-test (ltb maxChildrenText (length c))
-      (λ t. let z : Refused LongFile ≡ Count n = rw t at e in let o : _≡_ {A = ℕ} 0 1 = cc in absurd (omega arith))
-      (λ t. go c (ltb-false maxChildrenText (length c) t) (rw t at e))
-    where
-      there : (cs : List Text) → askedCount (childrenOf cs) k ≡ Count n → (1 ≤ k) × (k ≤ length cs)
-      there cs d =
-          by-test (allNames cs)
-          (λ a. by-test (leb (length cs) maxRow)
-          (λ b. by-test (leb 1 k)
-          (λ p. by-test (leb k (length cs)) (λ q. (leb-true 1 k p, leb-true k (length cs) q))
-          (λ q. let z : Refused NoChild ≡ Count n = rw (a, b, p, q) at d in let o : _≡_ {A = ℕ} 0 1 = cc in absurd (omega arith)))
-          (λ p. let z : Refused NoChild ≡ Count n = rw (a, b, p) at d in let o : _≡_ {A = ℕ} 0 1 = cc in absurd (omega arith)))
-          (λ b. let z : Refused ManyChildren ≡ Count n = rw (a, b) at d in let o : _≡_ {A = ℕ} 0 1 = cc in absurd (omega arith)))
-          (λ a. let z : Refused NoName ≡ Count n = rw a at d in let o : _≡_ {A = ℕ} 0 1 = cc in absurd (omega arith))
-
-      go : (y : Text) → length y ≤ maxChildrenText → askedCount (childrenOf (childrenIn y)) k ≡ Count n → (1 ≤ k) × (k ≤ length (split tab y)) × (length y ≤ maxChildrenText) × (0 < length y)
-      go [] l d = let h = there [] d in absurd (omega (arith, h .0, h .1))
-      go (b ∷ y) l d = let h = there (split tab (b ∷ y)) d in (h .0, h .1, l, omega arith)
-
--- A walk over the children stands where child i begins, counted from 0.
-pub record Reached (c : Text) (i at : ℕ) : Type 0 where
-  pub at-is : at ≡ startIn (split tab c) i
-  pub within : at ≤ length c
-  pub left : split tab (drop at c) ≡ drop i (split tab c)
-
-pub reached-first : (c : Text) → Reached c 0 0
-reached-first c = record { at-is = go (split tab c); within = omega arith; left = refl }
-  where
-    go : (l : List Text) → 0 ≡ startIn l 0
-    go [] = refl
-    go (p ∷ l) = refl
-
-start-next : (l : List Text) (i : ℕ) → i < length l → startIn l (suc i) ≡ startIn l i + suc (length (getD l i []))
-start-next [] i h = absurd (omega arith)
-start-next (p ∷ l) zero h = go l
-  where
-    go : (l : List Text) → suc (length p) + startIn l 0 ≡ 0 + suc (length p)
-    go [] = omega arith
-    go (q ∷ l) = omega arith
-start-next (p ∷ l) (suc i) h = omega (arith, start-next l i (omega arith))
-
-module _ (c : Text) (i at : ℕ) (r : Reached c i at) (h : i < length (split tab c)) where
-  here-is : (part c at (partEnd c tab at) ≡ getD (split tab c) i []) × (more c tab (partEnd c tab at) ≡ drop (suc i) (split tab c))
-  here-is =
-      let g : part c at (partEnd c tab at) ∷ more c tab (partEnd c tab at) ≡ getD (split tab c) i [] ∷ drop (suc i) (split tab c) = sym (part-at c tab at (r .within)) ∙ r .left ∙ drop-cons (split tab c) i [] h in
-      (head-eq-of-cons-eq g, tail-eq-of-cons-eq g)
-
-  pub reached-name : (e : ℕ) → e ≡ partEnd c tab at → take (e - at) (drop at c) ≡ getD (split tab c) i []
-  reached-name e k = rw k (here-is .0)
-
-  pub reached-bounds : (e : ℕ) → e ≡ partEnd c tab at → (at ≤ e) × (e ≤ length c)
-  reached-bounds e k = (omega (arith, k), rw k (end-within c tab at (r .within)))
-
-  pub reached-long : (e : ℕ) → e ≡ partEnd c tab at → e - at ≡ length (getD (split tab c) i [])
-  reached-long e k =
-      let b = reached-bounds e k in
-      sym (ap length (sym (reached-name e k)) ∙ length-take (e - at) (drop at c) ∙ omega (arith, length-drop at c, b .0, b .1))
-
-  pub reached-next : suc i < length (split tab c) → (e : ℕ) → e ≡ partEnd c tab at → Reached c (i + 1) (e + 1)
-  reached-next l e k =
-      let b = reached-bounds e k in
-      let m = here-is .1 in
-      by-test (ltb e (length c))
-      (λ t. record {
-        at-is = rw (add-one i) (omega (arith, start-next (split tab c) i h, r .at-is, reached-long e k, b .0));
-        within = omega (arith, ltb-true e (length c) t);
-        left = rw (add-one e, add-one i) (rw (← k, t) at m);
-      })
-      (λ t. let z : [] ≡ drop (suc i) (split tab c) = rw (← k, t) at m in
-      absurd (omega (arith, length-drop (suc i) (split tab c), ap length z)))
-
--- what the code makes of a number
-abbrev pub locatedIn : Names → ℕ → ℕ → ℕ → Located
-locatedIn ns zero at len = InChildren at len
-locatedIn ns (suc n) at len = InModel (getD (ns .places) n noPlace .start) (getD (ns .places) n noPlace .len)
-
-pub located-none : (ns : Names) (n at len : ℕ) → n ≡ 0 → InChildren at len ≡ locatedIn ns n at len
-located-none ns n at len e = rw e
-
-pub located-some : (ns : Names) (n at len : ℕ) → (n ≡ 0 → ⊥) → InModel (getD (ns .places) (n - 1) noPlace .start) (getD (ns .places) (n - 1) noPlace .len) ≡ locatedIn ns n at len
-located-some ns zero at len o = absurd (o refl)
-located-some ns (suc n) at len o = let z : suc n - 1 ≡ n = omega arith in rw z
-
-abbrev locatedBy : Text → Names → Text → ℕ → Children → Located
-locatedBy m ns c k (Count n) = locatedIn ns (numberIn (partsOf m ns) (childName c k)) (startIn (childrenIn c) (k - 1)) (length (childName c k))
-locatedBy m ns c k (Refused f) = NoChildren f
-
-unfoldable pub locatedRead : Text → Names → Text → ℕ → Located
-locatedRead m ns c k = locatedBy m ns c k (askedOf c k)
-
-module _ (m : Text) (ns : Names) (c : Text) (k : ℕ) where
-  pub read-missing : (f : CueFault) → askedOf c k ≡ Refused f → NoChildren f ≡ locatedRead m ns c k
-  unfolding locatedRead
-  read-missing f e = rw e
-
-  pub read-there : (n number at len : ℕ) (name : Text) → askedOf c k ≡ Count n → number ≡ numberIn (partsOf m ns) name → name ≡ getD (split tab c) (k - 1) []
-      → at ≡ startIn (split tab c) (k - 1) → len ≡ length (getD (split tab c) (k - 1) []) → locatedIn ns number at len ≡ locatedRead m ns c k
-  unfolding locatedRead
-  read-there n number at len name e p d q l =
-      let s = children-some c (asked-within c k n e .3) in
-      rw (e, s, p, q, l, d)
-
--- no number is above the names
-pub read-below : (k : ℕ) (ns : List Text) (x : Text) → numberFrom (suc k) ns x ≤ k + length ns
-read-below k [] x = omega arith
-read-below k (u ∷ ns) x = by-test (sameText u x) (λ e. rw e (omega arith)) (λ e. rw e (omega (arith, read-below (suc k) ns x)))
-
--- what the code finds is what is meant
-module _ (m c : Text) (k : ℕ) where
-  located-is : (t : Syntax) → Answers m (accepted t) → answer m ≡ accepted t → locatedRead m (namesOf m) c k ≡ located (found m c k)
-  unfolding locatedRead found
-  located-is t h e = rw (e, kids-asked c k (partIn m c k t)) (go (askedOf c k))
-    where
-      by-number : (n : ℕ) → numberIn (names t) (childName c k) ≡ n
-          → locatedIn (namesOf m) n (startIn (childrenIn c) (k - 1)) (length (childName c k)) ≡ located (good (partBy m c k n))
-      by-number zero d = refl
-      by-number (suc n) d =
-          let f = name-here m c k t h n d in
-          let p = place-in m t h n (omega (arith, f .0, names-many m t h)) in
-          rw (p, f .2)
-
-      go : (x : Children) → locatedBy m (namesOf m) c k x ≡ located (kidsBy x (partIn m c k t))
-      go (Count n) = rw (names-are m t h) (by-number (numberIn (names t) (childName c k)) refl)
-      go (Refused f) = refl
-
-  module _ (x : Reading) (e : x ≡ reading m) where
-    pub located-read : x .outcome ≡ Read → locatedRead m (x .names) c k ≡ located (found m c k)
-    located-read = rw e (go (answer m) refl)
-      where
-        go : (a : Answer) → answer m ≡ a → readingBy m a .outcome ≡ Read → locatedRead m (readingBy m a .names) c k ≡ located (found m c k)
-        go (refused f p) d o = let z : _≡_ {A = ℕ} 0 1 = cc in absurd (omega arith)
-        go (accepted t) d o = located-is t (rw d at (answered m)) d
-
-    pub located-unread : (f : ModelFault) (p : ℕ) → x .outcome ≡ Unread f p → NoModel f ≡ located (found m c k)
-    unfolding found
-    located-unread = rw e (go (answer m) refl)
-      where
-        go : (a : Answer) → answer m ≡ a → (f : ModelFault) (p : ℕ) → readingBy m a .outcome ≡ Unread f p → NoModel f ≡ located (found m c k)
-        go (refused g q) d f p o = let z : f ≡ g = cc in rw (d, z)
-        go (accepted t) d f p o = let z : _≡_ {A = ℕ} 0 1 = cc in absurd (omega arith)
-
--- a child lies inside the children text
-start-within : (l : List Text) (i : ℕ) → i < length l → startIn l i + length (getD l i []) ≤ length (joined tab l)
-start-within [] i h = absurd (omega arith)
-start-within (p ∷ []) zero h = omega arith
-start-within (p ∷ []) (suc i) h = absurd (omega arith)
-start-within (p ∷ q ∷ l) zero h = omega (arith, length-append p (tab ∷ joined tab (q ∷ l)))
-start-within (p ∷ q ∷ l) (suc i) h = omega (arith, length-append p (tab ∷ joined tab (q ∷ l)), start-within (q ∷ l) i (omega arith))
-
-child-within : (c : Text) (i : ℕ) → i < length (childrenIn c) → startIn (childrenIn c) i + length (getD (childrenIn c) i []) ≤ length c
-child-within [] i h = absurd (omega arith)
-child-within (b ∷ c) i h = omega (arith, start-within (split tab (b ∷ c)) i h, ap length (joined-split tab (b ∷ c)))
-
--- what the code takes from it: where the part lies, and the number of a refusal
-module _ (m c : Text) (k : ℕ) (x : Located) (e : x ≡ located (found m c k)) where
-  by-found : (P : Reply Part → Type 0) → ((r : Reply Part) → Finds m c k r → x ≡ located r → P r) → P (found m c k)
-  by-found P f = f (found m c k) (finds-exactly m c k (found m c k) .0 refl) e
-
-  pub in-model : (s n : ℕ) → x ≡ InModel s n → (childPart m c k ≡ ofModel s n) × (childRefusal m c k ≡ 0) × (s + n ≤ length m)
-  in-model s n d = by-found (λ r. (partOf r ≡ ofModel s n) × (replyNumber (λ p. 0) r ≡ 0) × (s + n ≤ length m)) go
-    where
-      go : (r : Reply Part) → Finds m c k r → x ≡ located r → (partOf r ≡ ofModel s n) × (replyNumber (λ p. 0) r ≡ 0) × (s + n ≤ length m)
-      go (noModel f) h g = let z : _≡_ {A = ℕ} 0 1 = cc in absurd (omega arith)
-      go (noChildren f) h g = let z : _≡_ {A = ℕ} 0 1 = cc in absurd (omega arith)
-      go (good (ofChildren p l)) h g = let z : _≡_ {A = ℕ} 0 1 = cc in absurd (omega arith)
-      go (good (ofModel p l)) (t, a, b, q) g =
-          let i : p ≡ s = cc in
-          let j : l ≡ n = cc in
-          let w = name-fits m p (omega (arith, name-inside m p (q .0))) in
-          (cc, refl, omega (arith, w, q .2, ap length (q .1)))
-
-  pub in-children : (s n : ℕ) → x ≡ InChildren s n → (childPart m c k ≡ ofChildren s n) × (childRefusal m c k ≡ 0) × (s + n ≤ length c)
-  in-children s n d = by-found (λ r. (partOf r ≡ ofChildren s n) × (replyNumber (λ p. 0) r ≡ 0) × (s + n ≤ length c)) go
-    where
-      go : (r : Reply Part) → Finds m c k r → x ≡ located r → (partOf r ≡ ofChildren s n) × (replyNumber (λ p. 0) r ≡ 0) × (s + n ≤ length c)
-      go (noModel f) h g = let z : _≡_ {A = ℕ} 0 1 = cc in absurd (omega arith)
-      go (noChildren f) h g = let z : _≡_ {A = ℕ} 0 1 = cc in absurd (omega arith)
-      go (good (ofModel p l)) h g = let z : _≡_ {A = ℕ} 0 1 = cc in absurd (omega arith)
-      go (good (ofChildren p l)) (t, a, b, q) g =
-          let i : p ≡ s = cc in
-          let j : l ≡ n = cc in
-          let y : k - 1 < length (childrenIn c) = by-cases (decLt (k - 1) (length (childrenIn c))) (λ o. o) (λ o. absurd (b NoChild (by-cases (decLt 0 k) (λ u. inr (omega arith)) (λ u. inl (omega arith))))) in
-          let w = child-within c (k - 1) y in
-          (cc, refl, omega (arith, w, q .1, q .2))
-
-  pub no-model : (f : ModelFault) → x ≡ NoModel f → (childPart m c k ≡ ofChildren 0 0) × (childRefusal m c k ≡ modelNumber f)
-  no-model f d = by-found (λ r. (partOf r ≡ ofChildren 0 0) × (replyNumber (λ p. 0) r ≡ modelNumber f)) go
-    where
-      go : (r : Reply Part) → Finds m c k r → x ≡ located r → (partOf r ≡ ofChildren 0 0) × (replyNumber (λ p. 0) r ≡ modelNumber f)
-      go (noModel g) h i = let z : g ≡ f = cc in (refl, rw z)
-      go (noChildren g) h i = let z : _≡_ {A = ℕ} 0 1 = cc in absurd (omega arith)
-      go (good (ofModel p l)) h i = let z : _≡_ {A = ℕ} 0 1 = cc in absurd (omega arith)
-      go (good (ofChildren p l)) h i = let z : _≡_ {A = ℕ} 0 1 = cc in absurd (omega arith)
-
-  pub no-children : (f : CueFault) → x ≡ NoChildren f → (childPart m c k ≡ ofChildren 0 0) × (childRefusal m c k ≡ cueNumber f)
-  no-children f d = by-found (λ r. (partOf r ≡ ofChildren 0 0) × (replyNumber (λ p. 0) r ≡ cueNumber f)) go
-    where
-      go : (r : Reply Part) → Finds m c k r → x ≡ located r → (partOf r ≡ ofChildren 0 0) × (replyNumber (λ p. 0) r ≡ cueNumber f)
-      go (noModel g) h i = let z : _≡_ {A = ℕ} 0 1 = cc in absurd (omega arith)
-      go (noChildren g) h i = let z : g ≡ f = cc in (refl, rw z)
-      go (good (ofModel p l)) h i = let z : _≡_ {A = ℕ} 0 1 = cc in absurd (omega arith)
-      go (good (ofChildren p l)) h i = let z : _≡_ {A = ℕ} 0 1 = cc in absurd (omega arith)
-
--- a part by its end is the part by its length
-pub part-sized : (x : Text) (s n : ℕ) → take (s + n - s) (drop s x) ≡ take n (drop s x)
-part-sized x s n = let e : s + n - s ≡ n = omega arith in ap (λ j. take j (drop s x)) e

@@ -1,7 +1,7 @@
 -- A reply is known by its number.
-use mathlib.Core.Path.{_≡_, refl, ap}
+use mathlib.Core.Path.{_≡_, refl, sym, ap, _∙_}
 use mathlib.Core.Logic.{_↔_}
-use Prim.Native.Nat.{_≤_, _<_}
+use Prim.Native.Nat.{ℕ, _≤_, _<_}
 use native.Mathlib.Omega.{arith}
 use Rattle.fields.specs.declared.fault.CueFault.{CueFault}
 use Rattle.fields.specs.declared.fault.CueFault.the-variants.{LongFile, Unended, BadFields, BadNumber, NotAbove, NoName, ManyChildren, NoChild}
@@ -13,7 +13,9 @@ use Rattle.model.specs.declared.verdict.Verdict.{Verdict}
 use Rattle.model.specs.declared.verdict.Verdict.the-variants.{Complete, Open, Dead}
 use Rattle.model.specs.Fault.{modelNumber}
 use Rattle.model.specs.Fault.Answered.{number-injective}
-use Rattle.judge.specs.Reply.{Reply, noModel, noChildren, good, ChildrenJudges, childrenReply}
+use Rattle.judge.specs.declared.verdict.ChildrenJudged.{ChildrenJudged}
+use Rattle.judge.specs.declared.verdict.ChildrenJudged.the-variants.{Verdict as Said, NoModel, NoChildren}
+use Rattle.judge.specs.Reply.{Reply, noModel, noChildren, good, ChildrenJudges, childrenReply, judgedOf}
 use Rattle.judge.specs.Reply.Laws.{cue-injective, judges-exactly}
 use Rattle.desk.specs.Desk.{replyNumber, verdictNumber, deskAnswer}
 
@@ -70,3 +72,17 @@ answer-exactly m c r = (
   λ e. judges-exactly m c r .0 (reply-injective (childrenReply m c) r e),
   λ h. ap (replyNumber verdictNumber) (judges-exactly m c r .1 h),
 )
+
+-- as the code takes it from the judge
+abbrev judgedNumber : ChildrenJudged → ℕ
+judgedNumber (Said v) = verdictNumber v
+judgedNumber (NoModel f) = modelNumber f
+judgedNumber (NoChildren f) = cueNumber f
+
+pub judged-number : (m c : Text) (x y : ChildrenJudged) → x ≡ judgedOf (childrenReply m c) → x ≡ y → judgedNumber y ≡ deskAnswer m c
+judged-number m c x y e d = sym (ap judgedNumber d) ∙ ap judgedNumber e ∙ go (childrenReply m c)
+  where
+    go : (r : Reply Verdict) → judgedNumber (judgedOf r) ≡ replyNumber verdictNumber r
+    go (noModel f) = refl
+    go (noChildren f) = refl
+    go (good v) = refl

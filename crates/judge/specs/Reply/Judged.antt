@@ -24,7 +24,7 @@ use Rattle.model.specs.Fault.{Answers, refused, accepted}
 use Rattle.model.specs.Fault.Answered.{answer-is}
 use Rattle.model.specs.Model.{modelOf, typeOf}
 use Rattle.model.specs.Rule.Decide.{ruleType, rule-type}
-use Rattle.judge.specs.declared.text.Cursor.{Cursor}
+use Rattle.judge.specs.declared.reader.Cursor.{Cursor}
 use Rattle.judge.specs.declared.verdict.ChildrenJudged.{ChildrenJudged}
 use Rattle.judge.specs.declared.verdict.ChildrenJudged.the-variants.{Verdict as Said, NoModel, NoChildren}
 use Rattle.judge.specs.Judge.Laws.{upto}

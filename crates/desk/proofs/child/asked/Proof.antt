@@ -1,6 +1,5 @@
 -- Each refusal in its turn.
-use native.Mathlib.Omega.{arith}
-use Rattle.desk.specs.Child.Laws.{asked-long, asked-none, asked-there, asked-missing, asked-bad}
+use Rattle.desk.specs.Child.Code.{asked-long, asked-none, asked-there, asked-missing, asked-bad}
 use borrow.Author.Needs.{needs}
 use Rattle.desk.proofs.child.asked.Statement.{statement}
 use Rattle.desk.proofs.child.asked.Tie as tie
@@ -21,16 +20,16 @@ enum-known-n : tie.Need-enum-known-n
 enum-known-n c = search needs
 
 returns-3 : tie.Need-returns-3
-returns-3 c = let a = c .before .before .before .before .before .before .before .before .args in asked-there (a .children .now) (a .k) (c .before .before .before .before .before .before .if1 .left) (omega (arith, c .before .before .before .before .before .if2 .left)) (c .before .before .before .before .count-children .result) (c .before .before .before .before .count-children .ensures) _ (c .before .before .n .given .1) (c .if3 .taken)
+returns-3 c = let a = c .before .before .before .before .before .before .before .before .args in asked-there (a .children .now) (a .k) (c .before .before .before .before .before .before .if1 .left) (c .before .before .before .before .before .if2 .left) (c .before .before .before .before .count-children .result) (c .before .before .before .before .count-children .ensures) _ (c .before .before .n .given .1) (c .if3 .taken)
 
 enum-known-f : tie.Need-enum-known-f
 enum-known-f c = search needs
 
 returns-4 : tie.Need-returns-4
-returns-4 c = let a = c .before .before .before .before .before .before .before .before .args in asked-missing (a .children .now) (a .k) (c .before .before .before .before .before .before .if1 .left) (omega (arith, c .before .before .before .before .before .if2 .left)) (c .before .before .before .before .count-children .result) (c .before .before .before .before .count-children .ensures) _ (c .before .before .n .given .1) (c .if3 .left)
+returns-4 c = let a = c .before .before .before .before .before .before .before .before .args in asked-missing (a .children .now) (a .k) (c .before .before .before .before .before .before .if1 .left) (c .before .before .before .before .before .if2 .left) (c .before .before .before .before .count-children .result) (c .before .before .before .before .count-children .ensures) _ (c .before .before .n .given .1) (c .if3 .left)
 
 returns-5 : tie.Need-returns-5
-returns-5 c = let a = c .before .before .before .before .before .before .before .args in asked-bad (a .children .now) (a .k) (c .before .before .before .before .before .if1 .left) (omega (arith, c .before .before .before .before .if2 .left)) (c .before .before .before .count-children .result) (c .before .before .before .count-children .ensures) _ (c .before .f .given .1)
+returns-5 c = let a = c .before .before .before .before .before .before .before .args in asked-bad (a .children .now) (a .k) (c .before .before .before .before .before .if1 .left) (c .before .before .before .before .if2 .left) (c .before .before .before .count-children .result) (c .before .before .before .count-children .ensures) _ (c .before .f .given .1)
 
 pub asked-spec : {M : Type 1} → statement M
 asked-spec =

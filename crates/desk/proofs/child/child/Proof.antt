@@ -1,7 +1,7 @@
 -- The part lies inside its text, and stands where the look-up says.
 use mathlib.Core.Path.{refl}
 use native.Mathlib.Omega.{arith}
-use Rattle.desk.specs.Child.Laws.{in-model, in-children, no-model, no-children, part-sized}
+use Rattle.desk.specs.Child.Code.{part-is, inside, part-sized}
 use borrow.Author.Needs.{needs}
 use Rattle.desk.proofs.child.child.Statement.{statement}
 use Rattle.desk.proofs.child.child.Tie as tie
@@ -16,7 +16,7 @@ enum-known-start : tie.Need-enum-known-start
 enum-known-start c = search needs
 
 add-end : tie.Need-add-end
-add-end c = let a = c .before .before .before .before .before .before .args in omega (arith, in-model (a .model .now) (a .children .now) (a .k) (c .before .before .before .locate .result) (c .before .before .before .locate .ensures) _ _ (c .before .start .given .1) .2)
+add-end c = let a = c .before .before .before .before .before .before .args in omega (arith, inside (a .model .now) (a .children .now) (a .k) (c .before .before .before .locate .result) _ (c .before .before .before .locate .ensures) (c .before .start .given .1))
 
 sub-result : tie.Need-sub-result
 sub-result c = search needs
@@ -25,13 +25,13 @@ part-result-start : tie.Need-part-result-start
 part-result-start c = search needs
 
 part-result-end : tie.Need-part-result-end
-part-result-end c = let a = c .before .before .before .before .before .before .args in in-model (a .model .now) (a .children .now) (a .k) (c .before .before .before .locate .result) (c .before .before .before .locate .ensures) _ _ (c .before .start .given .1) .2
+part-result-end c = let a = c .before .before .before .before .before .before .args in inside (a .model .now) (a .children .now) (a .k) (c .before .before .before .locate .result) _ (c .before .before .before .locate .ensures) (c .before .start .given .1)
 
 enum-known-start-2 : tie.Need-enum-known-start-2
 enum-known-start-2 c = search needs
 
 add-end-2 : tie.Need-add-end-2
-add-end-2 c = let a = c .before .before .before .before .before .before .args in omega (arith, in-children (a .model .now) (a .children .now) (a .k) (c .before .before .before .locate .result) (c .before .before .before .locate .ensures) _ _ (c .before .start2 .given .1) .2)
+add-end-2 c = let a = c .before .before .before .before .before .before .args in omega (arith, inside (a .model .now) (a .children .now) (a .k) (c .before .before .before .locate .result) _ (c .before .before .before .locate .ensures) (c .before .start2 .given .1))
 
 sub-result-2 : tie.Need-sub-result-2
 sub-result-2 c = search needs
@@ -40,7 +40,7 @@ part-result-start-2 : tie.Need-part-result-start-2
 part-result-start-2 c = search needs
 
 part-result-end-2 : tie.Need-part-result-end-2
-part-result-end-2 c = let a = c .before .before .before .before .before .before .args in in-children (a .model .now) (a .children .now) (a .k) (c .before .before .before .locate .result) (c .before .before .before .locate .ensures) _ _ (c .before .start2 .given .1) .2
+part-result-end-2 c = let a = c .before .before .before .before .before .before .args in inside (a .model .now) (a .children .now) (a .k) (c .before .before .before .locate .result) _ (c .before .before .before .locate .ensures) (c .before .start2 .given .1)
 
 enum-told : tie.Need-enum-told
 enum-told c = search needs
@@ -67,20 +67,20 @@ part-result-end-4 : tie.Need-part-result-end-4
 part-result-end-4 c = search needs
 
 returns : tie.Need-returns
-returns c = let a = c .before .before .before .before .before .before .before .args in let g = in-model (a .model .now) (a .children .now) (a .k) (c .before .before .before .before .locate .result) (c .before .before .before .before .locate .ensures) _ _ (c .before .before .start .given .1) in
-    rw (g .0) (refl, omega arith, part-sized (a .model .now) (c .before .before .start .given .0 .0) (c .before .before .start .given .0 .1 .0))
+returns c = let a = c .before .before .before .before .before .before .before .args in let g = part-is (a .model .now) (a .children .now) (a .k) (c .before .before .before .before .locate .result) _ (c .before .before .before .before .locate .ensures) (c .before .before .start .given .1) in
+    rw g (refl, omega arith, part-sized (a .model .now) (c .before .before .start .given .0 .0) (c .before .before .start .given .0 .1 .0))
 
 returns-2 : tie.Need-returns-2
-returns-2 c = let a = c .before .before .before .before .before .before .before .args in let g = in-children (a .model .now) (a .children .now) (a .k) (c .before .before .before .before .locate .result) (c .before .before .before .before .locate .ensures) _ _ (c .before .before .start2 .given .1) in
-    rw (g .0) (refl, omega arith, part-sized (a .children .now) (c .before .before .start2 .given .0 .0) (c .before .before .start2 .given .0 .1 .0))
+returns-2 c = let a = c .before .before .before .before .before .before .before .args in let g = part-is (a .model .now) (a .children .now) (a .k) (c .before .before .before .before .locate .result) _ (c .before .before .before .before .locate .ensures) (c .before .before .start2 .given .1) in
+    rw g (refl, omega arith, part-sized (a .children .now) (c .before .before .start2 .given .0 .0) (c .before .before .start2 .given .0 .1 .0))
 
 returns-3 : tie.Need-returns-3
-returns-3 c = let a = c .before .before .before .before .before .before .args in let g = no-model (a .model .now) (a .children .now) (a .k) (c .before .before .before .locate .result) (c .before .before .before .locate .ensures) _ (c .before .enum-told .given .1) in
-    rw (g .0) (refl, omega arith, refl)
+returns-3 c = let a = c .before .before .before .before .before .before .args in let g = part-is (a .model .now) (a .children .now) (a .k) (c .before .before .before .locate .result) _ (c .before .before .before .locate .ensures) (c .before .enum-told .given .1) in
+    rw g (refl, omega arith, refl)
 
 returns-4 : tie.Need-returns-4
-returns-4 c = let a = c .before .before .before .before .before .before .args in let g = no-children (a .model .now) (a .children .now) (a .k) (c .before .before .before .locate .result) (c .before .before .before .locate .ensures) _ (c .before .enum-told2 .given .1) in
-    rw (g .0) (refl, omega arith, refl)
+returns-4 c = let a = c .before .before .before .before .before .before .args in let g = part-is (a .model .now) (a .children .now) (a .k) (c .before .before .before .locate .result) _ (c .before .before .before .locate .ensures) (c .before .enum-told2 .given .1) in
+    rw g (refl, omega arith, refl)
 
 pub child-spec : {M : Type 1} → statement M
 child-spec =

@@ -2,7 +2,7 @@
 use mathlib.Core.Path.{_≡_, refl, subst}
 use Prim.Native.Nat.{_-_, _≤_}
 use native.Mathlib.Omega.{arith}
-use Rattle.desk.specs.Child.Laws.{Reached, reached-first, reached-bounds, reached-next}
+use Rattle.desk.specs.Child.Code.{Reached, reached-first, reached-bounds, reached-next}
 use Rattle.desk.proofs.child.child_start.Statement.{statement}
 use Rattle.desk.proofs.child.child_start.Tie as tie
 use Rattle.desk.proofs.child.child_start.Reads as reads

@@ -1,6 +1,5 @@
 -- By the reading.
-use mathlib.Core.Path.{_∙_}
-use Rattle.desk.specs.Child.Laws.{located-read, located-unread}
+use Rattle.desk.specs.Child.Code.{located-read, located-unread}
 use borrow.Author.Needs.{needs}
 use Rattle.desk.proofs.child.locate.Statement.{statement}
 use Rattle.desk.proofs.child.locate.Tie as tie
@@ -22,7 +21,7 @@ enum-known-outcome : tie.Need-enum-known-outcome
 enum-known-outcome c = search needs
 
 returns : tie.Need-returns
-returns c = let a = c .before .before .before .before .before .before .before .args in c .locate-read .ensures ∙ located-read (a .model .now) (a .children .now) (a .k) (c .before .before .before .before .read-model .result) (c .before .before .before .before .read-model .ensures) (c .before .before .enum-told .given .1)
+returns c = let a = c .before .before .before .before .before .before .before .args in located-read (a .model .now) (a .children .now) (a .k) (c .before .before .before .before .read-model .result) (c .before .before .before .before .read-model .ensures) _ (c .locate-read .ensures) (c .before .before .enum-told .given .1)
 
 returns-2 : tie.Need-returns-2
 returns-2 c = let a = c .before .before .before .before .before .before .args in located-unread (a .model .now) (a .children .now) (a .k) (c .before .before .before .read-model .result) (c .before .before .before .read-model .ensures) _ _ (c .before .outcome .given .1)

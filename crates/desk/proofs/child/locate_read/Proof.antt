@@ -7,7 +7,7 @@ use Rattle.fields.specs.Stack.{unmapped}
 use Rattle.judge.specs.Reading.{partsOf}
 use Rattle.judge.specs.Reading.Search.{parts-many}
 use Rattle.fields.specs.Split.{tab, split}
-use Rattle.desk.specs.Child.Laws.{asked-within, reached-name, reached-bounds, reached-long, read-below, read-there, read-missing}
+use Rattle.desk.specs.Child.Code.{asked-within, reached-name, reached-bounds, reached-long, read-below, read-there, read-missing}
 use borrow.Author.Needs.{needs}
 use Rattle.desk.proofs.child.locate_read.Statement.{statement}
 use Rattle.desk.proofs.child.locate_read.Tie as tie
@@ -58,7 +58,7 @@ returns : tie.Need-returns
 returns c = let a = c .before .before .before .before .before .before .before .before .before .before .args in let e = sym (c .before .before .before .before .before .before .before .asked .ensures) ∙ c .before .before .before .before .before .enum-told .given .1 in let w = asked-within (a .children .now) (a .k) _ e in
     let s = c .before .before .before .before .child-start in let p = c .before .before .before .part-end in
     let h : a .k - 1 < length (split tab (a .children .now)) = omega (arith, w .0, w .1) in
-    c .name-place .ensures ∙ read-there (a .model .now) (a .names) (a .children .now) (a .k) _ _ (s .result) (p .result - s .result) _ e (c .before .number-of .ensures) (reached-name (a .children .now) (a .k - 1) (s .result) (s .ensures .1) h (p .result) (p .ensures)) (s .ensures .0) (reached-long (a .children .now) (a .k - 1) (s .result) (s .ensures .1) h (p .result) (p .ensures))
+    read-there (a .model .now) (a .names) (a .children .now) (a .k) (c .name-place .result) _ _ (s .result) (p .result - s .result) _ (c .name-place .ensures) e (c .before .number-of .ensures) (reached-name (a .children .now) (a .k - 1) (s .result) (s .ensures .1) h (p .result) (p .ensures)) (s .ensures .0) (reached-long (a .children .now) (a .k - 1) (s .result) (s .ensures .1) h (p .result) (p .ensures))
 
 returns-2 : tie.Need-returns-2
 returns-2 c = let a = c .before .before .before .before .before .before .args in read-missing (a .model .now) (a .names) (a .children .now) (a .k) _ (sym (c .before .before .before .asked .ensures) ∙ c .before .f .given .1)

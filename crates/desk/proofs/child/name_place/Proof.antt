@@ -1,6 +1,6 @@
 -- 0 is no name.
 use Prim.Native.Nat.{_-_}
-use Rattle.desk.specs.Child.Laws.{located-none, located-some}
+use Rattle.desk.specs.Child.Code.{located-none, located-some}
 use borrow.Author.Needs.{needs}
 use Rattle.desk.proofs.child.name_place.Statement.{statement}
 use Rattle.desk.proofs.child.name_place.Tie as tie

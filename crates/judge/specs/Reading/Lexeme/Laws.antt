@@ -11,7 +11,7 @@ use lib.Dec.{T, leb, ltb, eqb, leb→le, nltb→le, eqb→eq}
 use mir.Facts.{and-yes, or-no}
 use lib.ListN.{length, drop, getD, drop-of-length-le, List·getD-eq-default}
 use lib.Seq.{drop-cons}
-use Rattle.judge.specs.declared.text.Numeral.the-variants.{Value, Bad as NoNumeral}
+use Rattle.judge.specs.declared.lexeme.Numeral.the-variants.{Value, Bad as NoNumeral}
 use Rattle.fields.specs.Bytes.{Text, isDigit, value, valueFrom, front}
 use Rattle.model.specs.Fault.{is}
 use Rattle.model.specs.Fault.Ties.{capped, capped-digit}
