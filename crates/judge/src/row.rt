@@ -12,7 +12,7 @@ ghost use Rattle.judge.specs.Judge.Attribute.{emptyAttribute, atomAttrib
 ghost use Rattle.model.specs.Model.{operator};
 ghost use Rattle.model.specs.Rule.{atomsIn};
 ghost use Rattle.judge.specs.Packed.{nodeOf, ruleIn};
-ghost use Rattle.judge.specs.Judge.Tally.{unseen, noting, Tallied};
+ghost use Rattle.judge.specs.Judge.Tally.{unseen, seenOf, noting, Seeing, Tallied};
 ghost use Rattle.judge.specs.Judge.Root.{partAttribute, grownAttribute, rootAttribute};
 ghost use Rattle.model.specs.Verdict.Laws.{verdictOf, verdict};
 ghost use Rattle.model.specs.Rule.Decide.{readable, ruleType};
@@ -64,27 +64,39 @@ fn later(a: u16, b: u16) -> u16
     if a < b { b } else { a }
 }
 
-// Of a name that a row of this length lacks.
-fn nothing_seen(length: u16) -> Seen
-    ensures { λ r. ⌜ r ≡ unseen length ⌝ }
+// What is seen of a name stands in an array as one number.
+fn packed_seen(count: u16, first: u16, behind: u16) -> u64
+    ensures { λ r. ⌜ seenOf r ≡ record { count = count; first = first; behind = behind } ⌝ }
+{
+    ((behind as u64) * 65536 + (first as u64)) * 65536 + (count as u64)
+}
+
+fn seen_of(word: u64) -> Seen
+    ensures { λ r. ⌜ r ≡ seenOf word ⌝ }
 {
     Seen {
-        count: 0,
-        first: length,
-        behind: 0,
+        count: (word % 65536) as u16,
+        first: (word / 65536 % 65536) as u16,
+        behind: (word / 65536 / 65536 % 65536) as u16,
     }
 }
 
-// The name stands at place i too.
-fn noted(seen: Seen, i: u16) -> Seen
-    requires { ⌜ (seen .count < 65535) × (i < 65535) ⌝ }
-    ensures { λ r. ⌜ r ≡ noting seen i ⌝ }
+// Of a name that a row of this length lacks.
+fn nothing_seen(length: u16) -> u64
+    ensures { λ r. ⌜ seenOf r ≡ unseen length ⌝ }
 {
-    Seen {
-        count: seen.count + 1,
-        first: earlier(seen.first, i),
-        behind: i + 1,
-    }
+    packed_seen(0, length, 0)
+}
+
+// The name stands at place i too.
+fn noted(word: u64, i: u16) -> u64
+    requires { ⌜ (seenOf word .count < 65535) × (i < 65535) ⌝ }
+    ensures { λ r. ⌜ seenOf r ≡ noting (seenOf word) i ⌝ }
+{
+    let seen = seen_of(word);
+    let count = seen.count + 1;
+    let first = earlier(seen.first, i);
+    packed_seen(count, first, i + 1)
 }
 
 // Whether no number is above the names.
@@ -100,21 +112,18 @@ pub fn all_named(names: usize, row: &[u16]) -> bool
     named
 }
 
-// The first pass: what is seen of each name by its number.
-fn tally_row(row: &[u16]) -> [Seen; MAX_ATOMS + 1]
+// The first pass: what is seen of each name goes into the array, by the name's number. The array has that nothing is seen.
+fn tally_row(row: &[u16], seen: &mut [u64; MAX_ATOMS + 1])
     requires { ⌜ (length (now row) ≤ maxRow) × (upto maxAtoms (now row) ≡ true) ⌝ }
-    ensures { λ r. ⌜ Tallied (now (row .entry)) r ⌝ }
+    requires { ⌜ Seeing maxAtoms (length (now row)) [] (now seen) ⌝ }
+    ensures { λ r. ⌜ Tallied (now (row .entry)) (now (seen .exit)) ⌝ }
 {
-    let none = nothing_seen(row.len() as u16);
-    let mut seen = [none; MAX_ATOMS + 1];
     let mut i: usize = 0;
     while i < row.len() {
         let name = row[i] as usize;
-        let before = seen[name];
-        seen[name] = noted(before, i as u16);
+        seen[name] = noted(seen[name], i as u16);
         i += 1;
     }
-    seen
 }
 
 // What nothing has: its part of every row is empty.
@@ -249,11 +258,11 @@ fn root(
     len: usize,
     names: usize,
     children: u16,
-    seen: [Seen; MAX_ATOMS + 1],
+    seen: &[u64; MAX_ATOMS + 1],
 ) -> Attribute
     requires { ⌜ (len ≤ maxNodes) × (length (now words) ≡ maxNodes) ⌝ }
     requires { ⌜ (names ≡ atomsIn (map nodeOf (take len (now words)))) × (names ≤ maxAtoms) ⌝ }
-    ensures { λ r. ⌜ r ≡ rootAttribute (ruleIn (now (words .entry)) len) children (λ k. getD seen k (unseen 0)) ⌝ }
+    ensures { λ r. ⌜ r ≡ rootAttribute (ruleIn (now (words .entry)) len) children (λ k. seenOf (getD (now (seen .entry)) k 0)) ⌝ }
 {
     let blank = Attribute {
         first: 0,
@@ -271,7 +280,7 @@ fn root(
         let kind = node.kind;
         let mark = node.mark;
         let end = lesser(members_of(kind), MAX_NODES - top) + top;
-        let here = seen[name];
+        let here = seen_of(seen[name]);
         let mut x = begin(children, kind, here);
         let mut at = top;
         while at < end {
@@ -315,11 +324,13 @@ pub(crate) fn verdict_on(words: &[u64; MAX_NODES], len: usize, names: usize, row
     requires { ⌜ (length (now row) ≤ maxRow) × (upto names (now row) ≡ true) ⌝ }
     ensures { λ r. ⌜ r ≡ verdict (ruleType (ruleIn (now (words .entry)) len)) (now (row .entry)) ⌝ }
 {
-    let seen = tally_row(row);
-    let foreign = seen[0];
+    let none = nothing_seen(row.len() as u16);
+    let mut seen = [none; MAX_ATOMS + 1];
+    tally_row(row, &mut seen);
+    let foreign = seen_of(seen[0]);
     verdict_of(
         foreign.count,
-        root(words, len, names, row.len() as u16, seen),
+        root(words, len, names, row.len() as u16, &seen),
     )
 }
 

@@ -27,7 +27,7 @@ use Rattle.model.specs.Rule.{ruleWith}
 use Rattle.judge.specs.Reading.Buffer.{Holds}
 use Rattle.judge.specs.Packed.{nodeOf, ruleIn}
 use Rattle.judge.specs.Judge.Laws.{upto, judged}
-use Rattle.judge.specs.Judge.Tally.{unseen, Tallied}
+use Rattle.judge.specs.Judge.Tally.{seenOf, Tallied}
 use Rattle.judge.specs.Judge.Root.{rootAttribute}
 use Rattle.judge.specs.Judge.Pass.{verdict-seen}
 
@@ -59,12 +59,12 @@ module _ (r : Rule) (e : readable r ≡ true) (words : List ℕ) (h : Holds node
 
 -- with what the first pass has counted, and what the second made of it
 pub verdict-tallied : (l : List Node) → readable (ruleWith l) ≡ true → (w : Word) (m : ℕ) → m ≡ atomsIn l → upto m w ≡ true
-    → (s : List Seen) → Tallied w s → (x : Attribute) → x ≡ rootAttribute (ruleWith l) (length w) (λ k. getD s k (unseen 0))
-    → verdictOf (eqb (getD s 0 (unseen 0) .count) 0 && x .done) (eqb (getD s 0 (unseen 0) .count) 0 && x .alive) ≡ verdict (ruleType (ruleWith l)) w
+    → (s : List ℕ) → Tallied w s → (x : Attribute) → x ≡ rootAttribute (ruleWith l) (length w) (λ k. seenOf (getD s k 0))
+    → verdictOf (eqb (seenOf (getD s 0 0) .count) 0 && x .done) (eqb (seenOf (getD s 0 0) .count) 0 && x .alive) ≡ verdict (ruleType (ruleWith l)) w
 verdict-tallied l e w m f h s g x i =
     let n : m ≡ names (ruleWith l) = rw (used-with l) f in
     let c = readable-within (ruleWith l) e in
-    rw i (verdict-seen (ruleWith l) e w (rw n at h) (λ k. getD s k (unseen 0)) (λ k j. g k (omega arith)))
+    rw i (verdict-seen (ruleWith l) e w (rw n at h) (λ k. seenOf (getD s k 0)) (λ k j. g k (omega arith)))
 
 -- the test of 40
 module _ (r : Rule) (good : Bool) (e : good ≡ readable r) where
