@@ -11,7 +11,9 @@
 #include <sys/mman.h>
 #include <unistd.h>
 
-enum { SMALL = 300000, DAMAGED = 300000, LARGE = 5000, ROOM = 1 << 18 };
+enum { ROOM = 1 << 18 };
+
+static const struct amounts HOW_MANY = {.small = 300000, .damaged = 300000, .large = 5000};
 
 /* The ends of two pieces of memory, one for each text; nothing behind them can be read. */
 static uint8_t *model_end, *children_end;
@@ -29,27 +31,25 @@ static uint8_t *make_fenced(void)
 }
 
 /* The text moved up against the fence; a null text stays one. */
-static const uint8_t *fenced(uint8_t *end, const uint8_t *text, size_t len)
+static struct bytes fenced(uint8_t *end, struct bytes text)
 {
-    if (text == NULL)
-        return NULL;
-    memcpy(end - len, text, len);
-    return end - len;
+    if (text.at == NULL)
+        return text;
+    memcpy(end - text.len, text.at, text.len);
+    return (struct bytes){end - text.len, text.len};
 }
 
-static void compare(struct report *to, const uint8_t *model, size_t model_len,
-                    const uint8_t *children, size_t children_len)
+static size_t changed(struct bytes lent, struct bytes text)
 {
-    const uint8_t *m = fenced(model_end, model, model_len);
-    const uint8_t *c = fenced(children_end, children, children_len);
-    report_answer(to, model, model_len, children, children_len,
-                  desk_judge(m, model_len, c, children_len),
-                  twin_judge(model, model_len, children, children_len));
-    if ((m != NULL && memcmp(m, model, model_len) != 0)
-        || (c != NULL && memcmp(c, children, children_len) != 0)) {
-        puts("a text was changed");
-        to->different++;
-    }
+    return lent.at != NULL && memcmp(lent.at, text.at, text.len) != 0;
+}
+
+static void compare(struct report *to, struct call c)
+{
+    struct call lent = {fenced(model_end, c.model), fenced(children_end, c.children)};
+    report_answer(to, c, ask(desk_judge, lent), ask(twin_judge, c));
+    report_value(to, c, "texts changed",
+                 changed(lent.model, c.model) + changed(lent.children, c.children), 0);
 }
 
 int main(void)
@@ -59,10 +59,7 @@ int main(void)
     children_end = make_fenced();
     check_known_rows(desk_judge, &report);
     check_known_texts(desk_judge, &report);
-    try_model_limits(compare, &report);
-    try_children_limits(compare, &report);
-    try_small(11, SMALL, compare, &report);
-    try_damaged(12, DAMAGED, compare, &report);
-    try_large(13, LARGE, compare, &report);
+    try_limits(compare, &report);
+    try_random(11, HOW_MANY, compare, &report);
     return report_end(&report, "desk and twin");
 }

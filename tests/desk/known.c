@@ -1,8 +1,6 @@
 /* Rows and texts whose answers stand in document 01 or follow from it. */
 #include "cases.h"
 
-#include <string.h>
-
 /* Children are parted by spaces here. */
 static const struct {
     const char *model, *children;
@@ -111,46 +109,44 @@ static const struct {
 /* 01, the last of the rows to try: 4,096 of a in a[60000..60000] are open. */
 static void check_long_row(judge_texts *judge, struct report *report)
 {
-    static const char model[] = "a[60000..60000]";
-    uint8_t children[2 * 4096 - 1];
-    for (size_t i = 0; i < sizeof children; i++)
-        children[i] = i % 2 == 0 ? 'a' : '\t';
-    report_answer(report, (const uint8_t *)model, strlen(model), children, sizeof children,
-                  judge((const uint8_t *)model, strlen(model), children, sizeof children), 1);
+    static struct text children;
+    begin(&children, "a");
+    put_times(&children, "\ta", 4095);
+    struct call c = {bytes_of("a[60000..60000]"), written(&children)};
+    report_answer(report, c, ask(judge, c), 1);
 }
 
 void check_known_rows(judge_texts *judge, struct report *report)
 {
+    static struct text children;
     check_long_row(judge, report);
-    for (size_t i = 0; i < sizeof ROWS / sizeof ROWS[0]; i++) {
-        const uint8_t *model = (const uint8_t *)ROWS[i].model;
-        size_t model_len = strlen(ROWS[i].model), len = strlen(ROWS[i].children);
-        uint8_t children[64];
-        for (size_t k = 0; k < len; k++)
-            children[k] = ROWS[i].children[k] == ' ' ? '\t' : (uint8_t)ROWS[i].children[k];
-        report_answer(report, model, model_len, children, len,
-                      judge(model, model_len, children, len), ROWS[i].answer);
+    for (size_t i = 0; i < LENGTH(ROWS); i++) {
+        begin(&children, ROWS[i].children);
+        for (size_t k = 0; k < children.len; k++)
+            if (children.byte[k] == ' ')
+                children.byte[k] = '\t';
+        struct call c = {bytes_of(ROWS[i].model), written(&children)};
+        report_answer(report, c, ask(judge, c), ROWS[i].answer);
     }
 }
 
 void check_known_texts(judge_texts *judge, struct report *report)
 {
-    for (size_t i = 0; i < sizeof TEXTS / sizeof TEXTS[0]; i++) {
-        const uint8_t *text = (const uint8_t *)TEXTS[i].text;
-        size_t len = strlen(TEXTS[i].text);
-        uint32_t answer = judge(text, len, NULL, 0);
-        report_answer(report, text, len, NULL, 0, answer <= 2 ? 0 : answer, TEXTS[i].answer);
+    for (size_t i = 0; i < LENGTH(TEXTS); i++) {
+        struct call c = {bytes_of(TEXTS[i].text), NO_BYTES};
+        uint32_t answer = ask(judge, c);
+        report_answer(report, c, answer <= 2 ? 0 : answer, TEXTS[i].answer);
     }
 }
 
 void check_known_places(place_refusal *model, struct report *report)
 {
-    for (size_t i = 0; i < sizeof TEXTS / sizeof TEXTS[0]; i++) {
-        const uint8_t *text = (const uint8_t *)TEXTS[i].text;
-        size_t len = strlen(TEXTS[i].text), place;
-        uint32_t answer = model(text, len, &place);
-        report_answer(report, text, len, NULL, 0, answer, TEXTS[i].answer);
+    for (size_t i = 0; i < LENGTH(TEXTS); i++) {
+        struct call c = {bytes_of(TEXTS[i].text), NO_BYTES};
+        size_t place;
+        uint32_t answer = model(c.model.at, c.model.len, &place);
+        report_answer(report, c, answer, TEXTS[i].answer);
         if (answer != 0)
-            report_place(report, text, len, place, TEXTS[i].place);
+            report_value(report, c, "place", place, TEXTS[i].place);
     }
 }

@@ -4,26 +4,6 @@
 #include <stdio.h>
 #include <string.h>
 
-enum { ROOM = 70000 };
-
-struct text {
-    uint8_t byte[ROOM];
-    size_t len;
-};
-
-static void put(struct text *t, const char *bytes)
-{
-    size_t len = strlen(bytes);
-    memcpy(t->byte + t->len, bytes, len);
-    t->len += len;
-}
-
-static void put_times(struct text *t, const char *bytes, size_t times)
-{
-    while (times-- > 0)
-        put(t, bytes);
-}
-
 /* The k-th of many short names. */
 static void put_name(struct text *t, size_t k)
 {
@@ -33,16 +13,16 @@ static void put_name(struct text *t, size_t k)
 }
 
 /* The model alone, with one child, and with a bad child: a refusal of the model comes first. */
-static void try_model(try_texts *f, struct report *to, const struct text *model)
+static void try_model(try_call *f, struct report *to, struct bytes model)
 {
-    f(to, model->byte, model->len, NULL, 0);
-    f(to, model->byte, model->len, (const uint8_t *)"a", 1);
-    f(to, model->byte, model->len, (const uint8_t *)"%", 1);
+    f(to, (struct call){model, NO_BYTES});
+    f(to, (struct call){model, bytes_of("a")});
+    f(to, (struct call){model, bytes_of("%")});
 }
 
 /* ---- one limit each ---- */
 
-static void try_sizes(try_texts *f, struct report *to)
+static void try_sizes(try_call *f, struct report *to)
 {
     static const struct {
         const char *front, *filling, *end;
@@ -52,51 +32,49 @@ static void try_sizes(try_texts *f, struct report *to)
         {"(a", ",", ""},     {"(", "()", ""},
     };
     static const size_t SIZES[] = {1, 2, 3, 7, 4094, 4095, 4096, 4097, 4098, 65536};
-    f(to, NULL, 0, NULL, 0);
-    f(to, NULL, 0, (const uint8_t *)"%", 1);
-    for (size_t i = 0; i < sizeof FORMS / sizeof FORMS[0]; i++)
-        for (size_t k = 0; k < sizeof SIZES / sizeof SIZES[0]; k++) {
+    f(to, (struct call){NO_BYTES, NO_BYTES});
+    f(to, (struct call){NO_BYTES, bytes_of("%")});
+    for (size_t i = 0; i < LENGTH(FORMS); i++)
+        for (size_t k = 0; k < LENGTH(SIZES); k++) {
             static struct text model;
-            model.len = 0;
-            put(&model, FORMS[i].front);
+            begin(&model, FORMS[i].front);
             while (model.len + strlen(FORMS[i].end) < SIZES[k])
                 put(&model, FORMS[i].filling);
             put(&model, FORMS[i].end);
-            try_model(f, to, &model);
+            try_model(f, to, written(&model));
         }
 }
 
-static void try_names(try_texts *f, struct report *to)
+static void try_names(try_call *f, struct report *to)
 {
     static const char *const FRONTS[] = {"", "(", "(a,", "((b|c),"};
     static const char *const ENDS[] = {"", "%", ")", "?", "[1..2])", "[2..1])", ",a)", "-"};
     for (size_t len = 31; len <= 34; len++)
-        for (size_t i = 0; i < sizeof FRONTS / sizeof FRONTS[0]; i++)
-            for (size_t k = 0; k < sizeof ENDS / sizeof ENDS[0]; k++) {
+        for (size_t i = 0; i < LENGTH(FRONTS); i++)
+            for (size_t k = 0; k < LENGTH(ENDS); k++) {
                 static struct text model;
-                model.len = 0;
-                put(&model, FRONTS[i]);
+                begin(&model, FRONTS[i]);
                 put_times(&model, "x", len);
                 put(&model, ENDS[k]);
-                try_model(f, to, &model);
+                try_model(f, to, written(&model));
             }
 }
 
 /* Brackets inside each other, and brackets that are closed again beside them. */
-static void try_depth(try_texts *f, struct report *to)
+static void try_depth(try_call *f, struct report *to)
 {
     static const char *const BRACKETS[] = {"(", "(()&", "(b&(", "((),(())?,"};
     static const char *const MIDDLES[] = {"a", "", "a(", "%", "a,a", "(", "a[2..1]"};
     for (size_t depth = 4; depth <= 18; depth++)
-        for (size_t i = 0; i < sizeof BRACKETS / sizeof BRACKETS[0]; i++)
-            for (size_t k = 0; k < sizeof MIDDLES / sizeof MIDDLES[0]; k++) {
+        for (size_t i = 0; i < LENGTH(BRACKETS); i++)
+            for (size_t k = 0; k < LENGTH(MIDDLES); k++) {
                 static struct text model;
-                model.len = 0;
+                begin(&model, "");
                 put_times(&model, BRACKETS[i], depth);
                 put(&model, MIDDLES[k]);
-                try_model(f, to, &model);
+                try_model(f, to, written(&model));
                 put_times(&model, ")", depth);
-                try_model(f, to, &model);
+                try_model(f, to, written(&model));
             }
 }
 
@@ -104,8 +82,7 @@ static void try_depth(try_texts *f, struct report *to)
 static void put_wide(struct text *t, size_t atoms, size_t groups, const char *sign,
                      const char *last)
 {
-    t->len = 0;
-    put(t, "(");
+    begin(t, "(");
     for (size_t k = 0; k < groups; k++) {
         put(t, "()");
         put(t, sign);
@@ -119,7 +96,7 @@ static void put_wide(struct text *t, size_t atoms, size_t groups, const char *si
 }
 
 /* Atoms around 64 and nodes around 128, the last one wrong in further ways or not. */
-static void try_width(try_texts *f, struct report *to)
+static void try_width(try_call *f, struct report *to)
 {
     static const char *const LASTS[] = {
         "a", "()", "n0", "n0%", "a[2..1]", "(a)", "((b))", "xxxxxxxxxxxxxxxxxxxxxxxxxxxxxxxxx",
@@ -127,17 +104,17 @@ static void try_width(try_texts *f, struct report *to)
     };
     static const size_t NODES[] = {2, 64, 112, 113, 114, 126, 127, 128, 129};
     for (size_t atoms = 61; atoms <= 65; atoms++)
-        for (size_t i = 0; i < sizeof NODES / sizeof NODES[0]; i++)
-            for (size_t k = 0; k < sizeof LASTS / sizeof LASTS[0]; k++) {
+        for (size_t i = 0; i < LENGTH(NODES); i++)
+            for (size_t k = 0; k < LENGTH(LASTS); k++) {
                 static struct text model;
                 size_t groups = NODES[i] > atoms + 1 ? NODES[i] - atoms - 1 : 0;
                 put_wide(&model, atoms, groups, k % 3 == 0 ? "," : k % 3 == 1 ? "|" : "&",
                          LASTS[k]);
-                try_model(f, to, &model);
+                try_model(f, to, written(&model));
             }
 }
 
-static void try_counts(try_texts *f, struct report *to)
+static void try_counts(try_call *f, struct report *to)
 {
     static const char *const NUMBERS[] = {
         "0", "1", "2", "9", "10", "00", "01", "59999", "60000", "60001", "65535", "65536", "65537",
@@ -146,27 +123,24 @@ static void try_counts(try_texts *f, struct report *to)
         "10000000000000000000000000000000000000000",
     };
     static const char *const ENDS[] = {"]", "", "%", "]?", "]]", "]?%", ".]"};
-    enum { COUNT = sizeof NUMBERS / sizeof NUMBERS[0] };
-    for (size_t m = 0; m < COUNT; m++)
-        for (size_t n = 0; n < COUNT; n++)
-            for (size_t k = 0; k < sizeof ENDS / sizeof ENDS[0]; k++) {
+    for (size_t m = 0; m < LENGTH(NUMBERS); m++)
+        for (size_t n = 0; n < LENGTH(NUMBERS); n++)
+            for (size_t k = 0; k < LENGTH(ENDS); k++) {
                 static struct text model;
-                model.len = 0;
-                put(&model, "a[");
+                begin(&model, "a[");
                 put(&model, NUMBERS[m]);
                 put(&model, "..");
                 put(&model, NUMBERS[n]);
                 put(&model, ENDS[k]);
-                try_model(f, to, &model);
+                try_model(f, to, written(&model));
             }
 }
 
 /* The longest text that is accepted: 64 names of 32 with the longest counts, 64 marked groups. */
-static void try_longest(try_texts *f, struct report *to)
+static void try_longest(try_call *f, struct report *to)
 {
     static struct text model;
-    model.len = 0;
-    put(&model, "(");
+    begin(&model, "(");
     put_times(&model, "()?,", 63);
     for (size_t k = 0; k < 64; k++) {
         char name[40];
@@ -175,19 +149,9 @@ static void try_longest(try_texts *f, struct report *to)
         put(&model, "[60000..60000]?");
     }
     put(&model, ")?");
-    try_model(f, to, &model);
+    try_model(f, to, written(&model));
     put(&model, "?");
-    try_model(f, to, &model);
-}
-
-void try_model_limits(try_texts *f, struct report *to)
-{
-    try_sizes(f, to);
-    try_names(f, to);
-    try_depth(f, to);
-    try_width(f, to);
-    try_counts(f, to);
-    try_longest(f, to);
+    try_model(f, to, written(&model));
 }
 
 /* ---- children ---- */
@@ -198,44 +162,44 @@ static const char *const MODELS[] = {
 };
 
 /* One children text with every model. */
-static void try_children(try_texts *f, struct report *to, const struct text *children)
+static void try_children(try_call *f, struct report *to, struct bytes children)
 {
-    for (size_t i = 0; i < sizeof MODELS / sizeof MODELS[0]; i++)
-        f(to, (const uint8_t *)MODELS[i], strlen(MODELS[i]), children->byte, children->len);
+    for (size_t i = 0; i < LENGTH(MODELS); i++)
+        f(to, (struct call){bytes_of(MODELS[i]), children});
 }
 
-static void try_many_children(try_texts *f, struct report *to)
+static void try_many_children(try_call *f, struct report *to)
 {
     static const char *const LASTS[] = {"a", "b", "c", "", "A", "a%", "a\t", "\ta"};
     for (size_t many = 4094; many <= 4097; many++)
-        for (size_t i = 0; i < sizeof LASTS / sizeof LASTS[0]; i++) {
+        for (size_t i = 0; i < LENGTH(LASTS); i++) {
             static struct text children;
-            children.len = 0;
+            begin(&children, "");
             put_times(&children, "a\t", many - 1);
             put(&children, LASTS[i]);
-            try_children(f, to, &children);
+            try_children(f, to, written(&children));
         }
 }
 
-static void try_long_children(try_texts *f, struct report *to)
+static void try_long_children(try_call *f, struct report *to)
 {
     static const char *const FILLINGS[] = {
         "a\t", "\t", "%", "a", "xxxxxxxxxxxxxxxxxxxxxxxxxxxxxxx\t", "xxxxxxxxxxxxxxx\t",
     };
     for (size_t size = 65533; size <= 65538; size++)
-        for (size_t i = 0; i < sizeof FILLINGS / sizeof FILLINGS[0]; i++) {
+        for (size_t i = 0; i < LENGTH(FILLINGS); i++) {
             static struct text children;
-            children.len = 0;
+            begin(&children, "");
             while (children.len < size)
                 put(&children, FILLINGS[i]);
             children.len = size;
-            try_children(f, to, &children);
+            try_children(f, to, written(&children));
             children.byte[size - 1] = 'x';
-            try_children(f, to, &children);
+            try_children(f, to, written(&children));
         }
 }
 
-static void try_odd_children(try_texts *f, struct report *to)
+static void try_odd_children(try_call *f, struct report *to)
 {
     static const char *const ODD[] = {
         "a", "\t", "a\t", "\ta", "a\t\ta", "a\ta", "a a", "a\r", "a\n", "A", "aA", "1", "-", "a1",
@@ -243,24 +207,29 @@ static void try_odd_children(try_texts *f, struct report *to)
         "a:", "a\t%\tb", "q\tq", "a\tq", "aa",
     };
     static struct text children;
-    for (size_t i = 0; i < sizeof ODD / sizeof ODD[0]; i++) {
-        children.len = 0;
-        put(&children, ODD[i]);
-        try_children(f, to, &children);
+    for (size_t i = 0; i < LENGTH(ODD); i++) {
+        begin(&children, ODD[i]);
+        try_children(f, to, written(&children));
         children.byte[children.len - 1] = 0; /* a zero ends nothing */
-        try_children(f, to, &children);
+        try_children(f, to, written(&children));
     }
     for (size_t len = 30; len <= 34; len++)
         for (size_t many = 1; many <= 3; many++) {
-            children.len = 0;
+            begin(&children, "");
             put_times(&children, "x", len);
             put_times(&children, "\ta", many - 1);
-            try_children(f, to, &children);
+            try_children(f, to, written(&children));
         }
 }
 
-void try_children_limits(try_texts *f, struct report *to)
+void try_limits(try_call *f, struct report *to)
 {
+    try_sizes(f, to);
+    try_names(f, to);
+    try_depth(f, to);
+    try_width(f, to);
+    try_counts(f, to);
+    try_longest(f, to);
     try_many_children(f, to);
     try_long_children(f, to);
     try_odd_children(f, to);

@@ -6,7 +6,7 @@
 #include <stdlib.h>
 #include <string.h>
 
-enum { MEMBERS = 4000, NAMES = 64, ROW = 4200, ROOM = 150000, NAME_ROOM = 36 };
+enum { MEMBERS = 4000, NAMES = 64, ROW = 4200, NAME_ROOM = 36 };
 
 /* ---- numbers ---- */
 
@@ -93,20 +93,6 @@ static size_t grow(struct sketch *s, size_t names, size_t depth)
 }
 
 /* ---- texts ---- */
-
-struct text {
-    uint8_t byte[ROOM];
-    size_t len;
-};
-
-static void put(struct text *t, const char *bytes)
-{
-    size_t len = strlen(bytes);
-    if (t->len + len > ROOM)
-        return;
-    memcpy(t->byte + t->len, bytes, len);
-    t->len += len;
-}
 
 static void write_atom(const struct sketch *s, const struct member *m, struct text *t)
 {
@@ -209,6 +195,21 @@ static void pick(struct sketch *s, size_t me, struct row *row)
     }
 }
 
+/* ---- changes at one place ---- */
+
+static void take_out(uint8_t *bytes, size_t *len, size_t at)
+{
+    if (at < *len)
+        memmove(bytes + at, bytes + at + 1, --*len - at);
+}
+
+/* There is room for one more. */
+static void put_in(uint8_t *bytes, size_t *len, size_t at, uint8_t byte)
+{
+    memmove(bytes + at + 1, bytes + at, (*len)++ - at);
+    bytes[at] = byte;
+}
+
 /* One small change: cut off, take out, add or exchange; a number past the atoms is foreign. */
 static void disturb(struct sketch *s, struct row *row)
 {
@@ -220,15 +221,12 @@ static void disturb(struct sketch *s, struct row *row)
         row->len = at;
         break;
     case 2:
-        if (at < row->len)
-            memmove(row->name + at, row->name + at + 1, --row->len - at);
+        take_out(row->name, &row->len, at);
         break;
     case 3:
-        if (row->len == ROW)
-            break;
-        push(row, 0);
-        memmove(row->name + at + 1, row->name + at, row->len - at - 1);
-        row->name[at] = (uint8_t)below(d, s->atoms + one_in(d, 4) + (s->atoms == 0));
+        if (row->len < ROW)
+            put_in(row->name, &row->len, at,
+                   (uint8_t)below(d, s->atoms + one_in(d, 4) + (s->atoms == 0)));
         break;
     default:
         if (at < row->len) {
@@ -239,6 +237,31 @@ static void disturb(struct sketch *s, struct row *row)
         }
     }
 }
+
+/* The same of a text: cut off, take out, add or exchange a byte for one of these. */
+static void damage(struct dice *d, struct text *t, const char *bytes)
+{
+    size_t at = below(d, t->len + 1);
+    uint8_t byte = (uint8_t)bytes[below(d, strlen(bytes))];
+    switch (below(d, 7)) {
+    case 0:
+        t->len = at;
+        break;
+    case 1:
+    case 2:
+        take_out(t->byte, &t->len, at);
+        break;
+    case 3:
+    case 4:
+        put_in(t->byte, &t->len, at, byte);
+        break;
+    default:
+        if (at < t->len)
+            t->byte[at] = byte;
+    }
+}
+
+/* ---- rows as texts ---- */
 
 /* A name that is mostly not in the model, though close to one that may be. */
 static void put_foreign(struct sketch *s, struct text *t)
@@ -257,7 +280,7 @@ static void put_foreign(struct sketch *s, struct text *t)
 
 static void write_row(struct sketch *s, const struct row *row, struct text *t)
 {
-    t->len = 0;
+    begin(t, "");
     for (size_t i = 0; i < row->len; i++) {
         put(t, i == 0 ? "" : "\t");
         if (row->name[i] < s->atoms)
@@ -273,10 +296,9 @@ static void write_row(struct sketch *s, const struct row *row, struct text *t)
 static void short_names(struct sketch *s)
 {
     static const char *const SHORT[] = {"a", "b", "c", "ab", "a-", "a1", "ba", "b-2", "abc", "z9"};
-    enum { COUNT = sizeof SHORT / sizeof SHORT[0] };
-    size_t start = below(&s->dice, COUNT), step = one_in(&s->dice, 2) ? 3 : 7;
+    size_t start = below(&s->dice, LENGTH(SHORT)), step = one_in(&s->dice, 2) ? 3 : 7;
     for (size_t k = 0; k < NAMES; k++)
-        strcpy(s->name[k], SHORT[(start + k * step) % COUNT]);
+        strcpy(s->name[k], SHORT[(start + k * step) % LENGTH(SHORT)]);
     if (one_in(&s->dice, 40))
         strcpy(s->name[1 + below(&s->dice, 5)], s->name[0]);
 }
@@ -309,7 +331,7 @@ static void make_case(struct sketch *s, size_t names, size_t depth, struct text 
     struct row row = {.len = 0};
     s->members = s->atoms = 0;
     size_t top = grow(s, names, depth);
-    model->len = 0;
+    begin(model, "");
     write_member(s, top, model);
     if (one_in(&s->dice, 8)) {
         for (size_t n = below(&s->dice, 6); n > 0; n--)
@@ -322,80 +344,53 @@ static void make_case(struct sketch *s, size_t names, size_t depth, struct text 
     write_row(s, &row, children);
 }
 
-static void hand_over(try_texts *f, struct report *to, const struct text *model,
-                      const struct text *children)
+/* The arguments of make_case are rolled one by one, so that the seed fixes their order too. */
+static void make_small(struct sketch *s, struct text *model, struct text *children)
 {
-    f(to, model->byte, model->len, children->len == 0 ? NULL : children->byte, children->len);
+    s->stretch = 2;
+    short_names(s);
+    size_t depth = 1 + below(&s->dice, 4);
+    make_case(s, below(&s->dice, 7), depth, model, children);
 }
 
-void try_small(uint64_t seed, unsigned how_many, try_texts *f, struct report *to)
+static void make_damaged(struct sketch *s, struct text *model, struct text *children)
+{
+    make_small(s, model, children);
+    if (one_in(&s->dice, 5))
+        damage(&s->dice, children, "\t\tabc1-A% \n");
+    else
+        for (size_t n = 1 + below(&s->dice, 3); n > 0; n--)
+            damage(&s->dice, model, "()()[],,||&&??..*-0123459abcz%\n\tA \x80");
+}
+
+static void make_large(struct sketch *s, struct text *model, struct text *children)
+{
+    s->stretch = (size_t)2 << below(&s->dice, 12);
+    if (one_in(&s->dice, 3))
+        alike_names(s);
+    else
+        long_names(s);
+    size_t depth = 1 + below(&s->dice, 16);
+    make_case(s, 7 + below(&s->dice, NAMES - 6), depth, model, children);
+}
+
+typedef void make_texts(struct sketch *s, struct text *model, struct text *children);
+
+static void try_made(make_texts *make, uint64_t seed, unsigned how_many, try_call *f,
+                     struct report *to)
 {
     static struct text model, children;
     static struct sketch s;
     s.dice.state = seed;
     for (unsigned i = 0; i < how_many; i++) {
-        s.stretch = 2;
-        short_names(&s);
-        make_case(&s, below(&s.dice, 7), 1 + below(&s.dice, 4), &model, &children);
-        hand_over(f, to, &model, &children);
+        make(&s, &model, &children);
+        f(to, (struct call){written(&model), children.len == 0 ? NO_BYTES : written(&children)});
     }
 }
 
-/* Changes, takes out, adds or cuts off at one place. */
-static void damage(struct dice *d, struct text *t, const char *bytes)
+void try_random(uint64_t seed, struct amounts how_many, try_call *f, struct report *to)
 {
-    size_t at = below(d, t->len + 1);
-    uint8_t byte = (uint8_t)bytes[below(d, strlen(bytes))];
-    switch (below(d, 7)) {
-    case 0:
-        t->len = at;
-        break;
-    case 1:
-    case 2:
-        if (at < t->len)
-            memmove(t->byte + at, t->byte + at + 1, --t->len - at);
-        break;
-    case 3:
-    case 4:
-        memmove(t->byte + at + 1, t->byte + at, t->len++ - at);
-        t->byte[at] = byte;
-        break;
-    default:
-        if (at < t->len)
-            t->byte[at] = byte;
-    }
-}
-
-void try_damaged(uint64_t seed, unsigned how_many, try_texts *f, struct report *to)
-{
-    static struct text model, children;
-    static struct sketch s;
-    s.dice.state = seed;
-    for (unsigned i = 0; i < how_many; i++) {
-        s.stretch = 2;
-        short_names(&s);
-        make_case(&s, below(&s.dice, 7), 1 + below(&s.dice, 4), &model, &children);
-        if (one_in(&s.dice, 5))
-            damage(&s.dice, &children, "\t\tabc1-A% \n");
-        else
-            for (size_t n = 1 + below(&s.dice, 3); n > 0; n--)
-                damage(&s.dice, &model, "()()[],,||&&??..*-0123459abcz%\n\tA \x80");
-        hand_over(f, to, &model, &children);
-    }
-}
-
-void try_large(uint64_t seed, unsigned how_many, try_texts *f, struct report *to)
-{
-    static struct text model, children;
-    static struct sketch s;
-    s.dice.state = seed;
-    for (unsigned i = 0; i < how_many; i++) {
-        s.stretch = (size_t)2 << below(&s.dice, 12);
-        if (one_in(&s.dice, 3))
-            alike_names(&s);
-        else
-            long_names(&s);
-        make_case(&s, 7 + below(&s.dice, NAMES - 6), 1 + below(&s.dice, 16), &model, &children);
-        hand_over(f, to, &model, &children);
-    }
+    try_made(make_small, seed, how_many.small, f, to);
+    try_made(make_damaged, seed + 1, how_many.damaged, f, to);
+    try_made(make_large, seed + 2, how_many.large, f, to);
 }

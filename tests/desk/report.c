@@ -7,45 +7,40 @@ enum { SHOWN = 20, SHOWN_BYTES = 200 };
 /* Every answer of include/desk.h. */
 static const uint32_t ANSWERS[] = {0, 1, 2, 10, 11, 12, 13, 14, 15, 16, 17, 30, 35, 36};
 
-static void print_text(const char *title, const uint8_t *text, size_t len)
+static void print_text(const char *title, struct bytes b)
 {
-    printf("  %s, %zu bytes: ", title, len);
-    for (size_t i = 0; i < len && i < SHOWN_BYTES; i++) {
-        if (text[i] > ' ' && text[i] < 127 && text[i] != '\\')
-            putchar(text[i]);
+    printf("  %s, %zu bytes: ", title, b.len);
+    for (size_t i = 0; i < b.len && i < SHOWN_BYTES; i++) {
+        if (b.at[i] > ' ' && b.at[i] < 127 && b.at[i] != '\\')
+            putchar(b.at[i]);
         else
-            printf("\\x%02x", text[i]);
+            printf("\\x%02x", b.at[i]);
     }
-    puts(len > SHOWN_BYTES ? " ..." : "");
+    puts(b.len > SHOWN_BYTES ? " ..." : "");
 }
 
-void report_answer(struct report *report, const uint8_t *model, size_t model_len,
-                   const uint8_t *children, size_t children_len, uint32_t got, uint32_t right)
+void report_value(struct report *report, struct call c, const char *what, size_t got, size_t right)
+{
+    if (got == right || report->different++ >= SHOWN)
+        return;
+    printf("%s %zu, right is %zu\n", what, got, right);
+    print_text("model", c.model);
+    print_text("children", c.children);
+}
+
+void report_answer(struct report *report, struct call c, uint32_t got, uint32_t right)
 {
     report->tried++;
-    if (right < sizeof report->met / sizeof report->met[0])
+    if (right < LENGTH(report->met))
         report->met[right]++;
-    if (got == right || report->different++ >= SHOWN)
-        return;
-    printf("answer %u, right is %u\n", got, right);
-    print_text("model", model, model_len);
-    print_text("children", children, children_len);
-}
-
-void report_place(struct report *report, const uint8_t *model, size_t model_len,
-                  size_t got, size_t right)
-{
-    if (got == right || report->different++ >= SHOWN)
-        return;
-    printf("place %zu, right is %zu\n", got, right);
-    print_text("model", model, model_len);
+    report_value(report, c, "answer", got, right);
 }
 
 int report_end(const struct report *report, const char *title)
 {
     unsigned long missing = 0;
     printf("%s: met", title);
-    for (size_t i = 0; i < sizeof ANSWERS / sizeof ANSWERS[0]; i++) {
+    for (size_t i = 0; i < LENGTH(ANSWERS); i++) {
         printf(" %u:%lu", ANSWERS[i], report->met[ANSWERS[i]]);
         missing += report->met[ANSWERS[i]] == 0;
     }

@@ -3,18 +3,15 @@
 #include "cases.h"
 #include "twin.h"
 
-enum { SMALL = 60000, DAMAGED = 60000, LARGE = 60 };
+static const struct amounts HOW_MANY = {.small = 60000, .damaged = 60000, .large = 60};
 
-static void compare(struct report *to, const uint8_t *model, size_t model_len,
-                    const uint8_t *children, size_t children_len)
+static void compare(struct report *to, struct call c)
 {
     size_t twin_place, place;
-    report_answer(to, model, model_len, children, children_len,
-                  twin_judge(model, model_len, children, children_len),
-                  brute_judge(model, model_len, children, children_len));
-    twin_model(model, model_len, &twin_place);
-    brute_model(model, model_len, &place);
-    report_place(to, model, model_len, twin_place, place);
+    report_answer(to, c, ask(twin_judge, c), ask(brute_judge, c));
+    twin_model(c.model.at, c.model.len, &twin_place);
+    brute_model(c.model.at, c.model.len, &place);
+    report_value(to, c, "place", twin_place, place);
 }
 
 int main(void)
@@ -25,10 +22,7 @@ int main(void)
     check_known_texts(twin_judge, &report);
     check_known_places(twin_model, &report);
     check_known_places(brute_model, &report);
-    try_model_limits(compare, &report);
-    try_children_limits(compare, &report);
-    try_small(1, SMALL, compare, &report);
-    try_damaged(2, DAMAGED, compare, &report);
-    try_large(3, LARGE, compare, &report);
+    try_limits(compare, &report);
+    try_random(1, HOW_MANY, compare, &report);
     return report_end(&report, "twin and oracle");
 }

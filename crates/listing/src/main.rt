@@ -40,6 +40,12 @@ fn with_both(sheet: &[u8], cues: &[u8]) {
     }
 }
 
+// Did reading stop at the file's end? A folder opens and cannot be read: that is 60 too, not an empty file.
+fn at_end(fd: i32) -> bool {
+    let mut more = [0u8; 1];
+    0 <= libc::read(fd, &mut more)
+}
+
 // A file of more than 65,535 bytes fills the buffer, and is seen as too long.
 fn with_sheet(sheet: &[u8]) {
     let fd = os::open_read(b"cues.txt");
@@ -49,8 +55,13 @@ fn with_sheet(sheet: &[u8]) {
     }
     let mut cues = io::large_buffer();
     let n = io::read_full(fd, &mut cues);
+    let whole = at_end(fd);
     libc::close(fd);
-    with_both(sheet, &cues[..n]);
+    if whole {
+        with_both(sheet, &cues[..n]);
+    } else {
+        without_cues(sheet);
+    }
 }
 
 fn main() {
@@ -61,6 +72,11 @@ fn main() {
     }
     let mut sheet = io::large_buffer();
     let n = io::read_full(fd, &mut sheet);
+    let whole = at_end(fd);
     libc::close(fd);
-    with_sheet(&sheet[..n]);
+    if whole {
+        with_sheet(&sheet[..n]);
+    } else {
+        refuse(b"sheet", 60, 0);
+    }
 }
