@@ -1,4 +1,8 @@
 -- The reply to a model text and a children text: document 01, "Desk and layers". The model text's refusal comes first, then the children text's.
+-- Below it:
+--   Laws      there is one reply, and only one
+--   Children  the walk from child to child that fills a row
+--   Judged    what a text that was read and a row of children come to
 pub mod Laws
 pub mod Children
 pub mod Judged

@@ -7,7 +7,6 @@ ghost use Prim.Native.Nat.{_+_, _-_, _≤_, _<_, min};
 ghost use lib.ListN.{length, getD, replicate};
 ghost use Rattle.fields.specs.Bytes.{isLetter};
 ghost use Rattle.fields.specs.Limits.{maxAtoms, maxNodes};
-ghost use Rattle.model.specs.Fault.{is};
 ghost use Rattle.model.specs.Syntax.Machine.{opened, here};
 ghost use Rattle.judge.specs.Reading.Walk.{Marking, joins, stackOf, Expecting, Ready, Inside, Member, GroupRead};
 ghost use Rattle.judge.specs.Reading.Atom.{NameRead, AtomRead};
@@ -215,8 +214,13 @@ fn group(
                 }
                 let b = text[p];
                 members += 1;
-                next = past;
-                next.at = p + 1;
+                let behind = p + 1;
+                // field by field: a copy of the whole would wait for what was just stored
+                next = Cursor {
+                    at: behind,
+                    nodes: past.nodes,
+                    names: past.names,
+                };
                 if b == b')' {
                     work[node] = packed_group(sign, members);
                     return Got::Past(next);

@@ -1,25 +1,19 @@
 -- How a loop over children puts the numbers of their names into a row.
 use mathlib.Core.Path.{_≡_, refl, ap, sym, _∙_}
-use mathlib.Core.Bool.{Bool, true, false, _&&_, _||_, true≢false, and-assoc, and-true, and-false}
+use mathlib.Core.Bool.{true}
 use mathlib.Core.List.{List, [], _∷_, _++_, map-append, append-nil, head-eq-of-cons-eq, tail-eq-of-cons-eq}
-use Prim.Native.Nat.{ℕ, suc, _+_, _-_, _≤_, _<_}
+use Prim.Native.Nat.{ℕ, suc, _+_, _≤_, _<_}
 use native.Mathlib.Omega.{arith}
 use native.Mathlib.Numerals.{add-one}
-use lib.Dec.{leb, ltb, eqb}
+use lib.Dec.{ltb}
 use lib.ListN.{length, take, drop, getD, set, length-map, length-take, length-drop, length-set, drop-of-length-le}
 use lib.Seq.{take-suc, take-all, take-length, take-nil, take-append-le, drop-cons, set-at, set-out, append-snoc, drop-set-lt}
-use borrow.Author.Tests.{eqb-true, eqb-false, ltb-true, ltb-false, leb-true, le-leb, lt-leb}
+use borrow.Author.Tests.{ltb-true, ltb-false, le-leb}
 use Rattle.fields.specs.Tests.{by-test}
-use Rattle.fields.specs.Stack.{drop-back}
-use Rattle.fields.specs.Bytes.{Text, sameText, isLetter, isInner, all, isName}
+use Rattle.fields.specs.Bytes.{Text, sameText}
 use Rattle.model.specs.Word.{Word}
 use Rattle.model.specs.Syntax.{numberFrom, numberIn}
-use Rattle.fields.specs.Limits.{maxName, maxRow}
-use Rattle.fields.specs.Split.{tab, split, part, partEnd, more, times}
-use Rattle.fields.specs.Split.Laws.{part-at, split-count}
-use Rattle.fields.specs.Heads.{more-step, more-none}
-use Rattle.fields.specs.declared.fault.CueFault.the-variants.{NoName, ManyChildren}
-use Rattle.fields.specs.declared.children.Children.the-variants.{Count, Refused}
+use Rattle.fields.specs.declared.children.Children.the-variants.{Count}
 use Rattle.fields.specs.Children.{childrenOf}
 use Rattle.fields.specs.Children.Laws.{counted}
 use Rattle.judge.specs.Judge.Laws.{upto}
