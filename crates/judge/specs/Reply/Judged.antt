@@ -1,5 +1,5 @@
 -- What a model text that was read and a row of children come to: the reply of `Reply`.
-use mathlib.Core.Path.{_≡_, refl, sym, ap, subst, _∙_}
+use mathlib.Core.Path.{_≡_, sym, ap, subst, _∙_}
 use mathlib.Core.Bool.{true}
 use mathlib.Core.List.{List}
 use Prim.Native.Nat.{ℕ, _-_, _≤_, _<_, min}
@@ -25,7 +25,6 @@ use Rattle.model.specs.Fault.Answered.{answer-is}
 use Rattle.model.specs.Model.{modelOf, typeOf}
 use Rattle.model.specs.Rule.Decide.{ruleType, rule-type}
 use Rattle.judge.specs.declared.text.Cursor.{Cursor}
-use Rattle.judge.specs.declared.verdict.ChildrenJudged.{ChildrenJudged}
 use Rattle.judge.specs.declared.verdict.ChildrenJudged.the-variants.{Verdict as Said, NoModel, NoChildren}
 use Rattle.judge.specs.Judge.Laws.{upto}
 use Rattle.judge.specs.Packed.{ruleIn}

@@ -14,8 +14,8 @@ use borrow.Author.Tests.{eqb-true, eqb-false, leb-true, le-leb, lt-leb, le-ltb, 
 use Rattle.fields.specs.Tests.{by-test}
 use Rattle.judge.specs.declared.text.NamePlace.{NamePlace}
 use Rattle.judge.specs.declared.text.Names.{Names}
-use Rattle.fields.specs.Bytes.{Text, sameText}
-use Rattle.model.specs.Syntax.{numberFrom, numberIn}
+use Rattle.fields.specs.Bytes.{Text}
+use Rattle.model.specs.Syntax.{numberIn}
 use Rattle.fields.specs.Bytes.Laws.{T-true}
 use Rattle.model.specs.Fault.{Answer, refused, accepted}
 use Rattle.model.specs.Fault.Answered.{answer}
@@ -23,6 +23,7 @@ use Rattle.model.specs.Model.{modelOf, typeOf}
 use Rattle.model.specs.Verdict.Laws.{verdict}
 use Rattle.fields.specs.Limits.{maxRow}
 use Rattle.judge.specs.Reading.{partAt, partsOf}
+use Rattle.judge.specs.Named.Laws.{number-below}
 use Rattle.judge.specs.Reply.{childrenIn, maxChildrenText, row, replyBy, rowIn, childrenReply, judgedOf}
 use Rattle.fields.specs.declared.fault.CueFault.{CueFault}
 use Rattle.fields.specs.declared.split.Heads.{Heads}
@@ -161,11 +162,6 @@ put-all old new whole at m k e b =
 pub part-at-place : (s : Text) (p : NamePlace) → part s (p .start) (p .start + p .len) ≡ partAt s p
 part-at-place s p = let e : (p .start + p .len) - p .start ≡ p .len = omega arith in ap (λ n. take n (drop (p .start) s)) e
 
--- a number among texts is at most as many as they are
-pub number-bound : (j : ℕ) (ks : List Text) (x : Text) → numberFrom (suc j) ks x ≤ j + length ks
-number-bound j [] x = omega arith
-number-bound j (k ∷ ks) x = by-test (sameText k x) (λ e. rw e (omega arith)) (λ e. rw e (omega (arith, number-bound (suc j) ks x)))
-
 -- the lines of a cue list, one by one
 pub before-first : {c : Text} → GoodCues c → Before c 0 0
 before-first {c} g = record { stand = stand-start c (g .ended); below = omega arith; good = g }
@@ -195,10 +191,10 @@ module _ {s : Text} {rules : Sheet} {kinds : Names} {c : Text} {n at end k : ℕ
 
   -- the first entry stands in where there is none
   pub rule-few : k - 1 < 64
-  rule-few = omega (arith, number-is, number-bound 0 (map kind (lines s)) (field 2 cue), length-map (lines s) kind, w .few)
+  rule-few = omega (arith, number-is, number-below 0 (map kind (lines s)) (field 2 cue), length-map (lines s) kind, w .few)
 
   rule-inside : (k ≡ 0 → ⊥) → k - 1 < length (lines s)
-  rule-inside o = omega (arith, o, number-is, number-bound 0 (map kind (lines s)) (field 2 cue), length-map (lines s) kind)
+  rule-inside o = omega (arith, o, number-is, number-below 0 (map kind (lines s)) (field 2 cue), length-map (lines s) kind)
 
   pub code-said : (d : Entry) (code : ℕ) → code ≡ cond (eqb k 0) 3 (codeOf (saidOf (partAt s (getD (rules .entries) (k - 1) d .model)) (children (part c at end)))) → code ≡ codeOf (said (lines s) (getD (lines c) n []))
   unfolding cue

@@ -113,15 +113,6 @@ front-short f (b ∷ y) = go (f b) (front-short f y)
     go true h = omega arith
     go false h = omega arith
 
-digits-short : (y : Text) → length (digits y) ≤ length y
-digits-short [] = omega arith
-digits-short (d ∷ y) = go (isDigit d) (eqb d (code "0")) (front-short isDigit y)
-  where
-    go : (b c : Bool) → length (front isDigit y) ≤ length y → length (cond b (cond c (d ∷ []) (d ∷ front isDigit y)) []) ≤ suc (length y)
-    go true true h = omega arith
-    go true false h = omega arith
-    go false c h = omega arith
-
 -- no fault of a count: both numbers are small
 pub above-of : (m n l : ℕ) → (eqb n 0 || ltb n m || ltb l n) ≡ false → (m ≤ n) × (n ≤ l)
 above-of m n l e =
