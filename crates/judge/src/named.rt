@@ -1,15 +1,11 @@
-// The row of children by a model's names, and the verdict on a children text by a model text.
+// Children judged by a model text.
 
 ghost use mathlib.Core.Path.{_≡_};
 ghost use Prim.Native.Nat.{_≤_, _<_, min};
 ghost use lib.ListN.{length, set};
 ghost use Rattle.fields.specs.Limits.{maxRow};
-ghost use Rattle.fields.specs.Split.{tab, split};
-ghost use Rattle.fields.specs.Children.{childrenOf};
-ghost use Rattle.judge.specs.Reading.{partsOf};
 ghost use Rattle.judge.specs.Reading.Table.{Tabled, Apart, partsIn};
 ghost use Rattle.judge.specs.Reading.Whole.{Whole};
-ghost use Rattle.judge.specs.Named.{rowOf, rowAfter, RowPut};
 ghost use Rattle.judge.specs.Reply.{childrenIn, maxChildrenText, childrenReply, judgedOf};
 ghost use Rattle.judge.specs.Reply.Children.{childEnd, RowRead};
 use crate::lexeme::name_end;
@@ -21,18 +17,14 @@ use crate::row::verdict_on;
 use crate::table::SLOTS;
 use crate::table::find;
 use crate::table::hash;
-use crate::text::Names;
-use crate::text::number_of;
 use crate::verdict::ChildrenJudged;
 use fields::bytes::is_letter;
 use fields::children::Children;
-use fields::children::count_children;
 use fields::fault::CueFault;
 use fields::limits::MAX_FILE;
 use fields::limits::MAX_NAME;
 use fields::limits::MAX_ROW;
 use fields::split::TAB;
-use fields::split::part_end;
 use model::rule::MAX_ATOMS;
 use model::rule::MAX_NODES;
 
@@ -45,39 +37,6 @@ fn put_at(row: &mut [u16], i: usize, number: u16)
 {
     if i < row.len() {
         row[i] = number;
-    }
-}
-
-// Puts the number of each child's name into the row.
-fn put_row(model: &[u8], names: Names, children: &[u8], row: &mut [u16])
-    requires { ⌜ length (split tab (now children)) ≤ maxRow ⌝ }
-    ensures { λ r. ⌜ RowPut (partsOf (now (model .entry)) names) (split tab (now (children .entry))) (now (row .entry)) (now (row .exit)) ⌝ }
-{
-    let mut end = part_end(children, 0, TAB);
-    let first = number_of(model, names, &children[0..end]);
-    put_at(row, 0, first.0);
-    let mut n: usize = 1;
-    while end < children.len() {
-        let at = end + 1;
-        end = part_end(children, at, TAB);
-        let number = number_of(model, names, &children[at..end]);
-        put_at(row, n, number.0);
-        n += 1;
-    }
-}
-
-// The row of the children by a model's names, a field each, from the first place of the row on and as far as it goes; or what is wrong with the
-// children. A row of MAX_ROW places holds them all.
-pub fn row_of(model: &[u8], names: Names, children: &[u8], row: &mut [u16]) -> Children
-    ensures { λ r. ⌜ r ≡ childrenOf (split tab (now (children .entry))) ⌝ }
-    ensures { λ r. ⌜ now (row .exit) ≡ rowAfter r (rowOf (partsOf (now (model .entry)) names) (split tab (now (children .entry)))) (now (row .entry)) ⌝ }
-{
-    match count_children(children) {
-        Children::Count(n) => {
-            put_row(model, names, children, row);
-            Children::Count(n)
-        }
-        Children::Refused(f) => Children::Refused(f),
     }
 }
 

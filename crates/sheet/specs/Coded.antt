@@ -7,17 +7,23 @@ use Prim.Native.Nat.{ℕ, suc, _+_, _≤_, _<_}
 use lib.Dec.{T, eqb}
 use lib.ListN.{length, getD}
 use Rattle.fields.specs.Bytes.{Text}
-use Rattle.model.specs.Word.{Word}
-use Rattle.fields.specs.Limits.{maxRow}
-use Rattle.judge.specs.Reading.{reading, partAt}
-use Rattle.fields.specs.Split.{lines, behind}
+use Rattle.judge.specs.declared.text.NamePlace.{NamePlace}
+use Rattle.judge.specs.declared.verdict.ChildrenJudged.{ChildrenJudged}
+use Rattle.judge.specs.declared.verdict.ChildrenJudged.the-variants.{Verdict, NoModel, NoChildren}
+use Rattle.fields.specs.Split.{lines, behind, part}
+use Rattle.fields.specs.Split.Laws.{Stand}
 use Rattle.fields.specs.Children.{allNames}
 use Rattle.sheet.specs.declared.line.Said.{Said}
 use Rattle.sheet.specs.declared.line.Said.the-variants.{Complete, Open, Dead, NoSheet}
-use Rattle.sheet.specs.declared.sheet.Entry.{Entry}
 use Rattle.sheet.specs.Cues.{maxFile, children}
 use Rattle.sheet.specs.Put.{Fits}
-use Rattle.sheet.specs.Listing.{listingLine, said}
+use Rattle.sheet.specs.Listing.{wordOf, listingLine, said}
+
+-- by what `judge_children` answers
+abbrev pub saidFrom : ChildrenJudged → Said
+saidFrom (Verdict v) = wordOf v
+saidFrom (NoModel f) = Dead
+saidFrom (NoChildren f) = Dead
 
 abbrev pub codeOf : Said → ℕ
 codeOf Complete = 0
@@ -33,14 +39,11 @@ abbrev pub listingCoded : List ℕ → ℕ → List Text → Text
 listingCoded vs i [] = []
 listingCoded vs i (l ∷ ls) = listingLine l (decoded (getD vs i 0)) ++ listingCoded vs (suc i) ls
 
--- the entry's model stands in the sheet's text and was read; the cue line is good; the row has room
-pub record Ready (s : Text) (e : Entry) (l : Text) (row : Word) : Type 0 where
-  pub inside : e .model .start + e .model .len ≤ length s
-  pub rule-is : e .rule ≡ reading (partAt s (e .model)) .rule
-  pub names-are : e .names ≡ reading (partAt s (e .model)) .names
+-- the place lies in the sheet's text; the cue line is good
+pub record Ready (s : Text) (p : NamePlace) (l : Text) : Type 0 where
+  pub inside : p .start + p .len ≤ length s
   pub fits : Fits l
   pub named : T (allNames (children l))
-  pub room : length row ≡ maxRow
 
 -- a cue list that was read
 pub record GoodCues (c : Text) : Type 0 where
@@ -48,6 +51,21 @@ pub record GoodCues (c : Text) : Type 0 where
   pub short : length c ≤ maxFile
   pub fit : (i : ℕ) → i < length (lines c) → Fits (getD (lines c) i [])
   pub named : (i : ℕ) → i < length (lines c) → T (allNames (children (getD (lines c) i [])))
+
+-- a loop over its lines stands before line n, which begins at `at`
+pub record Before (c : Text) (n at : ℕ) : Type 0 where
+  pub stand : Stand c n at
+  pub below : n ≤ at
+  pub good : GoodCues c
+
+-- line n, from `at` to `end`
+pub record Cue (c : Text) (n at end : ℕ) : Type 0 where
+  pub bounds : (at ≤ end) × (end < length c) × (length c ≤ maxFile) × (n < maxFile)
+  pub counted : n < length (lines c)
+  pub line-is : getD (lines c) n [] ≡ part c at end
+  pub fits : Fits (part c at end)
+  pub named : T (allNames (children (part c at end)))
+  pub next : Before c (n + 1) (end + 1)
 
 abbrev pub Coded : Text → Text → List ℕ → Type 0
 Coded s c codes = (i : ℕ) → i < length (lines c) → getD codes i 0 ≡ codeOf (said (lines s) (getD (lines c) i []))

@@ -5,14 +5,15 @@ use mathlib.Core.List.{List, [], _∷_, _++_, map}
 use Prim.Native.Nat.{ℕ, zero, suc}
 use lib.Dec.{leb}
 use lib.ListN.{length, drop, getD}
+use Rattle.model.specs.declared.verdict.Verdict.{Verdict}
 use Rattle.model.specs.declared.verdict.Verdict.the-variants.{Complete as IsComplete, Open as IsOpen, Dead as IsDead}
-use Rattle.judge.specs.declared.verdict.Judged.{Judged}
-use Rattle.judge.specs.declared.verdict.Judged.the-variants.{Verdict, Refused as RowRefused}
 use Rattle.fields.specs.Bytes.{Text, bytes}
 use Rattle.fields.specs.Bytes.Numeral.{digits}
-use Rattle.model.specs.Syntax.{numberIn}
-use Rattle.judge.specs.Judge.Laws.{judged}
-use Rattle.judge.specs.Reading.{reading, partsOf}
+use Rattle.model.specs.Syntax.{names, numberIn}
+use Rattle.model.specs.Fault.{Answer, refused, accepted}
+use Rattle.model.specs.Fault.Answered.{answer}
+use Rattle.model.specs.Model.{modelOf, typeOf}
+use Rattle.model.specs.Verdict.Laws.{verdict}
 use Rattle.fields.specs.Split.{lineFeed, tab, lines, field}
 use Rattle.fields.specs.Children.{cueNumber}
 use Rattle.judge.specs.Named.{rowOf}
@@ -42,16 +43,20 @@ abbrev pub listingBy : (Text → Said) → List Text → Text
 listingBy f [] = []
 listingBy f (l ∷ ls) = listingLine l (f l) ++ listingBy f ls
 
--- what the judge says of a row
-abbrev pub saidBy : Judged → Said
-saidBy (Verdict IsComplete) = Complete
-saidBy (Verdict IsOpen) = Open
-saidBy (Verdict IsDead) = Dead
-saidBy (RowRefused f) = Dead
+abbrev pub wordOf : Verdict → Said
+wordOf IsComplete = Complete
+wordOf IsOpen = Open
+wordOf IsDead = Dead
 
--- what a model text that is read says of children: the verdict of its rule on their numbers (never a refusal: `Ends.cue-said`)
+-- by the answer to a model text: the verdict on the row of the children, by the meaning of the tree that it spells (a sheet that was read has no
+-- refused model: `Ends.cue-said`)
+abbrev pub saidBy : Answer → List Text → Said
+saidBy (refused f p) cs = Dead
+saidBy (accepted t) cs = wordOf (verdict (typeOf (modelOf t)) (rowOf (names t) cs))
+
+-- what a model text says of children
 abbrev pub saidOf : Text → List Text → Said
-saidOf m cs = saidBy (judged (reading m .rule) (rowOf (partsOf m (reading m .names)) cs))
+saidOf m cs = saidBy (answer m) cs
 
 -- by the sheet's line with a number from 1, or 0 for none
 abbrev pub saidAt : List Text → ℕ → List Text → Said

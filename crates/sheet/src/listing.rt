@@ -5,34 +5,33 @@ ghost use mathlib.Core.Bool.{cond};
 ghost use Prim.Native.Nat.{_-_, _≤_};
 ghost use lib.Dec.{eqb};
 ghost use lib.ListN.{length};
-ghost use Rattle.judge.specs.Reading.{partAt};
-ghost use Rattle.fields.specs.Split.{lines};
+ghost use Rattle.model.specs.Syntax.{numberIn};
+ghost use Rattle.judge.specs.Reading.{partAt, partsOf};
+ghost use Rattle.fields.specs.Split.{lines, field};
 ghost use Rattle.sheet.specs.Cues.{children};
-ghost use Rattle.sheet.specs.Listing.{saidBy, saidOf, listing, listed, bufferAfter};
-ghost use Rattle.sheet.specs.Coded.{codeOf, decoded, Ready, GoodCues, Coded, listingCoded};
+ghost use Rattle.sheet.specs.Listing.{saidOf, listing, listed, bufferAfter};
+ghost use Rattle.sheet.specs.Coded.{saidFrom, codeOf, decoded, Ready, GoodCues, Coded, listingCoded};
 ghost use Rattle.sheet.specs.Sheet.Walk.{Loaded};
-ghost use Rattle.sheet.specs.Put.{Put};
+ghost use Rattle.sheet.specs.Put.{Put, Fits};
 use crate::cues::CuesRead;
 use crate::cues::read_cues;
 use crate::line::Said;
 use crate::line::line_length;
 use crate::line::write_line;
-use crate::sheet::Entry;
 use crate::sheet::Sheet;
 use crate::sheet::SheetFault;
 use crate::sheet::SheetOutcome;
 use crate::sheet::load;
-use fields::children::Children;
 use fields::fault::CueFault;
 use fields::limits::MAX_FILE;
-use fields::limits::MAX_ROW;
 use fields::split::LINE_FEED;
 use fields::split::first_fields;
 use fields::split::part_end;
-use judge::named::row_of;
-use judge::row::judge_row;
+use judge::named::judge_children;
+use judge::text::NamePlace;
+use judge::text::Names;
 use judge::text::number_of;
-use judge::verdict::Judged;
+use judge::verdict::ChildrenJudged;
 use model::verdict::Verdict;
 
 // How long the listing is that was written; or what is wrong with the sheet or with the cue list, and on which line; or that the listing is longer
@@ -44,16 +43,17 @@ pub enum Listed {
     TooLong,
 }
 
-fn said_by(judged: Judged) -> Said
-    ensures { λ r. ⌜ r ≡ saidBy judged ⌝ }
+fn said_from(judged: ChildrenJudged) -> Said
+    ensures { λ r. ⌜ r ≡ saidFrom judged ⌝ }
 {
     match judged {
-        Judged::Verdict(v) => match v {
+        ChildrenJudged::Verdict(v) => match v {
             Verdict::Complete => Said::Complete,
             Verdict::Open => Said::Open,
             Verdict::Dead => Said::Dead,
         },
-        Judged::Refused(_) => Said::Dead,
+        ChildrenJudged::NoModel(_) => Said::Dead,
+        ChildrenJudged::NoChildren(_) => Said::Dead,
     }
 }
 
@@ -84,37 +84,43 @@ fn decode(code: u8) -> Said
     Said::NoSheet
 }
 
-// What an entry of the sheet says of a cue. The row is for the children's numbers.
-fn say(sheet: &[u8], entry: Entry, cue: &[u8], row: &mut [u16]) -> Said
-    requires { ⌜ Ready (now sheet) entry (now cue) (now row) ⌝ }
-    ensures { λ r. ⌜ r ≡ saidOf (partAt (now (sheet .entry)) (entry .model)) (children (now (cue .entry))) ⌝ }
+// What the model at a place of the sheet's text says of a cue.
+fn say(sheet: &[u8], place: NamePlace, cue: &[u8]) -> Said
+    requires { ⌜ Ready (now sheet) place (now cue) ⌝ }
+    ensures { λ r. ⌜ r ≡ saidOf (partAt (now (sheet .entry)) place) (children (now (cue .entry))) ⌝ }
 {
-    let place = entry.model;
     let start = place.start as usize;
     let model = &sheet[start..start + place.len as usize];
-    let rule = entry.rule;
-    let names = entry.names;
     let ends = first_fields(cue);
     let third = ends.third;
-    if third < cue.len() {} else {
-        return said_by(judge_row(rule, &row[0..0]));
+    if third < cue.len() {
+        return said_from(judge_children(model, &cue[third + 1..cue.len()]));
     }
-    match row_of(model, names, &cue[third + 1..cue.len()], row) {
-        Children::Count(n) => said_by(judge_row(rule, &row[0..n])),
-        Children::Refused(_) => Said::Dead,
-    }
+    said_from(judge_children(model, b""))
 }
 
-// The same as a byte, by the number of the entry: 0 where the sheet lacks the kind.
-fn code_for(sheet: &[u8], entry: Entry, cue: &[u8], number: usize, row: &mut [u16]) -> u8
-    requires { ⌜ ((number ≡ 0 → ⊥) → Ready (now sheet) entry (now cue) (now row)) ⌝ }
-    ensures { λ r. ⌜ r ≡ cond (eqb number 0) 3 (codeOf (saidOf (partAt (now (sheet .entry)) (entry .model)) (children (now (cue .entry))))) ⌝ }
+// The same as a byte, by the number of the sheet's line: 0 where the sheet lacks the kind.
+fn code_for(sheet: &[u8], place: NamePlace, cue: &[u8], number: usize) -> u8
+    requires { ⌜ ((number ≡ 0 → ⊥) → Ready (now sheet) place (now cue)) ⌝ }
+    ensures { λ r. ⌜ r ≡ cond (eqb number 0) 3 (codeOf (saidOf (partAt (now (sheet .entry)) place) (children (now (cue .entry))))) ⌝ }
 {
     if number == 0 {
         return 3;
     }
-    let said = say(sheet, entry, cue, row);
+    let said = say(sheet, place, cue);
     code_of(said)
+}
+
+// The number from 1 of the sheet's line that has the kind of a cue, or 0.
+fn line_of(sheet: &[u8], kinds: Names, cue: &[u8]) -> usize
+    requires { ⌜ Fits (now cue) ⌝ }
+    ensures { λ r. ⌜ r ≡ numberIn (partsOf (now (sheet .entry)) kinds) (field 2 (now (cue .entry))) ⌝ }
+{
+    let ends = first_fields(cue);
+    let second = ends.second;
+    let third = ends.third;
+    let number = number_of(sheet, kinds, &cue[second + 1..third]);
+    number.0 as usize
 }
 
 fn one_less(n: usize) -> usize
@@ -123,29 +129,24 @@ fn one_less(n: usize) -> usize
     if n == 0 { 0 } else { n - 1 }
 }
 
-fn free_row() -> [u16; MAX_ROW] {
-    [0; MAX_ROW]
-}
-
 // What the sheet says of each cue.
 fn say_all(sheet: &[u8], rules: Sheet, cues: &[u8], codes: &mut [u8])
     requires { ⌜ Loaded (now sheet) rules × GoodCues (now cues) × (length (now codes) ≡ 65535) ⌝ }
     ensures { λ r. ⌜ Coded (now (sheet .entry)) (now (cues .entry)) (now (codes .exit)) ⌝ }
 {
     let kinds = rules.kinds;
-    let mut row = free_row();
     let mut n: usize = 0;
     let mut at: usize = 0;
     while at < cues.len() {
         let end = part_end(cues, at, LINE_FEED);
         let cue = &cues[at..end];
-        let ends = first_fields(cue);
-        let second = ends.second;
-        let third = ends.third;
-        let number = number_of(sheet, kinds, &cue[second + 1..third]);
-        let k = number.0 as usize;
-        let entry = rules.entries[one_less(k)];
-        codes[n] = code_for(sheet, entry, cue, k, &mut row);
+        let number = line_of(sheet, kinds, cue);
+        let i = one_less(number);
+        let place = NamePlace {
+            start: rules.entries[i].model.start,
+            len: rules.entries[i].model.len,
+        };
+        codes[n] = code_for(sheet, place, cue, number);
         n += 1;
         at = end + 1;
     }

@@ -7,29 +7,30 @@ use Prim.Native.Nat.{ℕ, suc, _+_, _-_, _≤_, _<_}
 use native.Mathlib.Decide.{decLt}
 use native.Mathlib.Omega.{arith}
 use native.Mathlib.Numerals.{add-one}
-use lib.Dec.{T, eqb, leb}
+use lib.Dec.{eqb, leb}
 use lib.ListN.{length, take, drop, getD, set, length-append, length-map, length-take, length-drop, drop-of-length-le}
 use lib.Seq.{take-at, drop-at, take-all, take-add, drop-cons, drop-drop, drop-length, take-length, getD-set-same, getD-set-other}
-use borrow.Author.Tests.{eqb-true, eqb-false, leb-true, le-leb, lt-leb, lt-ltb}
+use borrow.Author.Tests.{eqb-true, eqb-false, leb-true, le-leb, lt-leb, le-ltb, lt-ltb}
 use Rattle.fields.specs.Tests.{by-test}
 use Rattle.judge.specs.declared.text.NamePlace.{NamePlace}
-use Rattle.fields.specs.Bytes.{Text, sameText}
-use Rattle.model.specs.Syntax.{numberFrom, numberIn}
+use Rattle.judge.specs.declared.text.Names.{Names}
+use Rattle.fields.specs.Bytes.{Text}
+use Rattle.model.specs.Syntax.{numberIn}
 use Rattle.fields.specs.Bytes.Laws.{T-true}
-use Rattle.model.specs.Word.{Word}
+use Rattle.model.specs.Fault.{Answer, refused, accepted}
+use Rattle.model.specs.Fault.Answered.{answer}
+use Rattle.model.specs.Model.{modelOf, typeOf}
+use Rattle.model.specs.Verdict.Laws.{verdict}
 use Rattle.fields.specs.Limits.{maxRow}
-use Rattle.judge.specs.Judge.Laws.{judged}
-use Rattle.judge.specs.Reading.{reading, partAt, partsOf}
+use Rattle.judge.specs.Reading.{partAt, partsOf}
+use Rattle.judge.specs.Named.Laws.{number-below}
+use Rattle.judge.specs.Reply.{childrenIn, maxChildrenText, row, replyBy, rowIn, childrenReply, judgedOf}
 use Rattle.fields.specs.declared.fault.CueFault.{CueFault}
-use Rattle.fields.specs.declared.children.Children.{Children}
-use Rattle.fields.specs.declared.children.Children.the-variants.{Count, Refused}
 use Rattle.fields.specs.declared.split.Heads.{Heads}
-use Rattle.fields.specs.Split.{tab, split, lines, field, part}
-use Rattle.fields.specs.Split.Laws.{part-rest}
+use Rattle.fields.specs.Split.{lineFeed, tab, split, lines, field, part, partEnd}
+use Rattle.fields.specs.Split.Laws.{stand-start, stand-next, end-bounds, part-rest}
 use Rattle.fields.specs.Heads.{headsOf, fields-three, Three, more-none}
-use Rattle.fields.specs.Children.{allNames, childrenOf}
-use Rattle.judge.specs.Named.{rowOf, rowAfter}
-use Rattle.fields.specs.Children.Laws.{counted}
+use Rattle.fields.specs.Children.{allNames}
 use Rattle.sheet.specs.declared.line.Said.{Said}
 use Rattle.sheet.specs.declared.line.Said.the-variants.{Complete, Open, Dead, NoSheet}
 use Rattle.sheet.specs.declared.sheet.Entry.{Entry}
@@ -45,60 +46,44 @@ use Rattle.sheet.specs.declared.cues.CuesRead.the-variants.{Count as Cue
 use Rattle.sheet.specs.declared.listing.Listed.the-variants.{Written, SheetRefused, CueRefused, TooLong}
 use Rattle.sheet.specs.Listing.{listingLine, listingBy, saidBy, saidOf, said, listing, listed, bySheet, byCues, bufferAfter}
 use Rattle.sheet.specs.Put.{Put, Fits}
-use Rattle.sheet.specs.Listing.Laws.{enough, line-length, word-short}
+use Rattle.sheet.specs.Listing.Laws.{enough, cue-three, line-length, word-short}
 use Rattle.fields.specs.Bytes.Numeral.{digits-length}
 use borrow.Rule.Slice.PartMut.{putMid}
-use Rattle.sheet.specs.Coded.{codeOf, decoded, listingCoded, Ready, Coded}
+use Rattle.sheet.specs.Coded.{saidFrom, codeOf, decoded, listingCoded, Ready, GoodCues, Before, Cue, Coded}
 
--- what an entry says of a cue
-module _ (s : Text) (e : Entry) (l : Text) (row : Word) (r : Ready s e l row) (h : Heads) (i : h ≡ headsOf l) where
+-- of children that are good, the judge's answer says what the model says
+said-judged : (m c : Text) → length c ≤ maxChildrenText → allNames (childrenIn c) ≡ true → length (childrenIn c) ≤ maxRow
+    → saidFrom (judgedOf (childrenReply m c)) ≡ saidOf m (childrenIn c)
+unfolding childrenReply
+said-judged m c k n h = go (answer m)
+  where
+    go : (a : Answer) → saidFrom (judgedOf (replyBy row (λ t. verdict (typeOf (modelOf t)) (rowIn t c)) c a)) ≡ saidBy a (childrenIn c)
+    go (refused f p) = refl
+    go (accepted t) = rw (le-ltb maxChildrenText (length c) k, n, le-leb (length (childrenIn c)) maxRow h)
+
+-- no field is no name
+children-in : (c : Text) → allNames (split tab c) ≡ true → childrenIn c ≡ split tab c
+children-in [] n = let z : _≡_ {A = ℕ} 0 1 = cc n in absurd (omega arith)
+children-in (b ∷ c) n = refl
+
+-- what the model m says of a cue line
+module _ (s m : Text) (p : NamePlace) (l : Text) (r : Ready s p l) (e : m ≡ partAt s p) (h : Heads) (i : h ≡ headsOf l) where
   ready-three : Three l h
-  ready-three = fields-three l h i (enough l h i (r .fits .enough))
+  ready-three = cue-three l h i (r .fits .enough)
 
-  pub say-none : length l ≤ h .third → saidBy (judged (e .rule) []) ≡ saidOf (partAt s (e .model)) (children l)
-  say-none k =
-      let c : children l ≡ [] = ready-three .behind-is ∙ more-none l (h .third) k in
-      rw (r .rule-is, c)
+  say : (c : Text) → childrenIn c ≡ children l → length c ≤ length l → saidFrom (judgedOf (childrenReply m c)) ≡ saidOf (partAt s p) (children l)
+  say c q k =
+      said-judged m c (omega (arith, r .fits .short)) (ap allNames q ∙ T-true (allNames (children l)) (r .named)) (omega (arith, ap length q, r .fits .few))
+      ∙ ap₂ saidOf e q
 
-  module _ (k : h .third < length l) where
-    children-are : children l ≡ split tab (part l (h .third + 1) (length l))
-    children-are = ready-three .behind-is ∙ rw (lt-ltb (h .third) (length l) k, part-rest l (h .third + 1), add-one)
+  pub say-none : length l ≤ h .third → saidFrom (judgedOf (childrenReply m [])) ≡ saidOf (partAt s p) (children l)
+  say-none k = say [] (sym (ready-three .behind-is ∙ more-none l (h .third) k)) (omega arith)
 
-    module _ (m : Text) (y : m ≡ partAt s (e .model)) (o : Children) (n : ℕ) (new : Word) (c : o ≡ childrenOf (split tab (part l (h .third + 1) (length l)))) (d : o ≡ Count n)
-        (q : new ≡ rowAfter o (rowOf (partsOf m (e .names)) (split tab (part l (h .third + 1) (length l)))) row) where
-      numbers : Word
-      numbers = rowOf (partsOf m (e .names)) (split tab (part l (h .third + 1) (length l)))
-
-      all-counted : (length (split tab (part l (h .third + 1) (length l))) ≡ n) × (length (split tab (part l (h .third + 1) (length l))) ≤ maxRow)
-      all-counted = counted (split tab (part l (h .third + 1) (length l))) n (sym c ∙ d)
-
-      row-is : new ≡ numbers ++ drop n row
-      unfolding numbers
-      row-is =
-          let j = all-counted in
-          let a : take (length row) numbers ≡ numbers = take-all (length row) numbers (rw length-map (omega (arith, r .room, j))) in
-          q ∙ ap (λ z. rowAfter z numbers row) d ∙ ap (λ z. z ++ drop n row) a
-
-      pub room-for : n ≤ length new
-      unfolding numbers
-      room-for = let j = all-counted in rw (row-is, length-append, length-map) (omega arith)
-
-      pub say-some : saidBy (judged (e .rule) (take (n - 0) new)) ≡ saidOf (partAt s (e .model)) (children l)
-      unfolding numbers
-      say-some =
-          let j : length numbers ≡ n = length-map (split tab (part l (h .third + 1) (length l))) _ ∙ all-counted .0 in
-          let z : n - 0 ≡ n = omega arith in
-          let t : take (n - 0) new ≡ numbers = ap (λ i. take i new) z ∙ ap (take n) row-is ∙ take-at numbers (drop n row) n j in
-          rw (t, children-are, r .rule-is, y, r .names-are)
-
-    pub never-refused : (f : CueFault) → childrenOf (split tab (part l (h .third + 1) (length l))) ≡ Refused f → {C : Type 0} → C
-    never-refused f c =
-        let cs = split tab (part l (h .third + 1) (length l)) in
-        let a : allNames cs ≡ true = ap allNames (sym children-are) ∙ T-true (allNames (children l)) (r .named) in
-        let b : length cs ≤ maxRow = omega (arith, ap length children-are, r .fits .few) in
-        let d : childrenOf cs ≡ Count (length cs) = rw (a, le-leb (length cs) maxRow b) in
-        let z : _≡_ {A = ℕ} 0 1 = cc (c, d) in
-        absurd (omega arith)
+  pub say-some : h .third < length l → saidFrom (judgedOf (childrenReply m (part l (h .third + 1) (length l)))) ≡ saidOf (partAt s p) (children l)
+  say-some k =
+      let c = part l (h .third + 1) (length l) in
+      let q : children l ≡ split tab c = ready-three .behind-is ∙ rw (lt-ltb (h .third) (length l) k, part-rest l (h .third + 1), add-one) in
+      say c (children-in c (ap allNames (sym q) ∙ T-true (allNames (children l)) (r .named)) ∙ sym q) (rw (length-take, length-drop) (omega arith))
 
 -- the bytes give the verdicts back
 pub decoded-code : (v : Said) → decoded (codeOf v) ≡ v
@@ -177,43 +162,51 @@ put-all old new whole at m k e b =
 pub part-at-place : (s : Text) (p : NamePlace) → part s (p .start) (p .start + p .len) ≡ partAt s p
 part-at-place s p = let e : (p .start + p .len) - p .start ≡ p .len = omega arith in ap (λ n. take n (drop (p .start) s)) e
 
--- a number among texts is at most as many as they are
-pub number-bound : (j : ℕ) (ks : List Text) (x : Text) → numberFrom (suc j) ks x ≤ j + length ks
-number-bound j [] x = omega arith
-number-bound j (k ∷ ks) x = by-test (sameText k x) (λ e. rw e (omega arith)) (λ e. rw e (omega (arith, number-bound (suc j) ks x)))
+-- the lines of a cue list, one by one
+pub before-first : {c : Text} → GoodCues c → Before c 0 0
+before-first {c} g = record { stand = stand-start c (g .ended); below = omega arith; good = g }
 
--- what the sheet says of a cue line, by the number of its kind
-module _ (s : Text) (rules : Sheet) (w : Loaded s rules) (l : Text) (h : Heads) (t : Three l h) (k : ℕ)
-    (e : k ≡ numberIn (partsOf s (rules .kinds)) (part l (h .second + 1) (h .third))) where
-  number-is : k ≡ numberIn (map kind (lines s)) (field 2 l)
-  number-is = e ∙ ap₂ numberIn (w .kinds-are) (sym (t .third-is))
+pub before-cue : {c : Text} {n at end : ℕ} → Before c n at → at < length c → end ≡ partEnd c lineFeed at → Cue c n at end
+before-cue {c} {n} {at} {end} b h e =
+    let v = stand-next c n at (b .stand) end h e in
+    let k = end-bounds c lineFeed at end (omega arith) e in
+    record {
+      bounds = (k .0, v .inside, b .good .short, omega (arith, b .below, b .good .short));
+      counted = v .counted;
+      line-is = v .line-is;
+      fits = rw (v .line-is) at (b .good .fit n (v .counted));
+      named = rw (v .line-is) at (b .good .named n (v .counted));
+      next = record { stand = v .stand; below = omega (arith, b .below, k .0); good = b .good };
+    }
+
+-- what the sheet says of a cue, by the number of its kind
+module _ {s : Text} {rules : Sheet} {kinds : Names} {c : Text} {n at end k : ℕ} (w : Loaded s rules) (z : kinds ≡ rules .kinds) (m : Cue c n at end)
+    (e : k ≡ numberIn (partsOf s kinds) (field 2 (part c at end))) where
+  cue : Text
+  cue = part c at end
+
+  number-is : k ≡ numberIn (map kind (lines s)) (field 2 cue)
+  unfolding cue
+  number-is = e ∙ ap (λ ks. numberIn ks (field 2 (part c at end))) (ap (partsOf s) z ∙ w .kinds-are)
 
   -- the first entry stands in where there is none
   pub rule-few : k - 1 < 64
-  rule-few = omega (arith, number-is, number-bound 0 (map kind (lines s)) (field 2 l), length-map (lines s) kind, w .few)
+  rule-few = omega (arith, number-is, number-below 0 (map kind (lines s)) (field 2 cue), length-map (lines s) kind, w .few)
 
   rule-inside : (k ≡ 0 → ⊥) → k - 1 < length (lines s)
-  rule-inside z = omega (arith, z, number-is, number-bound 0 (map kind (lines s)) (field 2 l), length-map (lines s) kind)
+  rule-inside o = omega (arith, o, number-is, number-below 0 (map kind (lines s)) (field 2 cue), length-map (lines s) kind)
 
-  pub code-said : (d : Entry) (code : ℕ) → code ≡ cond (eqb k 0) 3 (codeOf (saidOf (partAt s (getD (rules .entries) (k - 1) d .model)) (children l))) → code ≡ codeOf (said (lines s) l)
-  code-said d code c =
+  pub code-said : (d : Entry) (code : ℕ) → code ≡ cond (eqb k 0) 3 (codeOf (saidOf (partAt s (getD (rules .entries) (k - 1) d .model)) (children (part c at end)))) → code ≡ codeOf (said (lines s) (getD (lines c) n []))
+  unfolding cue
+  code-said d code q =
       by-test (eqb k 0)
-      (λ z. let y : numberIn (map kind (lines s)) (field 2 l) ≡ 0 = sym number-is ∙ eqb-true k 0 z in c ∙ rw (z, y))
-      (λ z. let y : numberIn (map kind (lines s)) (field 2 l) ≡ suc (k - 1) = sym number-is ∙ omega (arith, eqb-false k 0 z) in
-      let g = w .entries-good (k - 1) d (rule-inside (eqb-false k 0 z)) in
-      c ∙ rw (z, y, g .model-is))
+      (λ o. let y : numberIn (map kind (lines s)) (field 2 cue) ≡ 0 = sym number-is ∙ eqb-true k 0 o in q ∙ rw (m .line-is, o, y))
+      (λ o. let y : numberIn (map kind (lines s)) (field 2 cue) ≡ suc (k - 1) = sym number-is ∙ omega (arith, eqb-false k 0 o) in
+      let g = w .entries-good (k - 1) d (rule-inside (eqb-false k 0 o)) in
+      q ∙ rw (m .line-is, o, y, g .model-is))
 
-  pub entry-ready : (d : Entry) (row : Word) → Fits l → T (allNames (children l)) → length row ≡ maxRow → (k ≡ 0 → ⊥) → Ready s (getD (rules .entries) (k - 1) d) l row
-  entry-ready d row f a r z =
-      let g = w .entries-good (k - 1) d (rule-inside z) in
-      record {
-        inside = g .inside;
-        rule-is = g .rule-is ∙ ap (λ m. reading m .rule) (sym (g .model-is));
-        names-are = g .names-are ∙ ap (λ m. reading m .names) (sym (g .model-is));
-        fits = f;
-        named = a;
-        room = r;
-      }
+  pub place-ready : (d : Entry) → (k ≡ 0 → ⊥) → Ready s (getD (rules .entries) (k - 1) d .model) (part c at end)
+  place-ready d o = record { inside = w .entries-good (k - 1) d (rule-inside o) .inside; fits = m .fits; named = m .named }
 
 -- one byte more
 pub coded-set : (f : Text → Said) (ls : List Text) (vs : List ℕ) (n v : ℕ) → n < length vs → ((i : ℕ) → i < n → getD vs i 0 ≡ codeOf (f (getD ls i []))) → v ≡ codeOf (f (getD ls n []))

@@ -11,7 +11,7 @@ use Rattle.fields.specs.Bytes.{Text}
 use Rattle.fields.specs.Bytes.Numeral.{digits}
 use Rattle.fields.specs.declared.split.Heads.{Heads}
 use Rattle.fields.specs.Split.{lineFeed, tab, fields, part}
-use Rattle.fields.specs.Heads.{headsOf, fields-few, Three}
+use Rattle.fields.specs.Heads.{headsOf, fields-few, fields-three, Three}
 use Rattle.sheet.specs.declared.line.Said.{Said}
 use Rattle.sheet.specs.declared.line.Said.the-variants.{Complete, Open, Dead, NoSheet}
 use Rattle.sheet.specs.Cues.{children}
@@ -22,6 +22,9 @@ module _ (l : Text) (h : Heads) where
   enough e k =
       by-test (ltb (h .second) (length l)) (λ t. ltb-true (h .second) (length l) t)
       (λ t. let f = fields-few l h e (ltb-false (h .second) (length l) t) in absurd (omega (arith, ltb-true (length (fields l)) 3 f)))
+
+  pub cue-three : h ≡ headsOf l → 3 ≤ length (fields l) → Three l h
+  cue-three e k = fields-three l h e (enough e k)
 
 part-length : (l : Text) (a b : ℕ) → b ≤ length l → length (part l a b) ≡ b - a
 part-length l a b h = rw (length-take, length-drop) (omega arith)

@@ -12,7 +12,7 @@ use lib.Seq.{take-suc, take-all, take-at, drop-cons, drop-length, getD-set-same,
 use borrow.Author.Tests.{le-leb, lt-leb}
 use Rattle.judge.specs.declared.text.Names.{Names}
 use Rattle.fields.specs.Bytes.{Text}
-use Rattle.judge.specs.Reading.{noPlace, namesWith, reading, partAt, partsOf}
+use Rattle.judge.specs.Reading.{noPlace, namesWith, partAt, partsOf}
 use Rattle.judge.specs.Reading.Filled.{filled, fill-length, fill-turn, names-filled}
 use Rattle.fields.specs.Split.{lineFeed, lines, behind, part, partEnd}
 use Rattle.fields.specs.Split.Laws.{Stand, Next, stand-start, stand-stop, stand-next, end-bounds}
@@ -27,12 +27,10 @@ use Rattle.sheet.specs.declared.sheet.SheetRead.{SheetRead}
 use Rattle.sheet.specs.Sheet.{maxRules, kind, model, lineFault, sheetLines, Placed, placedFrom, kindPlace, entryOf, noEntry, sheetWith, sheetBy}
 use Rattle.sheet.specs.Sheet.Laws.{checkedBy, LineIs, line-kind-is, line-model-is, part-size}
 
--- an entry of the text s is that of the line l
+-- the model of the line l stands at the entry's place in the text s
 pub record EntryGood (s : Text) (e : Entry) (l : Text) : Type 0 where
   pub inside : e .model .start + e .model .len ≤ length s
   pub model-is : partAt s (e .model) ≡ model l
-  pub rule-is : e .rule ≡ reading (model l) .rule
-  pub names-are : e .names ≡ reading (model l) .names
 
 -- a sheet that was read from s: its kinds, and an entry for each line
 pub record Loaded (s : Text) (r : Sheet) : Type 0 where
@@ -83,7 +81,7 @@ gone-start x s e b =
 -- the entry of a good line
 entry-good : (x : Text) (at end : ℕ) → at ≤ end → end ≤ length x → (ks : List Text) → checkedBy (lineFault ks (part x at end)) ≡ Good
     → EntryGood x (entryOf (record { start = at; line = part x at end })) (part x at end)
-entry-good x at end o h ks e = let m = line-model-is x at end o h ks e in record { inside = m .1; model-is = m .0; rule-is = refl; names-are = refl }
+entry-good x at end o h ks e = let m = line-model-is x at end o h ks e in record { inside = m .1; model-is = m .0 }
 
 module _ (x : Text) (kinds : Names) (entries : List Entry) (n at : ℕ) (w : Gone x kinds entries n at) where
   ps : List Placed

@@ -1,4 +1,4 @@
--- By whether there is an entry.
+-- By whether there is a line.
 use mathlib.Core.Path.{refl, ap, _∙_}
 use borrow.Author.Tests.{eq-eqb, ne-eqb}
 use Rattle.sheet.specs.Coded.{codeOf}
@@ -10,16 +10,13 @@ returns : tie.Need-returns
 returns c = rw (eq-eqb _ _ (c .if1 .taken)) refl
 
 say-requires : tie.Need-say-requires
-say-requires c κs = c .before .before .before .before .before .pre (c .before .if1 .left)
+say-requires c κs = c .before .before .before .pre (c .if1 .left)
 
 code-of-requires : tie.Need-code-of-requires
 code-of-requires c κs = search needs
 
-same-length : tie.Need-same-length
-same-length c = search needs
-
 returns-2 : tie.Need-returns-2
-returns-2 c = rw (ne-eqb _ _ (c .before .before .before .before .before .if1 .left)) (c .code-of .ensures ∙ ap codeOf (c .before .before .before .say .ensures))
+returns-2 c = rw (ne-eqb _ _ (c .before .before .if1 .left)) (c .code-of .ensures ∙ ap codeOf (c .before .say .ensures))
 
 pub code-for-spec : {M : Type 1} → statement M
-code-for-spec = tie.close (tie.spec returns say-requires code-of-requires same-length returns-2)
+code-for-spec = tie.close (tie.spec returns say-requires code-of-requires returns-2)
