@@ -3,8 +3,8 @@
 ghost use mathlib.Core.Path.{_≡_};
 ghost use Prim.Native.Nat.{_+_, _-_, _≤_, _<_};
 ghost use lib.ListN.{length};
+ghost use Rattle.fields.specs.Limits.{maxFile};
 ghost use Rattle.fields.specs.Split.{tab, split};
-ghost use Rattle.judge.specs.Reply.{maxChildrenText};
 ghost use Rattle.desk.specs.Child.{startIn, found, located, childPart, childRefusal, textOf, startOf, bytesOf};
 ghost use Rattle.desk.specs.Child.Code.{Reached, askedOf, locatedIn, locatedRead};
 use fields::children::Children;
@@ -53,7 +53,7 @@ fn asked(children: &[u8], k: usize) -> Children
 
 // Where child k begins.
 fn child_start(children: &[u8], k: usize) -> usize
-    requires { ⌜ (1 ≤ k) × (k ≤ length (split tab (now children))) × (length (now children) ≤ maxChildrenText) ⌝ }
+    requires { ⌜ (1 ≤ k) × (k ≤ length (split tab (now children))) × (length (now children) ≤ maxFile) ⌝ }
     ensures { λ r. ⌜ (r ≡ startIn (split tab (now (children .entry))) (k - 1)) × Reached (now (children .entry)) (k - 1) r ⌝ }
 {
     let last = k - 1;

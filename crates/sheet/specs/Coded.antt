@@ -6,6 +6,7 @@ use mathlib.Core.List.{List, [], _∷_, _++_}
 use Prim.Native.Nat.{ℕ, suc, _+_, _≤_, _<_}
 use lib.Dec.{T, eqb}
 use lib.ListN.{length, getD}
+use Rattle.fields.specs.Limits.{maxFile}
 use Rattle.fields.specs.Bytes.{Text}
 use Rattle.judge.specs.declared.text.NamePlace.{NamePlace}
 use Rattle.judge.specs.declared.verdict.ChildrenJudged.{ChildrenJudged}
@@ -15,7 +16,7 @@ use Rattle.fields.specs.Split.Laws.{Stand}
 use Rattle.fields.specs.Children.{allNames}
 use Rattle.sheet.specs.declared.line.Said.{Said}
 use Rattle.sheet.specs.declared.line.Said.the-variants.{Complete, Open, Dead, NoSheet}
-use Rattle.sheet.specs.Cues.{maxFile, children}
+use Rattle.sheet.specs.Cues.{children}
 use Rattle.sheet.specs.Put.{Fits}
 use Rattle.sheet.specs.Listing.{wordOf, listingLine, said}
 

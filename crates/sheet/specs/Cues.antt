@@ -8,7 +8,7 @@ use Prim.Native.Char.{code}
 use lib.Dec.{leb, ltb, eqb}
 use lib.ListN.{length, drop, getD}
 use Rattle.fields.specs.Bytes.{Text, bytes, isDigit, all, value, sameText}
-use Rattle.fields.specs.Limits.{maxRow}
+use Rattle.fields.specs.Limits.{maxRow, maxFile}
 use Rattle.fields.specs.declared.fault.CueFault.{CueFault}
 use Rattle.fields.specs.declared.fault.CueFault.the-variants.{LongFile, Unended, BadFields, BadNumber, NotAbove, NoName, ManyChildren}
 use Rattle.fields.specs.Split.{lines, behind, fields, field}
@@ -17,10 +17,6 @@ use Rattle.sheet.specs.declared.cues.CueLine.{CueLine}
 use Rattle.sheet.specs.declared.cues.CueLine.the-variants.{Number, Bad}
 use Rattle.sheet.specs.declared.cues.CuesRead.{CuesRead}
 use Rattle.sheet.specs.declared.cues.CuesRead.the-variants.{Count, Refused}
-
--- a sheet or a cue list has at most so many bytes
-abbrev pub maxFile : ℕ
-maxFile = 65535
 
 -- 1 to 5 digits, the first not 0
 abbrev pub isCueNumber : Text → Bool

@@ -7,9 +7,9 @@ use native.Mathlib.Numerals.{add-one}
 use lib.ListN.{length, take, drop, set, length-append, length-take, length-drop}
 use lib.Seq.{take-at, drop-at, drop-drop, set-split, paste, take-length}
 use Rattle.fields.specs.Bytes.{Text}
-use Rattle.fields.specs.Limits.{maxRow}
+use Rattle.fields.specs.Limits.{maxRow, maxFile}
 use Rattle.fields.specs.Split.{fields}
-use Rattle.sheet.specs.Cues.{maxFile, children}
+use Rattle.sheet.specs.Cues.{children}
 
 -- a line that is a cue's: it has its three fields, and no more children than the limit
 pub record Fits (l : Text) : Type 0 where

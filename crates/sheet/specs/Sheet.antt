@@ -9,6 +9,7 @@ use mathlib.Core.List.{List, [], _∷_, _++_, map}
 use Prim.Native.Nat.{ℕ, suc, _+_, _-_}
 use lib.Dec.{leb, ltb, eqb}
 use lib.ListN.{length, replicate}
+use Rattle.fields.specs.Limits.{maxFile}
 use Rattle.judge.specs.declared.text.NamePlace.{NamePlace}
 use Rattle.fields.specs.Bytes.{Text, bytes, sameText}
 use Rattle.model.specs.Fault.{Answer, refused, accepted, modelNumber}
@@ -23,7 +24,6 @@ use Rattle.sheet.specs.declared.sheet.SheetOutcome.the-variants.{Read, R
 use Rattle.sheet.specs.declared.sheet.Entry.{Entry}
 use Rattle.sheet.specs.declared.sheet.Sheet.{Sheet}
 use Rattle.sheet.specs.declared.sheet.SheetRead.{SheetRead}
-use Rattle.sheet.specs.Cues.{maxFile}
 
 abbrev pub maxRules : ℕ
 maxRules = 64

@@ -16,15 +16,15 @@ use Rattle.model.specs.declared.fault.ModelFault.{ModelFault}
 use Rattle.judge.specs.declared.text.Names.{Names}
 use Rattle.judge.specs.declared.text.Outcome.the-variants.{Read, Refused as Unread}
 use Rattle.judge.specs.declared.text.Reading.{Reading}
-use Rattle.fields.specs.Bytes.{Text, sameText}
-use Rattle.model.specs.Syntax.{Syntax, names, numberFrom, numberIn}
+use Rattle.fields.specs.Bytes.{Text}
+use Rattle.model.specs.Syntax.{Syntax, names, numberIn}
 use Rattle.model.specs.Fault.{modelNumber, Answer, Answers, refused, accepted}
 use Rattle.model.specs.Fault.Answered.{answer, answered, name-inside}
 use Rattle.model.specs.Fault.Ties.{places}
 use Rattle.judge.specs.Reading.{noPlace, namesOf, readingBy, reading, partsOf}
 use Rattle.judge.specs.Reading.Laws.{names-are}
 use Rattle.judge.specs.Reading.Search.{name-fits}
-use Rattle.fields.specs.Limits.{maxRow}
+use Rattle.fields.specs.Limits.{maxRow, maxFile}
 use Rattle.fields.specs.declared.fault.CueFault.{CueFault}
 use Rattle.fields.specs.declared.fault.CueFault.the-variants.{LongFile, NoName, ManyChildren, NoChild}
 use Rattle.fields.specs.declared.children.Children.{Children}
@@ -34,7 +34,7 @@ use Rattle.fields.specs.Split.Laws.{joined, joined-split, part-at, end-within}
 use Rattle.fields.specs.Children.{cueNumber, allNames, childrenOf}
 use Rattle.desk.specs.declared.child.Located.{Located}
 use Rattle.desk.specs.declared.child.Located.the-variants.{InModel, InChildren, NoModel, NoChildren}
-use Rattle.judge.specs.Reply.{childrenIn, maxChildrenText, child, Reply, noModel, noChildren, good, childrenBy}
+use Rattle.judge.specs.Reply.{childrenIn, child, Reply, noModel, noChildren, good, childrenBy}
 use Rattle.judge.specs.Reply.Children.Laws.{children-some}
 use Rattle.judge.specs.Reply.Judged.{childrenGive}
 use Rattle.desk.specs.Desk.{replyNumber}
@@ -48,25 +48,25 @@ askedCount (Count n) k = cond (leb 1 k && leb k n) (Count n) (Refused NoChild)
 askedCount (Refused f) k = Refused f
 
 unfoldable pub askedOf : Text → ℕ → Children
-askedOf c k = cond (ltb maxChildrenText (length c)) (Refused LongFile) (askedCount (childrenOf (childrenIn c)) k)
+askedOf c k = cond (ltb maxFile (length c)) (Refused LongFile) (askedCount (childrenOf (childrenIn c)) k)
 
 module _ (c : Text) (k : ℕ) where
-  pub asked-long : maxChildrenText < length c → Refused LongFile ≡ askedOf c k
+  pub asked-long : maxFile < length c → Refused LongFile ≡ askedOf c k
   unfolding askedOf
-  asked-long h = rw (lt-ltb maxChildrenText (length c) h)
+  asked-long h = rw (lt-ltb maxFile (length c) h)
 
   pub asked-none : length c ≡ 0 → Refused NoChild ≡ askedOf c k
   unfolding askedOf
-  asked-none h = rw (le-ltb maxChildrenText (length c) (omega arith)) (go c h)
+  asked-none h = rw (le-ltb maxFile (length c) (omega arith)) (go c h)
     where
       go : (y : Text) → length y ≡ 0 → Refused NoChild ≡ askedCount (childrenOf (childrenIn y)) k
       go [] h = by-test (leb 1 k) (λ e. rw (e, lt-leb k 0 (omega (arith, leb-true 1 k e)))) (λ e. rw e)
       go (b ∷ y) h = absurd (omega arith)
 
-  module _ (size : length c ≤ maxChildrenText) (some : length c ≡ 0 → ⊥) (x : Children) (e : x ≡ childrenOf (split tab c)) where
+  module _ (size : length c ≤ maxFile) (some : length c ≡ 0 → ⊥) (x : Children) (e : x ≡ childrenOf (split tab c)) where
     asked-some : askedOf c k ≡ askedCount x k
     unfolding askedOf
-    asked-some = rw (le-ltb maxChildrenText (length c) size, children-some c some, ← e)
+    asked-some = rw (le-ltb maxFile (length c) size, children-some c some, ← e)
 
     pub asked-there : (n : ℕ) → x ≡ Count n → leb 1 k && leb k n ≡ true → Count n ≡ askedOf c k
     asked-there n d t = sym (asked-some ∙ rw (d, t))
@@ -80,7 +80,7 @@ module _ (c : Text) (k : ℕ) where
   kids-asked : {A : Type 0} (v : A) → childrenBy (child k) c v ≡ childrenGive (askedOf c k) v
   unfolding askedOf
   kids-asked v =
-      by-test (ltb maxChildrenText (length c)) (λ e. rw e)
+      by-test (ltb maxFile (length c)) (λ e. rw e)
       (λ e. by-test (allNames (childrenIn c))
       (λ n. by-test (leb (length (childrenIn c)) maxRow)
       (λ l. by-test (leb 1 k && leb k (length (childrenIn c))) (λ t. rw (e, n, l, t)) (λ t. rw (e, n, l, t)))
@@ -88,12 +88,12 @@ module _ (c : Text) (k : ℕ) where
       (λ n. rw (e, n)))
 
   -- a child that is asked for and counted is there
-  pub asked-within : (n : ℕ) → askedOf c k ≡ Count n → (1 ≤ k) × (k ≤ length (split tab c)) × (length c ≤ maxChildrenText) × (length c ≡ 0 → ⊥)
+  pub asked-within : (n : ℕ) → askedOf c k ≡ Count n → (1 ≤ k) × (k ≤ length (split tab c)) × (length c ≤ maxFile) × (length c ≡ 0 → ⊥)
   unfolding askedOf
   asked-within n e =
-      by-test (ltb maxChildrenText (length c))
+      by-test (ltb maxFile (length c))
       (λ t. let z : Refused LongFile ≡ Count n = rw t at e in let o : _≡_ {A = ℕ} 0 1 = cc in absurd (omega arith))
-      (λ t. go c (ltb-false maxChildrenText (length c) t) (rw t at e))
+      (λ t. go c (ltb-false maxFile (length c) t) (rw t at e))
     where
       there : (cs : List Text) → askedCount (childrenOf cs) k ≡ Count n → (1 ≤ k) × (k ≤ length cs)
       there cs d =
@@ -106,7 +106,7 @@ module _ (c : Text) (k : ℕ) where
           (λ b. let z : Refused ManyChildren ≡ Count n = rw (a, b) at d in let o : _≡_ {A = ℕ} 0 1 = cc in absurd (omega arith)))
           (λ a. let z : Refused NoName ≡ Count n = rw a at d in let o : _≡_ {A = ℕ} 0 1 = cc in absurd (omega arith))
 
-      go : (y : Text) → length y ≤ maxChildrenText → askedCount (childrenOf (childrenIn y)) k ≡ Count n → (1 ≤ k) × (k ≤ length (split tab y)) × (length y ≤ maxChildrenText) × (length y ≡ 0 → ⊥)
+      go : (y : Text) → length y ≤ maxFile → askedCount (childrenOf (childrenIn y)) k ≡ Count n → (1 ≤ k) × (k ≤ length (split tab y)) × (length y ≤ maxFile) × (length y ≡ 0 → ⊥)
       go [] l d = let h = there [] d in absurd (omega (arith, h .0, h .1))
       go (b ∷ y) l d = let h = there (split tab (b ∷ y)) d in (h .0, h .1, l, λ z. omega arith)
 
@@ -192,11 +192,6 @@ module _ (m : Text) (ns : Names) (c : Text) (k : ℕ) where
   read-there x n number at len name i e p d q l =
       let s = children-some c (asked-within c k n e .3) in
       i ∙ rw (e, s, p, q, l, d)
-
--- no number is above the names
-pub read-below : (k : ℕ) (ns : List Text) (x : Text) → numberFrom (suc k) ns x ≤ k + length ns
-read-below k [] x = omega arith
-read-below k (u ∷ ns) x = by-test (sameText u x) (λ e. rw e (omega arith)) (λ e. rw e (omega (arith, read-below (suc k) ns x)))
 
 -- what the code finds is what is meant
 module _ (m c : Text) (k : ℕ) where

@@ -1,43 +1,23 @@
 -- Every child asked for has one reply, and `found` computes it.
 use mathlib.Core.Path.{_≡_, refl, sym, ap, subst, _∙_}
 use mathlib.Core.Logic.{_↔_, by-cases}
-use mathlib.Core.Bool.{true}
-use mathlib.Core.List.{List, [], _∷_}
-use Prim.Native.Nat.{ℕ, zero, suc, _+_, _-_, _≤_, _<_}
+use mathlib.Core.List.{[]}
+use Prim.Native.Nat.{ℕ, zero, suc, _-_, _<_}
 use native.Mathlib.Decide.{decLt}
 use native.Mathlib.Omega.{arith}
 use lib.Dec.{T}
 use lib.ListN.{length, getD}
-use Rattle.fields.specs.Tests.{by-test}
 use Rattle.model.specs.declared.fault.ModelFault.the-variants.{Repeated}
-use Rattle.fields.specs.Bytes.{Text, sameText}
-use Rattle.fields.specs.Bytes.Laws.{same-text}
-use Rattle.model.specs.Syntax.{Syntax, text, names, numberFrom, numberIn}
+use Rattle.fields.specs.Bytes.{Text}
+use Rattle.model.specs.Syntax.{Syntax, text, names, numberIn}
 use Rattle.model.specs.Fault.{nameAt, nameFrom, tally, Answers, accepted}
 use Rattle.model.specs.Fault.Ties.{places}
 use Rattle.model.specs.Accept.Starts.{name-at}
 use Rattle.judge.specs.Reply.{child, Reply}
 use Rattle.judge.specs.Reply.Laws.{replies-exactly}
+use Rattle.model.specs.Syntax.Number.{number-found, number-none}
 use Rattle.desk.specs.Child.Names.{begins-at, name-is}
 use Rattle.desk.specs.Child.{Part, ofModel, ofChildren, childName, Stands, Finds, partBy, partIn, found}
-
--- the number of a name: of the first that is the same
-number-found : (k : ℕ) (ns : List Text) (x : Text) (n : ℕ) → numberFrom (suc k) ns x ≡ suc n → (k ≤ n) × (n < k + length ns) × (getD ns (n - k) [] ≡ x)
-number-found k [] x n e = absurd (omega arith)
-number-found k (u ∷ ns) x n e =
-    by-test (sameText u x)
-    (λ s. let i : suc k ≡ suc n = rw s at e in
-    let z : n - k ≡ 0 = omega arith in
-    (omega arith, omega arith, rw z (same-text u x .0 s)))
-    (λ s. let h = number-found (suc k) ns x n (rw s at e) in
-    let z : n - k ≡ suc (n - suc k) = omega (arith, h .0) in
-    (omega (arith, h .0), omega (arith, h .1), rw z (h .2)))
-
-number-none : (k : ℕ) (ns : List Text) (x : Text) (i : ℕ) → numberFrom (suc k) ns x ≡ 0 → i < length ns → getD ns i [] ≡ x → ⊥
-number-none k [] x i e l d = omega arith
-number-none k (u ∷ ns) x zero e l d = let s : sameText u x ≡ true = same-text u x .1 d in let z : suc k ≡ 0 = rw s at e in omega arith
-number-none k (u ∷ ns) x (suc i) e l d =
-    by-test (sameText u x) (λ s. let z : suc k ≡ 0 = rw s at e in omega arith) (λ s. number-none (suc k) ns x i (rw s at e) (omega arith) d)
 
 -- the function and what it means agree
 module _ (m c : Text) (k : ℕ) (t : Syntax) (h : Answers m (accepted t)) where

@@ -1,13 +1,11 @@
 -- How a loop over bytes or over fields finds names.
 use mathlib.Core.Path.{_≡_, refl, ap, sym, _∙_}
 use mathlib.Core.Bool.{Bool, true, false, _&&_, _||_, true≢false, and-assoc, and-true, and-false}
-use mathlib.Core.List.{List, [], _∷_, _++_, map-append, append-nil, head-eq-of-cons-eq, tail-eq-of-cons-eq}
-use Prim.Native.Nat.{ℕ, suc, _+_, _-_, _≤_, _<_}
+use mathlib.Core.List.{List, [], _∷_}
+use Prim.Native.Nat.{ℕ, _+_, _-_, _≤_, _<_}
 use native.Mathlib.Omega.{arith}
-use native.Mathlib.Numerals.{add-one}
 use lib.Dec.{leb, ltb, eqb}
-use lib.ListN.{length, take, drop, getD, set, length-map, length-take, length-drop, length-set, drop-of-length-le}
-use lib.Seq.{take-suc, take-all, take-length, take-nil, take-append-le, drop-cons, set-at, set-out, append-snoc, drop-set-lt}
+use lib.ListN.{length, drop, getD}
 use borrow.Author.Tests.{eqb-true, eqb-false, ltb-true, ltb-false, leb-true, le-leb, lt-leb}
 use Rattle.fields.specs.Tests.{by-test}
 use Rattle.fields.specs.Stack.{drop-back}

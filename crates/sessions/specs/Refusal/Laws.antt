@@ -15,12 +15,10 @@ use Rattle.sessions.specs.declared.session.Outcome.the-variants.{Done, R
 use Rattle.sessions.specs.declared.session.Session.{Session}
 use Rattle.judge.specs.declared.verdict.Judged.{Judged}
 use Rattle.judge.specs.declared.verdict.Judged.the-variants.{Verdict, Refused as RefusedRow}
-use Rattle.model.specs.Types.{Ty}
-use Rattle.model.specs.Verdict.{Says}
 use Rattle.model.specs.Verdict.Laws.{says-once, verdict-says}
 use Rattle.model.specs.Rule.Laws.{means-once}
 use Rattle.fields.specs.Tests.{by-test, untold}
-use Rattle.model.specs.Rule.{Readable, Means, names}
+use Rattle.model.specs.Rule.{Readable, names}
 use Rattle.model.specs.Rule.Decide.{readable, readable-is, ruleType, type-means, means-conflict-free}
 use Rattle.judge.specs.Judge.{judgeNumber}
 use Rattle.sessions.specs.Book.{Call, opening, adding, takingBack, asking, room}

@@ -1,5 +1,5 @@
 -- How the answers of the methods come from what their calls give.
-use mathlib.Core.Path.{_≡_, refl, ap, _∙_}
+use mathlib.Core.Path.{_≡_, refl, ap}
 use mathlib.Core.Bool.{Bool, true, false, _&&_}
 use Prim.Native.Nat.{ℕ, _-_, _≤_, _<_}
 use native.Mathlib.Nat.{sub-zero}
@@ -13,7 +13,6 @@ use Rattle.model.specs.declared.rule.Rule.{Rule}
 use Rattle.sessions.specs.declared.session.Outcome.the-variants.{Done, Refused}
 use Rattle.sessions.specs.declared.session.Session.{Session}
 use Rattle.sessions.specs.declared.session.Step.{Step}
-use Rattle.model.specs.declared.verdict.Verdict.{Verdict as Said}
 use Rattle.judge.specs.declared.verdict.Judged.the-variants.{Verdict, Refused as RefusedRow}
 use Rattle.model.specs.Verdict.Laws.{verdict}
 use Rattle.model.specs.Rule.{names}

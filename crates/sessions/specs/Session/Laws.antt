@@ -2,10 +2,10 @@
 use mathlib.Core.Path.{_≡_, refl}
 use mathlib.Core.Bool.{Bool, true, false}
 use mathlib.Core.List.{[], _∷_}
-use Prim.Native.Nat.{ℕ, _≤_}
+use Prim.Native.Nat.{ℕ}
 use native.Mathlib.Omega.{arith}
 use lib.Dec.{eqb}
-use lib.ListN.{length, take, drop}
+use lib.ListN.{take, drop}
 use borrow.Author.Tests.{eq-eqb, eqb-true}
 use Rattle.judge.specs.declared.fault.JudgeFault.the-variants.{NoModel, BadTrail}
 use Rattle.judge.specs.declared.fault.JudgeFault.{JudgeFault}
@@ -15,9 +15,7 @@ use Rattle.sessions.specs.declared.session.Outcome.the-variants.{Done, R
 use Rattle.fields.specs.Tests.{Tells, tells-le, tells-and, tells-three}
 use Rattle.model.specs.Rule.{names}
 use Rattle.model.specs.Rule.Decide.{readable}
-use Rattle.judge.specs.Judge.{Upto}
 use Rattle.judge.specs.Judge.Laws.{upto-tells}
-use Rattle.sessions.specs.Book.{room}
 use Rattle.sessions.specs.Refusal.{AllFree, Intact}
 use Rattle.sessions.specs.Session.{Trail, free, allFree, intact, check, _then_, checked}
 

@@ -21,10 +21,10 @@ use Rattle.model.specs.Fault.{Answer, refused, accepted}
 use Rattle.model.specs.Fault.Answered.{answer}
 use Rattle.model.specs.Model.{modelOf, typeOf}
 use Rattle.model.specs.Verdict.Laws.{verdict}
-use Rattle.fields.specs.Limits.{maxRow}
+use Rattle.fields.specs.Limits.{maxRow, maxFile}
 use Rattle.judge.specs.Reading.{partAt, partsOf}
-use Rattle.judge.specs.Named.Laws.{number-below}
-use Rattle.judge.specs.Reply.{childrenIn, maxChildrenText, row, replyBy, rowIn, childrenReply, judgedOf}
+use Rattle.model.specs.Syntax.Number.{number-below}
+use Rattle.judge.specs.Reply.{childrenIn, row, replyBy, rowIn, childrenReply, judgedOf}
 use Rattle.fields.specs.declared.fault.CueFault.{CueFault}
 use Rattle.fields.specs.declared.split.Heads.{Heads}
 use Rattle.fields.specs.Split.{lineFeed, tab, split, lines, field, part, partEnd}
@@ -52,14 +52,14 @@ use borrow.Rule.Slice.PartMut.{putMid}
 use Rattle.sheet.specs.Coded.{saidFrom, codeOf, decoded, listingCoded, Ready, GoodCues, Before, Cue, Coded}
 
 -- of children that are good, the judge's answer says what the model says
-said-judged : (m c : Text) → length c ≤ maxChildrenText → allNames (childrenIn c) ≡ true → length (childrenIn c) ≤ maxRow
+said-judged : (m c : Text) → length c ≤ maxFile → allNames (childrenIn c) ≡ true → length (childrenIn c) ≤ maxRow
     → saidFrom (judgedOf (childrenReply m c)) ≡ saidOf m (childrenIn c)
 unfolding childrenReply
 said-judged m c k n h = go (answer m)
   where
     go : (a : Answer) → saidFrom (judgedOf (replyBy row (λ t. verdict (typeOf (modelOf t)) (rowIn t c)) c a)) ≡ saidBy a (childrenIn c)
     go (refused f p) = refl
-    go (accepted t) = rw (le-ltb maxChildrenText (length c) k, n, le-leb (length (childrenIn c)) maxRow h)
+    go (accepted t) = rw (le-ltb maxFile (length c) k, n, le-leb (length (childrenIn c)) maxRow h)
 
 -- no field is no name
 children-in : (c : Text) → allNames (split tab c) ≡ true → childrenIn c ≡ split tab c

@@ -10,7 +10,7 @@ use borrow.Author.Tests.{ltb-false}
 use Rattle.fields.specs.Tests.{by-test}
 use Rattle.fields.specs.Bytes.{Text, bytes, value, sameText}
 use Rattle.fields.specs.Bytes.Laws.{same-text}
-use Rattle.fields.specs.Limits.{maxRow}
+use Rattle.fields.specs.Limits.{maxRow, maxFile}
 use Rattle.fields.specs.declared.fault.CueFault.{CueFault}
 use Rattle.fields.specs.declared.fault.CueFault.the-variants.{BadFields, BadNumber, NotAbove, NoName, ManyChildren}
 use Rattle.fields.specs.Split.{split, butLast, lines, behind, fields, field}
@@ -19,7 +19,7 @@ use Rattle.fields.specs.Children.{shortName, allNames}
 use Rattle.sheet.specs.declared.cues.CueLine.{CueLine}
 use Rattle.sheet.specs.declared.cues.CueLine.the-variants.{Number, Bad}
 use Rattle.sheet.specs.declared.cues.CuesRead.the-variants.{Count, Refused}
-use Rattle.sheet.specs.Cues.{maxFile, isCueNumber, children, cueLine, byLine, cueLines, cuesRead}
+use Rattle.sheet.specs.Cues.{isCueNumber, children, cueLine, byLine, cueLines, cuesRead}
 use Rattle.sheet.specs.Coded.{GoodCues}
 
 pub record LineGood (l : Text) : Type 0 where

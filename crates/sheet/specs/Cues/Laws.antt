@@ -13,7 +13,7 @@ use Rattle.fields.specs.Tests.{by-test}
 use Rattle.fields.specs.Stack.{drop-back}
 use Rattle.fields.specs.Bytes.{Text, bytes, isDigit, all, value, sameText}
 use Rattle.fields.specs.Bytes.Laws.{value-snoc}
-use Rattle.fields.specs.Limits.{maxRow}
+use Rattle.fields.specs.Limits.{maxRow, maxFile}
 use Rattle.fields.specs.declared.fault.CueFault.{CueFault}
 use Rattle.fields.specs.declared.fault.CueFault.the-variants.{LongFile, Unended, BadFields, BadNumber, NotAbove, NoName, ManyChildren}
 use Rattle.fields.specs.declared.split.Heads.{Heads}
@@ -23,7 +23,7 @@ use Rattle.fields.specs.Heads.{Three}
 use Rattle.fields.specs.Children.{allNames}
 use Rattle.sheet.specs.declared.cues.CueLine.the-variants.{Number, Bad}
 use Rattle.sheet.specs.declared.cues.CuesRead.the-variants.{Count, Refused}
-use Rattle.sheet.specs.Cues.{maxFile, isCueNumber, children, cueLine, cueLines, cuesRead}
+use Rattle.sheet.specs.Cues.{isCueNumber, children, cueLine, cueLines, cuesRead}
 
 module _ (x : Text) where
   pub number-refused : eqb (length x) 0 || ltb 5 (length x) ≡ true → isCueNumber x ≡ false

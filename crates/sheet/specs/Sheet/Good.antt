@@ -6,6 +6,7 @@ use Prim.Native.Nat.{ℕ, zero, suc, _<_}
 use native.Mathlib.Omega.{arith}
 use lib.Dec.{leb, ltb}
 use lib.ListN.{length, getD}
+use Rattle.fields.specs.Limits.{maxFile}
 use Rattle.fields.specs.Tests.{by-test}
 use Rattle.fields.specs.Bytes.{Text, sameText}
 use Rattle.model.specs.Syntax.{Syntax}
@@ -15,7 +16,6 @@ use Rattle.fields.specs.Split.{lines, behind}
 use Rattle.sheet.specs.declared.sheet.SheetFault.{SheetFault}
 use Rattle.sheet.specs.declared.sheet.SheetFault.the-variants.{LongFile, Unended, ManyRules}
 use Rattle.sheet.specs.declared.sheet.SheetOutcome.the-variants.{Read, Refused}
-use Rattle.sheet.specs.Cues.{maxFile}
 use Rattle.sheet.specs.Sheet.{maxRules, kind, model, modelFault, lineFault, byFault, sheetLines, sheetOutcome}
 use Rattle.sheet.specs.Sheet.Laws.{fault-none}
 

@@ -9,6 +9,7 @@ use lib.Dec.{ltb, eqb, eqb·suc-zero}
 use lib.ListN.{length, take, drop, replicate, length-take, length-drop}
 use lib.Seq.{take-nil, drop-nil, take-take, drop-drop}
 use borrow.Author.Tests.{ltb-true, ltb-false, lt-ltb, le-ltb, eqb-true, eq-eqb, ne-eqb, not-true, not-false}
+use Rattle.fields.specs.Limits.{maxFile}
 use Rattle.fields.specs.Tests.{by-test}
 use Rattle.judge.specs.declared.text.NamePlace.{NamePlace}
 use Rattle.judge.specs.declared.text.Names.{Names}
@@ -35,7 +36,6 @@ use Rattle.sheet.specs.declared.sheet.SheetOutcome.the-variants.{Refused
 use Rattle.sheet.specs.declared.sheet.Entry.{Entry}
 use Rattle.sheet.specs.declared.sheet.Sheet.{Sheet}
 use Rattle.sheet.specs.declared.sheet.SheetRead.{SheetRead}
-use Rattle.sheet.specs.Cues.{maxFile}
 use Rattle.sheet.specs.Listing.Laws.{enough}
 use Rattle.sheet.specs.Sheet.{maxRules, kind, model, among, modelFault, lineFault, kindPlace, modelPlace, entryOf, noEntry, sheetLines, sheetWith, sheetBy, sheetRead}
 

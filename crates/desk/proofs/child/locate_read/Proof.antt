@@ -7,7 +7,8 @@ use Rattle.fields.specs.Stack.{unmapped}
 use Rattle.judge.specs.Reading.{partsOf}
 use Rattle.judge.specs.Reading.Search.{parts-many}
 use Rattle.fields.specs.Split.{tab, split}
-use Rattle.desk.specs.Child.Code.{asked-within, reached-name, reached-bounds, reached-long, read-below, read-there, read-missing}
+use Rattle.desk.specs.Child.Code.{asked-within, reached-name, reached-bounds, reached-long, read-there, read-missing}
+use Rattle.model.specs.Syntax.Number.{number-below}
 use borrow.Author.Needs.{needs}
 use Rattle.desk.proofs.child.locate_read.Statement.{statement}
 use Rattle.desk.proofs.child.locate_read.Tie as tie
@@ -47,7 +48,7 @@ number-of-requires c κs = search needs
 name-place-requires : tie.Need-name-place-requires
 name-place-requires c κs = let a = c .before .before .before .before .before .before .before .before .before .args in let w = asked-within (a .children .now) (a .k) _ (sym (c .before .before .before .before .before .before .asked .ensures) ∙ c .before .before .before .before .enum-told .given .1) in
     let l : length (a .names .places) ≡ 64 = search (needs, unmapped) in (
-      omega (arith, c .number-of .ensures, read-below 0 (partsOf (a .model .now) (a .names)) (take (c .before .before .part-end .result - c .before .before .before .child-start .result) (drop (c .before .before .before .child-start .result) (a .children .now))), parts-many (a .model .now) (a .names) (a .children .now) l),
+      omega (arith, c .number-of .ensures, number-below 0 (partsOf (a .model .now) (a .names)) (take (c .before .before .part-end .result - c .before .before .before .child-start .result) (drop (c .before .before .before .child-start .result) (a .children .now))), parts-many (a .model .now) (a .names) (a .children .now) l),
       reached-bounds (a .children .now) (a .k - 1) (c .before .before .before .child-start .result) (c .before .before .before .child-start .ensures .1) (omega (arith, w .0, w .1)) (c .before .before .part-end .result) (c .before .before .part-end .ensures) .0,
     )
 

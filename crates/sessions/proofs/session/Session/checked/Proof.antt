@@ -1,8 +1,6 @@
 -- each answer by the tests that led there
-use mathlib.Core.Path.{_≡_, sym}
+use mathlib.Core.Path.{sym}
 use mathlib.Core.Bool.{true, false}
-use lib.ListN.{length}
-use Rattle.fields.specs.Stack.{unmapped}
 use Rattle.sessions.specs.Session.Code.{checked-by, checked-no-model}
 use borrow.Author.Needs.{needs}
 use Rattle.sessions.proofs.session.Session.checked.Statement.{statement}

@@ -1,9 +1,7 @@
 -- each answer by the test of the rule; the trail by what free_all gives
-use mathlib.Core.Path.{_≡_, _∙_}
+use mathlib.Core.Path.{_∙_}
 use mathlib.Core.Bool.{true, false}
-use lib.ListN.{length}
 use Rattle.judge.specs.declared.fault.JudgeFault.the-variants.{NoModel}
-use Rattle.fields.specs.Stack.{unmapped}
 use Rattle.sessions.specs.Book.{opening}
 use Rattle.sessions.specs.Session.Code.{opening-by, completed, refused}
 use borrow.Author.Needs.{needs}
