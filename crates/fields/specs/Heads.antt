@@ -24,9 +24,6 @@ headsOf l =
     record { first = a; second = b; third = fieldBehind l b }
 
 module _ (l : Text) where
-  pub behind-within : (e : ℕ) → e ≤ length l → fieldBehind l e ≤ length l
-  behind-within e h = by-test (ltb e (length l)) (λ t. rw t (end-within l tab (suc e) (ltb-true e (length l) t))) (λ t. rw t h)
-
   -- the fields behind a tab: one, and those behind it
   pub more-is : (e : ℕ) → e < length l → more l tab e ≡ part l (suc e) (fieldBehind l e) ∷ more l tab (fieldBehind l e)
   more-is e h = rw (lt-ltb e (length l) h) (part-at l tab (suc e) h)

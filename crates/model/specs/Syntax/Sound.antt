@@ -27,11 +27,6 @@ sign-text sequence = refl
 sign-text choice = refl
 sign-text interleaving = refl
 
-pub operator-sign : (o : Operator) → operator (signOf o) ≡ o
-operator-sign sequence = refl
-operator-sign choice = refl
-operator-sign interleaving = refl
-
 pub sign-fits : (o : Operator) {n : ℕ} → 2 ≤ n → SignFits (signOf o) n
 sign-fits sequence h = h
 sign-fits choice h = h
