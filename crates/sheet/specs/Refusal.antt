@@ -1,11 +1,12 @@
 -- The table of document 01 for a sheet, a cue list and a listing: when each refusal stands, at which line, and which one is answered.
 -- Lines count from 1; what is wrong with the whole file stands at 0.
+pub mod Order
 pub mod Laws
 use mathlib.Core.Path.{_≡_}
 use mathlib.Core.Logic.{_⊎_}
 use mathlib.Core.Bool.{false}
 use mathlib.Core.List.{[], _∷_}
-use Prim.Native.Nat.{ℕ, _+_, _-_, _≤_, _<_}
+use Prim.Native.Nat.{ℕ, zero, suc, _+_, _-_, _≤_, _<_}
 use lib.ListN.{length, getD}
 use Rattle.fields.specs.Bytes.{Text, bytes, value}
 use Rattle.fields.specs.Limits.{maxRow}
@@ -43,7 +44,8 @@ abbrev pub Line : Text → ℕ → Type 0
 Line x n = (1 ≤ n) × (n ≤ length (lines x))
 
 abbrev pub line : Text → ℕ → Text
-line x n = getD (lines x) (n - 1) []
+line x zero = []
+line x (suc n) = getD (lines x) n []
 
 -- over 65,535 bytes
 abbrev pub Long : Text → ℕ → Type 0
@@ -99,7 +101,7 @@ CueStands x BadCue n = Line x n × ((length (fields (line x n)) < 3) ⊎ ¬ (fie
 -- the number is not 1 to 5 digits, or begins with 0
 CueStands x BadNumber n = Line x n × (isCueNumber (field 1 (line x n)) ≡ false)
 -- the number is not above the line before
-CueStands x NotAbove n = Line x n × (1 < n) × (number (line x n) ≤ number (line x (n - 1)))
+CueStands x NotAbove n = Line x n × ((1 < n) × (number (line x n) ≤ number (line x (n - 1))))
 -- the kind or a child is no name of 1 to 32 characters
 CueStands x NoName n = Line x n × (allNames (field 2 (line x n) ∷ children (line x n)) ≡ false)
 -- over 4,096 children
