@@ -1,5 +1,6 @@
--- The ends: what a listing says of each cue, by the meaning of the models. Demands 1 and 2 for sheet, cue list and listing.
+-- The ends: when sheet, cue list and listing are refused, by the table; what a listing says of each cue, by the meaning of the models.
 use mathlib.Core.Path.{_≡_, refl, sym, _∙_}
+use mathlib.Core.Logic.{_↔_}
 use mathlib.Core.List.{List, [], _∷_, map}
 use Prim.Native.Nat.{ℕ, zero, suc, _+_, _≤_, _<_}
 use native.Mathlib.Omega.{arith}
@@ -31,14 +32,31 @@ use Rattle.fields.specs.Split.{lines, field}
 use Rattle.judge.specs.Named.{rowOf}
 use Rattle.sheet.specs.declared.line.Said.{Said}
 use Rattle.sheet.specs.declared.line.Said.the-variants.{Complete, Open, Dead, NoSheet}
+use Rattle.sheet.specs.declared.sheet.SheetOutcome.{SheetOutcome}
 use Rattle.sheet.specs.declared.sheet.SheetOutcome.the-variants.{Read}
+use Rattle.sheet.specs.declared.cues.CuesRead.{CuesRead}
 use Rattle.sheet.specs.declared.cues.CuesRead.the-variants.{Count}
+use Rattle.sheet.specs.declared.listing.Listed.{Listed}
 use Rattle.sheet.specs.Cues.{children, cuesRead}
 use Rattle.sheet.specs.Cues.Good.{good-cues}
 use Rattle.sheet.specs.Sheet.{kind, model, sheetOutcome}
 use Rattle.sheet.specs.Sheet.Good.{line-accepted}
-use Rattle.sheet.specs.Listing.{saidBy, saidOf, saidAt, said}
+use Rattle.sheet.specs.Listing.{saidBy, saidOf, saidAt, said, listed}
+use Rattle.sheet.specs.Refusal.{SheetAnswers, CuesAnswers, Lists}
+use Rattle.sheet.specs.Refusal.Laws.{sheet-is, cues-is, listed-is}
 use Rattle.sheet.specs.Coded.Laws.{number-bound}
+
+-- Demand 1, sheet: it is refused with the first fault of the table that stands, and read where none does.
+pub sheet-exactly : (x : Text) (o : SheetOutcome) → (sheetOutcome x ≡ o) ↔ SheetAnswers x o
+sheet-exactly = sheet-is
+
+-- Demand 1, cue list: it is refused with the first fault of the table that stands, and counted where none does.
+pub cues-exactly : (x : Text) (r : CuesRead) → (cuesRead x ≡ r) ↔ CuesAnswers x r
+cues-exactly = cues-is
+
+-- Demand 1, listing: the sheet's refusal, else the list's, else 50 where the listing is longer than the room, else its length.
+pub listed-exactly : (s c : Text) (room : ℕ) (r : Listed) → (listed s c room ≡ r) ↔ Lists s c room r
+listed-exactly = listed-is
 
 abbrev pub wordOf : Verdict → Said
 wordOf IsComplete = Complete

@@ -1,8 +1,8 @@
--- Sheet, cue list and listing, above the judge. Open first: Ends, then Listing.
---   Ends       what a listing says of each cue, by the meaning of the models
+-- Sheet, cue list and listing, above the judge. Open first: Ends, then Refusal and Listing.
+--   Ends       when each is refused, by the table, and what a listing says of each cue, by the meaning of the models
+--   Refusal    the table: when each refusal stands, at which line, and which one is answered
 --   Cues       the lines of a cue list, and what is wrong with one
 --   Sheet      the lines of a sheet, what is wrong with one, and what they read into
---   Refusal    the table of refusals for sheet, cue list and listing: when each stands, and which is answered
 --   Listing    the lines of a listing, the answer and the buffer after
 -- Number, Put and Coded hold what the proofs of the writer need: digits, bytes put into a buffer, verdicts kept as bytes.
 pub mod Cues

@@ -1,5 +1,5 @@
 -- The table of document 01 for a sheet, a cue list and a listing: when each refusal stands, at which line, and which one is answered.
--- Lines count from 1; what is wrong with the whole file stands at 0.
+-- Lines count from 1; what is wrong with the whole file stands at 0. Each fault looks at the text alone, not at whether another stands before it.
 pub mod Order
 pub mod Laws
 use mathlib.Core.Path.{_≡_}
@@ -11,7 +11,8 @@ use lib.ListN.{length, getD}
 use Rattle.fields.specs.Bytes.{Text, bytes, value}
 use Rattle.fields.specs.Limits.{maxRow}
 use Rattle.fields.specs.declared.fault.CueFault.{CueFault}
-use Rattle.fields.specs.declared.fault.CueFault.the-variants.{LongFile as LongList, Unended as UnendedList, BadFields as BadCue, BadNumber, NotAbove, NoName, ManyChildren, NoChild}
+use Rattle.fields.specs.declared.fault.CueFault.the-variants.{LongFile as LongList, Unended as UnendedList, BadFields as BadCue}
+use Rattle.fields.specs.declared.fault.CueFault.the-variants.{BadNumber, NotAbove, NoName, ManyChildren, NoChild}
 use Rattle.fields.specs.Split.{lines, behind, fields, field}
 use Rattle.fields.specs.Children.{cueNumber, shortName, allNames}
 use Rattle.model.specs.Fault.{Answers, refused, modelNumber}
@@ -47,13 +48,13 @@ abbrev pub line : Text → ℕ → Text
 line x zero = []
 line x (suc n) = getD (lines x) n []
 
--- over 65,535 bytes
+-- 20, 30: over 65,535 bytes
 abbrev pub Long : Text → ℕ → Type 0
 Long x n = (n ≡ 0) × (maxFile < length x)
 
--- the last line lacks its line feed
-abbrev pub Unfed : Text → ℕ → Type 0
-Unfed x n = (n ≡ 0) × ¬ (behind x ≡ [])
+-- 21, 31: the last line lacks its line feed
+abbrev pub LacksFeed : Text → ℕ → Type 0
+LacksFeed x n = (n ≡ 0) × ¬ (behind x ≡ [])
 
 -- 25: an earlier line has the kind of line n
 abbrev pub Earlier : Text → ℕ → Type 0
@@ -62,15 +63,15 @@ Earlier x n = (m : ℕ) × (1 ≤ m) × (m < n) × (kind (line x m) ≡ kind (li
 -- what is wrong with a sheet
 abbrev pub SheetStands : Text → SheetFault → ℕ → Type 0
 SheetStands x LongFile n = Long x n
-SheetStands x Unended n = Unfed x n
--- a 65th line
+SheetStands x Unended n = LacksFeed x n
+-- 22: a 65th line
 SheetStands x ManyRules n = Line x n × (n ≡ maxRules + 1)
--- not three fields, or the first is not `rule`
+-- 23: not three fields, or the first is not `rule`
 SheetStands x BadFields n = Line x n × (¬ (length (fields (line x n)) ≡ 3) ⊎ ¬ (field 0 (line x n) ≡ bytes "rule"))
--- the kind is no name of 1 to 32 characters
+-- 24: the kind is no name of 1 to 32 characters
 SheetStands x NoKind n = Line x n × (shortName (kind (line x n)) ≡ false)
 SheetStands x Repeated n = Line x n × Earlier x n
--- the model text of the line is refused
+-- 10 to 17: the model text of the line is refused so
 SheetStands x (Model f) n = Line x n × ((p : ℕ) × Answers (model (line x n)) (refused f p))
 
 -- by number, then the model's own
@@ -95,18 +96,18 @@ number l = value (field 1 l)
 -- what is wrong with a cue list
 abbrev pub CueStands : Text → CueFault → ℕ → Type 0
 CueStands x LongList n = Long x n
-CueStands x UnendedList n = Unfed x n
--- under three fields, or the first is not `cue`
+CueStands x UnendedList n = LacksFeed x n
+-- 32: under three fields, or the first is not `cue`
 CueStands x BadCue n = Line x n × ((length (fields (line x n)) < 3) ⊎ ¬ (field 0 (line x n) ≡ bytes "cue"))
--- the number is not 1 to 5 digits, or begins with 0
+-- 33: the number is not 1 to 5 digits, or begins with 0
 CueStands x BadNumber n = Line x n × (isCueNumber (field 1 (line x n)) ≡ false)
--- the number is not above the line before
+-- 34: the number is not above the line before
 CueStands x NotAbove n = Line x n × ((1 < n) × (number (line x n) ≤ number (line x (n - 1))))
--- the kind or a child is no name of 1 to 32 characters
+-- 35: the kind or a child is no name of 1 to 32 characters
 CueStands x NoName n = Line x n × (allNames (field 2 (line x n) ∷ children (line x n)) ≡ false)
--- over 4,096 children
+-- 36: over 4,096 children
 CueStands x ManyChildren n = Line x n × (maxRow < length (children (line x n)))
--- no child is asked for
+-- 37: no child is asked for
 CueStands x NoChild n = ⊥
 
 -- what a cue list is answered

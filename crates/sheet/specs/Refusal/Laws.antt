@@ -1,20 +1,21 @@
 -- A sheet, a cue list and a listing are refused exactly as the table says.
 use mathlib.Core.Path.{_≡_, refl, sym, ap, ap₂, subst, _∙_}
 use mathlib.Core.Logic.{_↔_, _⊎_, inl, inr}
-use mathlib.Core.Bool.{true, false, cond, not, _&&_, _||_, and-eq-true-iff, false≢true}
+use mathlib.Core.Bool.{true, cond, not, _&&_, _||_, and-eq-true-iff, false≢true}
 use mathlib.Core.Option.{Option}
 use mathlib.Core.List.{List, [], _∷_, _++_, map, map-append}
 use Prim.Native.Nat.{ℕ, zero, suc, _+_, _-_, _≤_, _<_}
 use Prim.Native.Char.{code}
 use native.Mathlib.Decide.{decLt}
 use native.Mathlib.Omega.{arith}
-use lib.Dec.{leb, ltb, eqb}
+use lib.Dec.{leb, eqb}
 use lib.ListN.{length, take, drop, getD, length-map, List·getD-map}
 use lib.Seq.{take-suc, drop-cons, drop-length, length-take-le, getD-take}
 use borrow.Author.Tests.{leb-true, le-leb, lt-leb, leb-false, eqb-true, eqb-false, eq-eqb, not-true, not-false}
 use Rattle.fields.specs.declared.fault.CueFault.{CueFault}
-use Rattle.fields.specs.declared.fault.CueFault.the-variants.{LongFile as LongList, Unended as UnendedList, BadFields as BadCue, BadNumber, NotAbove, NoName, ManyChildren, NoChild}
-use Rattle.fields.specs.Tests.{by-test, Tells, tells-le, tells-not, tells-or}
+use Rattle.fields.specs.declared.fault.CueFault.the-variants.{LongFile as LongList, Unended as UnendedList, BadFields as BadCue}
+use Rattle.fields.specs.declared.fault.CueFault.the-variants.{BadNumber, NotAbove, NoName, ManyChildren, NoChild}
+use Rattle.fields.specs.Tests.{by-test, Tells, tells-not, tells-or}
 use Rattle.fields.specs.Bytes.{Text, bytes, isDigit, all, value, sameText}
 use Rattle.fields.specs.Bytes.Laws.{same-text}
 use Rattle.fields.specs.Limits.{maxRow}
@@ -34,11 +35,12 @@ use Rattle.sheet.specs.declared.cues.CuesRead.{CuesRead}
 use Rattle.sheet.specs.declared.cues.CuesRead.the-variants.{Count, Refused as RefusedList}
 use Rattle.sheet.specs.declared.listing.Listed.{Listed}
 use Rattle.sheet.specs.declared.listing.Listed.the-variants.{Written, SheetRefused, CueRefused, TooLong}
-use Rattle.sheet.specs.Cues.{isCueNumber, children, cueLine, byLine, cueLines, cuesRead}
+use Rattle.sheet.specs.Cues.{isCueNumber, children, byLine, cueLines, cuesRead}
 use Rattle.sheet.specs.Sheet.{maxRules, kind, model, among, modelFault, byFault, sheetLines, sheetOutcome}
 use Rattle.sheet.specs.Listing.{listing, byCues, bySheet, listed}
-use Rattle.sheet.specs.Refusal.{NoFault, First, Line, line, Earlier, SheetStands, sheetRank, SheetAnswers, number, CueStands, CuesAnswers, Lists}
-use Rattle.sheet.specs.Refusal.Order.{exactly, tells-no, tells-lt, beside, long-tells, unfed-tells, Place, Table, first-once, Tried, narrow, try, next-line, walk, whole}
+use Rattle.sheet.specs.Refusal.{Line, line, Earlier, SheetStands, sheetRank, SheetAnswers, number, CueStands, CuesAnswers, Lists}
+use Rattle.sheet.specs.Refusal.Order.{exactly, tells-no, tells-lt, tells-other, beside, long-tells, feed-tells}
+use Rattle.sheet.specs.Refusal.Order.{Place, Table, first-once, Tried, narrow, try, next-line, walk, whole}
 
 here : (x : Text) (n : ℕ) → n < length (lines x) → Line x (suc n)
 here x n h = (omega arith, omega arith)
@@ -61,7 +63,7 @@ tells-among (y ∷ ks) k =
     back (zero, h, e) = inl e
     back (suc j, h, e) = inr (j, omega arith, e)
 
--- a fault of a sheet is known by its rank
+-- a fault of a sheet is known by its rank: below 26 the sheet's own, then the model's
 ownFault : ℕ → SheetFault
 ownFault n = cond (eqb n 20) LongFile (cond (eqb n 21) Unended (cond (eqb n 22) ManyRules (cond (eqb n 23) BadFields (cond (eqb n 24) NoKind Repeated))))
 
@@ -108,7 +110,13 @@ abbrev ofSheet : (x : Text) → Table x SheetFault
 ofSheet x = record { rank = sheetRank; Stands = SheetStands x; base = 20; one = rank-injective; place = sheet-place x }
 
 module _ (x : Text) where
+  abbrev kinds : ℕ → List Text
+  kinds n = map kind (take n (lines x))
+
   module _ (n : ℕ) (h : n < length (lines x)) where
+    abbrev this : Text
+    this = line x (suc n)
+
     many-tells : Tried (ofSheet x) (suc n) 22 → Tells (leb maxRules n) (SheetStands x ManyRules (suc n))
     many-tells t = (λ e. (here x n h, go (leb-true maxRules n e) (decLt maxRules n)), λ k. le-leb maxRules n (omega (arith, k .1)))
       where
@@ -120,76 +128,73 @@ module _ (x : Text) where
         go i (yes d) = absurd (late d (t ManyRules 65 ((omega arith, omega arith), refl)))
         go i (no d) = omega arith
 
-    rule-tells : Tells (not (eqb (length (fields (line x (suc n)))) 3) || not (sameText (field 0 (line x (suc n))) (bytes "rule"))) (SheetStands x BadFields (suc n))
+    rule-tells : Tells (not (eqb (length (fields this)) 3) || not (sameText (field 0 this) (bytes "rule"))) (SheetStands x BadFields (suc n))
     rule-tells =
-        let l = line x (suc n) in
-        beside _ (here x n h) (tells-or _ _ (tells-no (eqb (length (fields l)) 3) (eqb-true (length (fields l)) 3, eq-eqb (length (fields l)) 3)) (tells-no (sameText (field 0 l) (bytes "rule")) (same-text (field 0 l) (bytes "rule"))))
+        let three = tells-no (eqb (length (fields this)) 3) (eqb-true (length (fields this)) 3, eq-eqb (length (fields this)) 3) in
+        beside _ (here x n h) (tells-or _ _ three (tells-other (field 0 this) (bytes "rule")))
 
-    kinds-tell : Tells (among (map kind (take n (lines x))) (kind (line x (suc n)))) (Earlier x (suc n))
-    kinds-tell =
-        let t = tells-among (map kind (take n (lines x))) (kind (line x (suc n))) in
-        (λ e. there (t .0 e), λ k. t .1 (back k))
+    kinds-tell : Tells (among (kinds n) (kind this)) (Earlier x (suc n))
+    kinds-tell = let t = tells-among (kinds n) (kind this) in (λ e. there (t .0 e), λ k. t .1 (back k))
       where
-        is : (j : ℕ) → j < n → getD (map kind (take n (lines x))) j [] ≡ kind (getD (lines x) j [])
+        is : (j : ℕ) → j < n → getD (kinds n) j [] ≡ kind (getD (lines x) j [])
         is j i = List·getD-map kind (take n (lines x)) j [] ∙ ap kind (getD-take n (lines x) j [] i)
 
-        size : length (map kind (take n (lines x))) ≡ n
+        size : length (kinds n) ≡ n
         size = length-map (take n (lines x)) kind ∙ length-take-le n (lines x) (omega arith)
 
-        there : Has (kind (line x (suc n))) (map kind (take n (lines x))) → Earlier x (suc n)
+        there : Has (kind this) (kinds n) → Earlier x (suc n)
         there (j, i, e) = let o : j < n = omega (arith, size) in (suc j, omega arith, omega arith, sym (is j o) ∙ e)
 
-        back : Earlier x (suc n) → Has (kind (line x (suc n))) (map kind (take n (lines x)))
+        back : Earlier x (suc n) → Has (kind this) (kinds n)
         back (zero, i, o, e) = absurd (omega arith)
         back (suc j, i, o, e) = (j, omega (arith, size), is j (omega arith) ∙ e)
 
     -- a fault of rank 26 or above is the model's own
     model-fault : (g : SheetFault) → SheetStands x g (suc n) → 26 ≤ sheetRank g
-        → (f : ModelFault) × (p : ℕ) × (g ≡ Model f) × Answers (model (line x (suc n))) (refused f p)
+        → (f : ModelFault) × (p : ℕ) × (g ≡ Model f) × Answers (model this) (refused f p)
     model-fault g s k =
         let (f, e) = of-model g k in
         let (i, (p, a)) = subst (λ g. SheetStands x g (suc n)) e s in
         (f, p, e, a)
 
     model-answers : (o : SheetOutcome) → (Tried (ofSheet x) (suc (suc n)) 22 → SheetAnswers x o) → Tried (ofSheet x) (suc n) 26
-        → (a : Answer) → Answers (model (line x (suc n))) a → SheetAnswers x (byFault (modelFault a) o (λ f. Refused f (suc n)))
+        → (a : Answer) → Answers (model this) a → SheetAnswers x (byFault (modelFault a) o (λ f. Refused f (suc n)))
     model-answers o next t (refused f p) a = ((here x n h, (p, a)), narrow (ofSheet x) (suc n) 26 (20 + modelNumber f) only t)
       where
         only : (g : SheetFault) → SheetStands x g (suc n) → 26 ≤ sheetRank g → 20 + modelNumber f ≤ sheetRank g
         only g s k =
             let (i, q, e, b) = model-fault g s k in
-            let z : f ≡ i = cc (answers-once (model (line x (suc n))) (refused f p) (refused i q) a b) in
+            let z : f ≡ i = cc (answers-once (model this) (refused f p) (refused i q) a b) in
             rw (e, z) (omega arith)
     model-answers o next t (accepted u) a = next (next-line (ofSheet x) (suc n) 26 no-more t)
       where
         no-more : (g : SheetFault) → SheetStands x g (suc n) → ¬ (26 ≤ sheetRank g)
         no-more g s k =
             let (i, q, e, b) = model-fault g s k in
-            let z : _≡_ {A = ℕ} 0 1 = cc (answers-once (model (line x (suc n))) (accepted u) (refused i q) a b) in
+            let z : _≡_ {A = ℕ} 0 1 = cc (answers-once (model this) (accepted u) (refused i q) a b) in
             omega arith
 
   -- what is said behind n lines
   abbrev sheetFrom : ℕ → SheetOutcome
-  sheetFrom n = sheetLines n (map kind (take n (lines x))) (drop n (lines x))
+  sheetFrom n = sheetLines n (kinds n) (drop n (lines x))
 
   sheet-step : (n : ℕ) → n < length (lines x) → (Tried (ofSheet x) (suc (suc n)) 22 → SheetAnswers x (sheetFrom (suc n)))
       → Tried (ofSheet x) (suc n) 22 → SheetAnswers x (sheetFrom n)
   sheet-step n h next t =
       let l = line x (suc n) in
-      let ks = map kind (take n (lines x)) in
-      let o = sheetLines (suc n) (ks ++ (kind l ∷ [])) (drop (suc n) (lines x)) in
+      let o = sheetLines (suc n) (kinds n ++ (kind l ∷ [])) (drop (suc n) (lines x)) in
       let P : Option SheetFault → Type 0 = λ m. SheetAnswers x (byFault m o (λ f. Refused f (suc n))) in
-      let more : map kind (take (suc n) (lines x)) ≡ ks ++ (kind l ∷ []) = ap (map kind) (take-suc (lines x) n [] h) ∙ map-append kind (take n (lines x)) (l ∷ []) in
+      let more : kinds (suc n) ≡ kinds n ++ (kind l ∷ []) = ap (map kind) (take-suc (lines x) n [] h) ∙ map-append kind (take n (lines x)) (l ∷ []) in
       rw (drop-cons (lines x) n [] h) (
-        try (ofSheet x) (SheetAnswers x) ManyRules (suc n) (leb maxRules n) _ _ (many-tells n h t) (λ k. k)
-        (λ _. try (ofSheet x) P BadFields (suc n) _ _ _ (rule-tells n h) (λ k. k)
-        (λ _. try (ofSheet x) P NoKind (suc n) _ _ _ (beside _ (here x n h) (tells-not (shortName (kind l)))) (λ k. k)
-        (λ _. try (ofSheet x) P Repeated (suc n) _ _ _ (beside _ (here x n h) (kinds-tell n h)) (λ k. k)
-        (λ _ k. model-answers n h o (rw more at next) k (answer (model l)) (answered (model l)))))) t)
+      try (ofSheet x) (SheetAnswers x) ManyRules (suc n) (leb maxRules n) _ _ (many-tells n h t) (λ k. k)
+      (λ _. try (ofSheet x) P BadFields (suc n) _ _ _ (rule-tells n h) (λ k. k)
+      (λ _. try (ofSheet x) P NoKind (suc n) _ _ _ (beside _ (here x n h) (tells-not (shortName (kind l)))) (λ k. k)
+      (λ _. try (ofSheet x) P Repeated (suc n) _ _ _ (beside _ (here x n h) (kinds-tell n h)) (λ k. k)
+      (λ _ k. model-answers n h o (rw more at next) k (answer (model l)) (answered (model l)))))) t)
 
   sheet-answers : SheetAnswers x (sheetOutcome x)
   sheet-answers =
-      whole (ofSheet x) (SheetAnswers x) LongFile Unended _ _ _ refl refl (long-tells x) (unfed-tells x) (λ k. k) (λ k. k)
+      whole (ofSheet x) (SheetAnswers x) LongFile Unended _ _ _ refl refl (long-tells x) (feed-tells x) (λ k. k) (λ k. k)
       (walk (ofSheet x) (SheetAnswers x) sheetFrom sheet-step (λ k. rw (drop-length (lines x)) k))
 
   sheet-once : (a b : SheetOutcome) → SheetAnswers x a → SheetAnswers x b → a ≡ b
@@ -228,20 +233,11 @@ number-positive (b ∷ y) e =
     omega (arith, k, eqb-false b (code "0") (not-true (eqb b (code "0")) (j .0)), v)
 
 module _ (x : Text) where
-  module _ (n : ℕ) (h : n < length (lines x)) where
-    cue-tells : Tells (ltb (length (fields (line x (suc n)))) 3 || not (sameText (field 0 (line x (suc n))) (bytes "cue"))) (CueStands x BadCue (suc n))
-    cue-tells =
-        let l = line x (suc n) in
-        beside _ (here x n h) (tells-or _ _ (tells-lt (length (fields l)) 3) (tells-no (sameText (field 0 l) (bytes "cue")) (same-text (field 0 l) (bytes "cue"))))
-
-    above-tells : 1 ≤ number (line x (suc n)) → Tells (leb (number (line x (suc n))) (number (line x n))) (CueStands x NotAbove (suc n))
-    above-tells p = beside _ (here x n h) (go n (line x (suc n)) p)
-      where
-        go : (n : ℕ) (l : Text) → 1 ≤ number l → Tells (leb (number l) (number (line x n))) ((1 < suc n) × (number l ≤ number (line x (suc n - 1))))
-        go zero l p = (λ e. absurd (omega (arith, leb-true (number l) 0 e)), λ k. absurd (omega arith))
-        go (suc n) l p =
-            let e : suc (suc n) - 1 ≡ suc n = omega arith in
-            rw e (λ t. (omega arith, leb-true _ _ t), λ k. le-leb _ _ (k .1))
+  above-tells : (n : ℕ) (l : Text) → 1 ≤ number l → Tells (leb (number l) (number (line x n))) ((1 < suc n) × (number l ≤ number (line x (suc n - 1))))
+  above-tells zero l p = (λ e. absurd (omega (arith, leb-true (number l) 0 e)), λ k. absurd (omega arith))
+  above-tells (suc n) l p =
+      let e : suc (suc n) - 1 ≡ suc n = omega arith in
+      rw e (λ t. (omega arith, leb-true _ _ t), λ k. le-leb _ _ (k .1))
 
   -- what is said behind n lines
   abbrev cuesFrom : ℕ → CuesRead
@@ -251,18 +247,19 @@ module _ (x : Text) where
       → Tried (ofCues x) (suc n) 32 → CuesAnswers x (cuesFrom n)
   cues-step n h next t =
       let l = line x (suc n) in
+      let word = tells-or _ _ (tells-lt (length (fields l)) 3) (tells-other (field 0 l) (bytes "cue")) in
       let P : CueLine → Type 0 = λ c. CuesAnswers x (byLine c (λ q. cueLines (suc n) q (drop (suc n) (lines x))) (λ f. RefusedList f (suc n))) in
       rw (drop-cons (lines x) n [] h) (
-        try (ofCues x) P BadCue (suc n) _ _ _ (cue-tells n h) (λ k. k)
-        (λ _. try (ofCues x) P BadNumber (suc n) _ _ _ (beside _ (here x n h) (tells-not (isCueNumber (field 1 l)))) (λ k. k)
-        (λ e. try (ofCues x) P NotAbove (suc n) _ _ _ (above-tells n h (number-positive (field 1 l) (not-false _ e))) (λ k. k)
-        (λ _. try (ofCues x) P NoName (suc n) _ _ _ (beside _ (here x n h) (tells-not (allNames (field 2 l ∷ children l)))) (λ k. k)
-        (λ _. try (ofCues x) P ManyChildren (suc n) _ _ _ (beside _ (here x n h) (tells-lt maxRow (length (children l)))) (λ k. k)
-        (λ _ k. next (next-line (ofCues x) (suc n) 37 (λ g s i. omega (arith, i, cue-known x g (suc n) s .1)) k)))))) t)
+      try (ofCues x) P BadCue (suc n) _ _ _ (beside _ (here x n h) word) (λ k. k)
+      (λ _. try (ofCues x) P BadNumber (suc n) _ _ _ (beside _ (here x n h) (tells-not (isCueNumber (field 1 l)))) (λ k. k)
+      (λ e. try (ofCues x) P NotAbove (suc n) _ _ _ (beside _ (here x n h) (above-tells n l (number-positive (field 1 l) (not-false _ e)))) (λ k. k)
+      (λ _. try (ofCues x) P NoName (suc n) _ _ _ (beside _ (here x n h) (tells-not (allNames (field 2 l ∷ children l)))) (λ k. k)
+      (λ _. try (ofCues x) P ManyChildren (suc n) _ _ _ (beside _ (here x n h) (tells-lt maxRow (length (children l)))) (λ k. k)
+      (λ _ k. next (next-line (ofCues x) (suc n) 37 (λ g s i. omega (arith, i, cue-known x g (suc n) s .1)) k)))))) t)
 
   cues-answers : CuesAnswers x (cuesRead x)
   cues-answers =
-      whole (ofCues x) (CuesAnswers x) LongList UnendedList _ _ _ refl refl (long-tells x) (unfed-tells x) (λ k. k) (λ k. k)
+      whole (ofCues x) (CuesAnswers x) LongList UnendedList _ _ _ refl refl (long-tells x) (feed-tells x) (λ k. k) (λ k. k)
       (walk (ofCues x) (CuesAnswers x) cuesFrom cues-step (λ k. rw (drop-length (lines x)) (k, refl)))
 
   cues-once : (a b : CuesRead) → CuesAnswers x a → CuesAnswers x b → a ≡ b

@@ -14,7 +14,7 @@ use Rattle.fields.specs.Bytes.{Text, sameText}
 use Rattle.fields.specs.Bytes.Laws.{same-text}
 use Rattle.fields.specs.Split.{lines, behind}
 use Rattle.sheet.specs.Cues.{maxFile}
-use Rattle.sheet.specs.Refusal.{NoFault, Before, First, Line, Long, Unfed}
+use Rattle.sheet.specs.Refusal.{NoFault, Before, First, Line, Long, LacksFeed}
 
 -- one answer at most, so the answer that is found is the one
 pub exactly : {O : Type 0} (P : O → Type 0) → ((a b : O) → P a → P b → a ≡ b) → (o : O) → P o → (a : O) → (o ≡ a) ↔ P a
@@ -27,6 +27,9 @@ tells-no b t = (λ e. untold b t (tells-not b .0 e), λ h. tells-not b .1 (fails
 pub tells-lt : (m n : ℕ) → Tells (ltb m n) (m < n)
 tells-lt m n = (ltb-true m n, lt-ltb m n)
 
+pub tells-other : (y z : Text) → Tells (not (sameText y z)) (¬ (y ≡ z))
+tells-other y z = tells-no (sameText y z) (same-text y z)
+
 -- the same beside what is known
 pub beside : {K P : Type 0} (b : Bool) → K → Tells b P → Tells b (K × P)
 beside b k t = (λ e. (k, t .0 e), λ h. t .1 (h .1))
@@ -34,8 +37,8 @@ beside b k t = (λ e. (k, t .0 e), λ h. t .1 (h .1))
 pub long-tells : (x : Text) → Tells (ltb maxFile (length x)) (Long x 0)
 long-tells x = beside (ltb maxFile (length x)) refl (tells-lt maxFile (length x))
 
-pub unfed-tells : (x : Text) → Tells (not (sameText (behind x) [])) (Unfed x 0)
-unfed-tells x = beside (not (sameText (behind x) [])) refl (tells-no (sameText (behind x) []) (same-text (behind x) []))
+pub feed-tells : (x : Text) → Tells (not (sameText (behind x) [])) (LacksFeed x 0)
+feed-tells x = beside (not (sameText (behind x) [])) refl (tells-other (behind x) [])
 
 -- where a fault may stand: ranks base and base + 1 at 0, those above at a line
 abbrev pub Place : Text → ℕ → ℕ → ℕ → Type 0
@@ -123,9 +126,9 @@ module _ {x : Text} {F : Type 0} (T : Table x F) where
       let start : Tried 0 (T .base) = λ i m h. begin i m (T .place i m h) in
       try P f 0 (ltb maxFile (length x)) o _ s a
       (λ _ h. subst P (cond-not (sameText (behind x) []) p q) (
-        try P g 0 (not (sameText (behind x) [])) p q t b
-        (λ _ k. c (next-line 0 (suc (T .rank g)) (λ i j l. low i l (T .place i 0 j)) k))
-        (rw (d, ← e) at h)))
+      try P g 0 (not (sameText (behind x) [])) p q t b
+      (λ _ k. c (next-line 0 (suc (T .rank g)) (λ i j l. low i l (T .place i 0 j)) k))
+      (rw (d, ← e) at h)))
       (rw (sym d) at start)
     where
       cond-not : {A : Type 0} (b : Bool) (x y : A) → cond (not b) x y ≡ cond b y x
