@@ -1,0 +1,123 @@
+-- The table of document 01 for a sheet, a cue list and a listing: when each refusal stands, at which line, and which one is answered.
+-- Lines count from 1; what is wrong with the whole file stands at 0. Each fault looks at the text alone, not at whether another stands before it.
+pub mod Order
+pub mod Laws
+use mathlib.Core.Path.{_≡_}
+use mathlib.Core.Logic.{_⊎_}
+use mathlib.Core.Bool.{false}
+use mathlib.Core.List.{[], _∷_}
+use Prim.Native.Nat.{ℕ, zero, suc, _+_, _-_, _≤_, _<_}
+use lib.ListN.{length, getD}
+use Rattle.fields.specs.Bytes.{Text, bytes, value}
+use Rattle.fields.specs.Limits.{maxRow, maxFile}
+use Rattle.fields.specs.declared.fault.CueFault.{CueFault}
+use Rattle.fields.specs.declared.fault.CueFault.the-variants.{LongFile as LongList, Unended as UnendedList, BadFields as BadCue}
+use Rattle.fields.specs.declared.fault.CueFault.the-variants.{BadNumber, NotAbove, NoName, ManyChildren, NoChild}
+use Rattle.fields.specs.Split.{lines, behind, fields, field}
+use Rattle.fields.specs.Children.{cueNumber, shortName, allNames}
+use Rattle.model.specs.Fault.{Answers, refused, modelNumber}
+use Rattle.sheet.specs.declared.sheet.SheetFault.{SheetFault}
+use Rattle.sheet.specs.declared.sheet.SheetFault.the-variants.{LongFile, Unended, ManyRules, BadFields, NoKind, Repeated, Model}
+use Rattle.sheet.specs.declared.sheet.SheetOutcome.{SheetOutcome}
+use Rattle.sheet.specs.declared.sheet.SheetOutcome.the-variants.{Read, Refused}
+use Rattle.sheet.specs.declared.cues.CuesRead.{CuesRead}
+use Rattle.sheet.specs.declared.cues.CuesRead.the-variants.{Count, Refused as RefusedList}
+use Rattle.sheet.specs.declared.listing.Listed.{Listed}
+use Rattle.sheet.specs.declared.listing.Listed.the-variants.{Written, SheetRefused, CueRefused, TooLong}
+use Rattle.sheet.specs.Cues.{isCueNumber, children}
+use Rattle.sheet.specs.Sheet.{maxRules, kind, model}
+use Rattle.sheet.specs.Listing.{listing}
+
+-- no fault stands at any line
+abbrev pub NoFault : {F : Type 0} → (F → ℕ → Type 0) → Type 0
+NoFault {F} Stands = (g : F) (m : ℕ) → ¬ Stands g m
+
+-- lines in order, on one line by rank
+abbrev pub Before : {F : Type 0} → (F → ℕ) → F → ℕ → F → ℕ → Type 0
+Before rank f n g m = (n < m) ⊎ ((n ≡ m) × (rank f ≤ rank g))
+
+-- f stands at line n, and before every fault that stands
+abbrev pub First : {F : Type 0} → (F → ℕ) → (F → ℕ → Type 0) → F → ℕ → Type 0
+First {F} rank Stands f n = Stands f n × ((g : F) (m : ℕ) → Stands g m → Before rank f n g m)
+
+-- the text has a line n, and the line
+abbrev pub Line : Text → ℕ → Type 0
+Line x n = (1 ≤ n) × (n ≤ length (lines x))
+
+abbrev pub line : Text → ℕ → Text
+line x zero = []
+line x (suc n) = getD (lines x) n []
+
+-- 20, 30: over 65,535 bytes
+abbrev pub Long : Text → ℕ → Type 0
+Long x n = (n ≡ 0) × (maxFile < length x)
+
+-- 21, 31: the last line lacks its line feed
+abbrev pub LacksFeed : Text → ℕ → Type 0
+LacksFeed x n = (n ≡ 0) × ¬ (behind x ≡ [])
+
+-- 25: an earlier line has the kind of line n
+abbrev pub Earlier : Text → ℕ → Type 0
+Earlier x n = (m : ℕ) × (1 ≤ m) × (m < n) × (kind (line x m) ≡ kind (line x n))
+
+-- what is wrong with a sheet
+abbrev pub SheetStands : Text → SheetFault → ℕ → Type 0
+SheetStands x LongFile n = Long x n
+SheetStands x Unended n = LacksFeed x n
+-- 22: a 65th line
+SheetStands x ManyRules n = Line x n × (n ≡ maxRules + 1)
+-- 23: not three fields, or the first is not `rule`
+SheetStands x BadFields n = Line x n × (¬ (length (fields (line x n)) ≡ 3) ⊎ ¬ (field 0 (line x n) ≡ bytes "rule"))
+-- 24: the kind is no name of 1 to 32 characters
+SheetStands x NoKind n = Line x n × (shortName (kind (line x n)) ≡ false)
+SheetStands x Repeated n = Line x n × Earlier x n
+-- 10 to 17: the model text of the line is refused so
+SheetStands x (Model f) n = Line x n × ((p : ℕ) × Answers (model (line x n)) (refused f p))
+
+-- by number, then the model's own
+abbrev pub sheetRank : SheetFault → ℕ
+sheetRank LongFile = 20
+sheetRank Unended = 21
+sheetRank ManyRules = 22
+sheetRank BadFields = 23
+sheetRank NoKind = 24
+sheetRank Repeated = 25
+sheetRank (Model f) = 20 + modelNumber f
+
+-- what a sheet is answered
+abbrev pub SheetAnswers : Text → SheetOutcome → Type 0
+SheetAnswers x Read = NoFault (SheetStands x)
+SheetAnswers x (Refused f n) = First sheetRank (SheetStands x) f n
+
+-- the number of a cue line
+abbrev pub number : Text → ℕ
+number l = value (field 1 l)
+
+-- what is wrong with a cue list
+abbrev pub CueStands : Text → CueFault → ℕ → Type 0
+CueStands x LongList n = Long x n
+CueStands x UnendedList n = LacksFeed x n
+-- 32: under three fields, or the first is not `cue`
+CueStands x BadCue n = Line x n × ((length (fields (line x n)) < 3) ⊎ ¬ (field 0 (line x n) ≡ bytes "cue"))
+-- 33: the number is not 1 to 5 digits, or begins with 0
+CueStands x BadNumber n = Line x n × (isCueNumber (field 1 (line x n)) ≡ false)
+-- 34: the number is not above the line before
+CueStands x NotAbove n = Line x n × ((1 < n) × (number (line x n) ≤ number (line x (n - 1))))
+-- 35: the kind or a child is no name of 1 to 32 characters
+CueStands x NoName n = Line x n × (allNames (field 2 (line x n) ∷ children (line x n)) ≡ false)
+-- 36: over 4,096 children
+CueStands x ManyChildren n = Line x n × (maxRow < length (children (line x n)))
+-- 37: no child is asked for
+CueStands x NoChild n = ⊥
+
+-- what a cue list is answered
+abbrev pub CuesAnswers : Text → CuesRead → Type 0
+CuesAnswers x (Count n) = NoFault (CueStands x) × (n ≡ length (lines x))
+CuesAnswers x (RefusedList f n) = First cueNumber (CueStands x) f n
+
+-- What a listing is answered: the sheet is tried before the list, and both before 50.
+abbrev pub Lists : Text → Text → ℕ → Listed → Type 0
+Lists s c room (SheetRefused f n) = First sheetRank (SheetStands s) f n
+Lists s c room (CueRefused f n) = NoFault (SheetStands s) × First cueNumber (CueStands c) f n
+Lists s c room TooLong = NoFault (SheetStands s) × NoFault (CueStands c) × (room < length (listing s c))
+Lists s c room (Written n) = NoFault (SheetStands s) × NoFault (CueStands c) × (length (listing s c) ≤ room) × (n ≡ length (listing s c))

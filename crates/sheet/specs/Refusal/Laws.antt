@@ -1,0 +1,291 @@
+-- A sheet, a cue list and a listing are refused exactly as the table says.
+use mathlib.Core.Path.{_≡_, refl, sym, ap, ap₂, subst, _∙_}
+use mathlib.Core.Logic.{_↔_, _⊎_, inl, inr}
+use mathlib.Core.Bool.{true, cond, not, _&&_, _||_, and-eq-true-iff, false≢true}
+use mathlib.Core.Option.{Option}
+use mathlib.Core.List.{List, [], _∷_, _++_, map, map-append}
+use Prim.Native.Nat.{ℕ, zero, suc, _+_, _-_, _≤_, _<_}
+use Prim.Native.Char.{code}
+use native.Mathlib.Decide.{decLt}
+use native.Mathlib.Omega.{arith}
+use lib.Dec.{leb, eqb}
+use lib.ListN.{length, take, drop, getD, length-map, List·getD-map}
+use lib.Seq.{take-suc, drop-cons, drop-length, length-take-le, getD-take}
+use borrow.Author.Tests.{leb-true, le-leb, lt-leb, leb-false, eqb-true, eqb-false, eq-eqb, not-true, not-false}
+use Rattle.fields.specs.declared.fault.CueFault.{CueFault}
+use Rattle.fields.specs.declared.fault.CueFault.the-variants.{LongFile as LongList, Unended as UnendedList, BadFields as BadCue}
+use Rattle.fields.specs.declared.fault.CueFault.the-variants.{BadNumber, NotAbove, NoName, ManyChildren, NoChild}
+use Rattle.fields.specs.Tests.{by-test, Tells, tells-not, tells-or}
+use Rattle.fields.specs.Bytes.{Text, bytes, isDigit, all, value, sameText}
+use Rattle.fields.specs.Bytes.Laws.{same-text}
+use Rattle.fields.specs.Limits.{maxRow}
+use Rattle.fields.specs.Split.{lines, fields, field}
+use Rattle.fields.specs.Children.{cueNumber, shortName, allNames}
+use Rattle.model.specs.declared.fault.ModelFault.{ModelFault}
+use Rattle.model.specs.Fault.{Answer, Answers, refused, accepted, modelNumber}
+use Rattle.model.specs.Fault.Answered.{answer, answered, answers-once, number-injective, number-over}
+use Rattle.model.specs.Accept.Length.{value-grows}
+use Rattle.judge.specs.Reply.Laws.{cue-injective}
+use Rattle.sheet.specs.declared.sheet.SheetFault.{SheetFault}
+use Rattle.sheet.specs.declared.sheet.SheetFault.the-variants.{LongFile, Unended, ManyRules, BadFields, NoKind, Repeated, Model}
+use Rattle.sheet.specs.declared.sheet.SheetOutcome.{SheetOutcome}
+use Rattle.sheet.specs.declared.sheet.SheetOutcome.the-variants.{Read, Refused}
+use Rattle.sheet.specs.declared.cues.CueLine.{CueLine}
+use Rattle.sheet.specs.declared.cues.CuesRead.{CuesRead}
+use Rattle.sheet.specs.declared.cues.CuesRead.the-variants.{Count, Refused as RefusedList}
+use Rattle.sheet.specs.declared.listing.Listed.{Listed}
+use Rattle.sheet.specs.declared.listing.Listed.the-variants.{Written, SheetRefused, CueRefused, TooLong}
+use Rattle.sheet.specs.Cues.{isCueNumber, children, byLine, cueLines, cuesRead}
+use Rattle.sheet.specs.Sheet.{maxRules, kind, model, among, modelFault, byFault, sheetLines, sheetOutcome}
+use Rattle.sheet.specs.Listing.{listing, byCues, bySheet, listed}
+use Rattle.sheet.specs.Refusal.{Line, line, Earlier, SheetStands, sheetRank, SheetAnswers, number, CueStands, CuesAnswers, Lists}
+use Rattle.sheet.specs.Refusal.Order.{exactly, tells-no, tells-lt, tells-other, beside, long-tells, feed-tells}
+use Rattle.sheet.specs.Refusal.Order.{Place, Table, first-once, Tried, narrow, try, next-line, walk, whole}
+
+here : (x : Text) (n : ℕ) → n < length (lines x) → Line x (suc n)
+here x n h = (omega arith, omega arith)
+
+-- k is one of the texts
+abbrev Has : Text → List Text → Type 0
+Has k ks = (j : ℕ) × (j < length ks) × (getD ks j [] ≡ k)
+
+tells-among : (ks : List Text) (k : Text) → Tells (among ks k) (Has k ks)
+tells-among [] k = (λ e. absurd (false≢true e), λ h. absurd (omega arith))
+tells-among (y ∷ ks) k =
+    let t = tells-or (sameText y k) (among ks k) (same-text y k) (tells-among ks k) in
+    (λ e. there (t .0 e), λ h. t .1 (back h))
+  where
+    there : (y ≡ k) ⊎ Has k ks → Has k (y ∷ ks)
+    there (inl e) = (0, omega arith, e)
+    there (inr (j, h, e)) = (suc j, omega arith, e)
+
+    back : Has k (y ∷ ks) → (y ≡ k) ⊎ Has k ks
+    back (zero, h, e) = inl e
+    back (suc j, h, e) = inr (j, omega arith, e)
+
+-- a fault of a sheet is known by its rank: below 26 the sheet's own, then the model's
+ownFault : ℕ → SheetFault
+ownFault n = cond (eqb n 20) LongFile (cond (eqb n 21) Unended (cond (eqb n 22) ManyRules (cond (eqb n 23) BadFields (cond (eqb n 24) NoKind Repeated))))
+
+own-fault : (f : SheetFault) → sheetRank f < 26 → ownFault (sheetRank f) ≡ f
+unfolding ownFault
+own-fault LongFile h = refl
+own-fault Unended h = refl
+own-fault ManyRules h = refl
+own-fault BadFields h = refl
+own-fault NoKind h = refl
+own-fault Repeated h = refl
+own-fault (Model f) h = absurd (omega (arith, number-over f))
+
+of-model : (f : SheetFault) → 26 ≤ sheetRank f → (g : ModelFault) × (f ≡ Model g)
+of-model LongFile h = absurd (omega arith)
+of-model Unended h = absurd (omega arith)
+of-model ManyRules h = absurd (omega arith)
+of-model BadFields h = absurd (omega arith)
+of-model NoKind h = absurd (omega arith)
+of-model Repeated h = absurd (omega arith)
+of-model (Model f) h = (f, refl)
+
+rank-injective : (f g : SheetFault) → sheetRank f ≡ sheetRank g → f ≡ g
+rank-injective f g e = go (decLt (sheetRank f) 26)
+  where
+    go : Dec (sheetRank f < 26) → f ≡ g
+    go (yes h) = sym (own-fault f h) ∙ ap ownFault e ∙ own-fault g (omega arith)
+    go (no h) =
+        let (a, p) = of-model f (omega arith) in
+        let (b, q) = of-model g (omega arith) in
+        let k : 20 + modelNumber a ≡ 20 + modelNumber b = ap sheetRank (sym p) ∙ e ∙ ap sheetRank q in
+        p ∙ ap Model (number-injective a b (omega arith)) ∙ sym q
+
+sheet-place : (x : Text) (f : SheetFault) (n : ℕ) → SheetStands x f n → Place x 20 n (sheetRank f)
+sheet-place x LongFile n h = inl (h .0, omega arith, omega arith)
+sheet-place x Unended n h = inl (h .0, omega arith, omega arith)
+sheet-place x ManyRules n h = inr (h .0, omega arith)
+sheet-place x BadFields n h = inr (h .0, omega arith)
+sheet-place x NoKind n h = inr (h .0, omega arith)
+sheet-place x Repeated n h = inr (h .0, omega arith)
+sheet-place x (Model f) n h = inr (h .0, omega (arith, number-over f))
+
+abbrev ofSheet : (x : Text) → Table x SheetFault
+ofSheet x = record { rank = sheetRank; Stands = SheetStands x; base = 20; one = rank-injective; place = sheet-place x }
+
+module _ (x : Text) where
+  abbrev kinds : ℕ → List Text
+  kinds n = map kind (take n (lines x))
+
+  module _ (n : ℕ) (h : n < length (lines x)) where
+    abbrev this : Text
+    this = line x (suc n)
+
+    many-tells : Tried (ofSheet x) (suc n) 22 → Tells (leb maxRules n) (SheetStands x ManyRules (suc n))
+    many-tells t = (λ e. (here x n h, go (leb-true maxRules n e) (decLt maxRules n)), λ k. le-leb maxRules n (omega (arith, k .1)))
+      where
+        late : maxRules < n → ¬ ((suc n < 65) ⊎ ((suc n ≡ 65) × (22 ≤ 22)))
+        late d (inl a) = omega arith
+        late d (inr a) = omega arith
+
+        go : maxRules ≤ n → Dec (maxRules < n) → suc n ≡ maxRules + 1
+        go i (yes d) = absurd (late d (t ManyRules 65 ((omega arith, omega arith), refl)))
+        go i (no d) = omega arith
+
+    rule-tells : Tells (not (eqb (length (fields this)) 3) || not (sameText (field 0 this) (bytes "rule"))) (SheetStands x BadFields (suc n))
+    rule-tells =
+        let three = tells-no (eqb (length (fields this)) 3) (eqb-true (length (fields this)) 3, eq-eqb (length (fields this)) 3) in
+        beside _ (here x n h) (tells-or _ _ three (tells-other (field 0 this) (bytes "rule")))
+
+    kinds-tell : Tells (among (kinds n) (kind this)) (Earlier x (suc n))
+    kinds-tell = let t = tells-among (kinds n) (kind this) in (λ e. there (t .0 e), λ k. t .1 (back k))
+      where
+        is : (j : ℕ) → j < n → getD (kinds n) j [] ≡ kind (getD (lines x) j [])
+        is j i = List·getD-map kind (take n (lines x)) j [] ∙ ap kind (getD-take n (lines x) j [] i)
+
+        size : length (kinds n) ≡ n
+        size = length-map (take n (lines x)) kind ∙ length-take-le n (lines x) (omega arith)
+
+        there : Has (kind this) (kinds n) → Earlier x (suc n)
+        there (j, i, e) = let o : j < n = omega (arith, size) in (suc j, omega arith, omega arith, sym (is j o) ∙ e)
+
+        back : Earlier x (suc n) → Has (kind this) (kinds n)
+        back (zero, i, o, e) = absurd (omega arith)
+        back (suc j, i, o, e) = (j, omega (arith, size), is j (omega arith) ∙ e)
+
+    -- a fault of rank 26 or above is the model's own
+    model-fault : (g : SheetFault) → SheetStands x g (suc n) → 26 ≤ sheetRank g
+        → (f : ModelFault) × (p : ℕ) × (g ≡ Model f) × Answers (model this) (refused f p)
+    model-fault g s k =
+        let (f, e) = of-model g k in
+        let (i, (p, a)) = subst (λ g. SheetStands x g (suc n)) e s in
+        (f, p, e, a)
+
+    model-answers : (o : SheetOutcome) → (Tried (ofSheet x) (suc (suc n)) 22 → SheetAnswers x o) → Tried (ofSheet x) (suc n) 26
+        → (a : Answer) → Answers (model this) a → SheetAnswers x (byFault (modelFault a) o (λ f. Refused f (suc n)))
+    model-answers o next t (refused f p) a = ((here x n h, (p, a)), narrow (ofSheet x) (suc n) 26 (20 + modelNumber f) only t)
+      where
+        only : (g : SheetFault) → SheetStands x g (suc n) → 26 ≤ sheetRank g → 20 + modelNumber f ≤ sheetRank g
+        only g s k =
+            let (i, q, e, b) = model-fault g s k in
+            let z : f ≡ i = cc (answers-once (model this) (refused f p) (refused i q) a b) in
+            rw (e, z) (omega arith)
+    model-answers o next t (accepted u) a = next (next-line (ofSheet x) (suc n) 26 no-more t)
+      where
+        no-more : (g : SheetFault) → SheetStands x g (suc n) → ¬ (26 ≤ sheetRank g)
+        no-more g s k =
+            let (i, q, e, b) = model-fault g s k in
+            let z : _≡_ {A = ℕ} 0 1 = cc (answers-once (model this) (accepted u) (refused i q) a b) in
+            omega arith
+
+  -- what is said behind n lines
+  abbrev sheetFrom : ℕ → SheetOutcome
+  sheetFrom n = sheetLines n (kinds n) (drop n (lines x))
+
+  sheet-step : (n : ℕ) → n < length (lines x) → (Tried (ofSheet x) (suc (suc n)) 22 → SheetAnswers x (sheetFrom (suc n)))
+      → Tried (ofSheet x) (suc n) 22 → SheetAnswers x (sheetFrom n)
+  sheet-step n h next t =
+      let l = line x (suc n) in
+      let o = sheetLines (suc n) (kinds n ++ (kind l ∷ [])) (drop (suc n) (lines x)) in
+      let P : Option SheetFault → Type 0 = λ m. SheetAnswers x (byFault m o (λ f. Refused f (suc n))) in
+      let more : kinds (suc n) ≡ kinds n ++ (kind l ∷ []) = ap (map kind) (take-suc (lines x) n [] h) ∙ map-append kind (take n (lines x)) (l ∷ []) in
+      rw (drop-cons (lines x) n [] h) (
+      try (ofSheet x) (SheetAnswers x) ManyRules (suc n) (leb maxRules n) _ _ (many-tells n h t) (λ k. k)
+      (λ _. try (ofSheet x) P BadFields (suc n) _ _ _ (rule-tells n h) (λ k. k)
+      (λ _. try (ofSheet x) P NoKind (suc n) _ _ _ (beside _ (here x n h) (tells-not (shortName (kind l)))) (λ k. k)
+      (λ _. try (ofSheet x) P Repeated (suc n) _ _ _ (beside _ (here x n h) (kinds-tell n h)) (λ k. k)
+      (λ _ k. model-answers n h o (rw more at next) k (answer (model l)) (answered (model l)))))) t)
+
+  sheet-answers : SheetAnswers x (sheetOutcome x)
+  sheet-answers =
+      whole (ofSheet x) (SheetAnswers x) LongFile Unended _ _ _ refl refl (long-tells x) (feed-tells x) (λ k. k) (λ k. k)
+      (walk (ofSheet x) (SheetAnswers x) sheetFrom sheet-step (λ k. rw (drop-length (lines x)) k))
+
+  sheet-once : (a b : SheetOutcome) → SheetAnswers x a → SheetAnswers x b → a ≡ b
+  sheet-once Read Read h k = refl
+  sheet-once Read (Refused g m) h k = absurd (h g m (k .0))
+  sheet-once (Refused f n) Read h k = absurd (k f n (h .0))
+  sheet-once (Refused f n) (Refused g m) h k = let (e, d) = first-once (ofSheet x) f g n m h k in ap₂ Refused e d
+
+  pub sheet-is : (o : SheetOutcome) → (sheetOutcome x ≡ o) ↔ SheetAnswers x o
+  sheet-is = exactly (SheetAnswers x) sheet-once (sheetOutcome x) sheet-answers
+
+-- where a fault of a cue list stands, and none is 37
+cue-known : (x : Text) (f : CueFault) (n : ℕ) → CueStands x f n → Place x 30 n (cueNumber f) × (cueNumber f < 37)
+cue-known x LongList n h = (inl (h .0, omega arith, omega arith), omega arith)
+cue-known x UnendedList n h = (inl (h .0, omega arith, omega arith), omega arith)
+cue-known x BadCue n h = (inr (h .0, omega arith), omega arith)
+cue-known x BadNumber n h = (inr (h .0, omega arith), omega arith)
+cue-known x NotAbove n h = (inr (h .0, omega arith), omega arith)
+cue-known x NoName n h = (inr (h .0, omega arith), omega arith)
+cue-known x ManyChildren n h = (inr (h .0, omega arith), omega arith)
+cue-known x NoChild n h = absurd h
+
+abbrev ofCues : (x : Text) → Table x CueFault
+ofCues x = record { rank = cueNumber; Stands = CueStands x; base = 30; one = cue-injective; place = λ f n h. cue-known x f n h .0 }
+
+number-positive : (y : Text) → isCueNumber y ≡ true → 1 ≤ value y
+number-positive [] e = absurd (false≢true e)
+number-positive (b ∷ y) e =
+    let first = not (eqb b (code "0")) in
+    let h = and-eq-true-iff (leb 1 (length (b ∷ y))) (leb (length (b ∷ y)) 5 && (first && all isDigit (b ∷ y))) .0 e in
+    let i = and-eq-true-iff (leb (length (b ∷ y)) 5) (first && all isDigit (b ∷ y)) .0 (h .1) in
+    let j = and-eq-true-iff first (all isDigit (b ∷ y)) .0 (i .1) in
+    let d = and-eq-true-iff (isDigit b) (all isDigit y) .0 (j .1) in
+    let k = leb-true (code "0") b (and-eq-true-iff (leb (code "0") b) (leb b (code "9")) .0 (d .0) .0) in
+    let v : 0 + (b - code "0") ≤ value (b ∷ y) = value-grows (0 + (b - code "0")) y in
+    omega (arith, k, eqb-false b (code "0") (not-true (eqb b (code "0")) (j .0)), v)
+
+module _ (x : Text) where
+  above-tells : (n : ℕ) (l : Text) → 1 ≤ number l → Tells (leb (number l) (number (line x n))) ((1 < suc n) × (number l ≤ number (line x (suc n - 1))))
+  above-tells zero l p = (λ e. absurd (omega (arith, leb-true (number l) 0 e)), λ k. absurd (omega arith))
+  above-tells (suc n) l p =
+      let e : suc (suc n) - 1 ≡ suc n = omega arith in
+      rw e (λ t. (omega arith, leb-true _ _ t), λ k. le-leb _ _ (k .1))
+
+  -- what is said behind n lines
+  abbrev cuesFrom : ℕ → CuesRead
+  cuesFrom n = cueLines n (number (line x n)) (drop n (lines x))
+
+  cues-step : (n : ℕ) → n < length (lines x) → (Tried (ofCues x) (suc (suc n)) 32 → CuesAnswers x (cuesFrom (suc n)))
+      → Tried (ofCues x) (suc n) 32 → CuesAnswers x (cuesFrom n)
+  cues-step n h next t =
+      let l = line x (suc n) in
+      let word = tells-or _ _ (tells-lt (length (fields l)) 3) (tells-other (field 0 l) (bytes "cue")) in
+      let P : CueLine → Type 0 = λ c. CuesAnswers x (byLine c (λ q. cueLines (suc n) q (drop (suc n) (lines x))) (λ f. RefusedList f (suc n))) in
+      rw (drop-cons (lines x) n [] h) (
+      try (ofCues x) P BadCue (suc n) _ _ _ (beside _ (here x n h) word) (λ k. k)
+      (λ _. try (ofCues x) P BadNumber (suc n) _ _ _ (beside _ (here x n h) (tells-not (isCueNumber (field 1 l)))) (λ k. k)
+      (λ e. try (ofCues x) P NotAbove (suc n) _ _ _ (beside _ (here x n h) (above-tells n l (number-positive (field 1 l) (not-false _ e)))) (λ k. k)
+      (λ _. try (ofCues x) P NoName (suc n) _ _ _ (beside _ (here x n h) (tells-not (allNames (field 2 l ∷ children l)))) (λ k. k)
+      (λ _. try (ofCues x) P ManyChildren (suc n) _ _ _ (beside _ (here x n h) (tells-lt maxRow (length (children l)))) (λ k. k)
+      (λ _ k. next (next-line (ofCues x) (suc n) 37 (λ g s i. omega (arith, i, cue-known x g (suc n) s .1)) k)))))) t)
+
+  cues-answers : CuesAnswers x (cuesRead x)
+  cues-answers =
+      whole (ofCues x) (CuesAnswers x) LongList UnendedList _ _ _ refl refl (long-tells x) (feed-tells x) (λ k. k) (λ k. k)
+      (walk (ofCues x) (CuesAnswers x) cuesFrom cues-step (λ k. rw (drop-length (lines x)) (k, refl)))
+
+  cues-once : (a b : CuesRead) → CuesAnswers x a → CuesAnswers x b → a ≡ b
+  cues-once (Count n) (Count m) h k = ap Count (h .1 ∙ sym (k .1))
+  cues-once (Count n) (RefusedList g m) h k = absurd (h .0 g m (k .0))
+  cues-once (RefusedList f n) (Count m) h k = absurd (k .0 f n (h .0))
+  cues-once (RefusedList f n) (RefusedList g m) h k = let (e, d) = first-once (ofCues x) f g n m h k in ap₂ RefusedList e d
+
+  pub cues-is : (r : CuesRead) → (cuesRead x ≡ r) ↔ CuesAnswers x r
+  cues-is = exactly (CuesAnswers x) cues-once (cuesRead x) cues-answers
+
+module _ (s c : Text) (room : ℕ) where
+  lists-by : (o : SheetOutcome) → SheetAnswers s o → (r : CuesRead) → CuesAnswers c r
+      → Lists s c room (bySheet o (byCues r (cond (leb (length (listing s c)) room) (Written (length (listing s c))) TooLong)))
+  lists-by (Refused f n) h r k = h
+  lists-by Read h (RefusedList f n) k = (h, k)
+  lists-by Read h (Count n) k =
+      by-test (leb (length (listing s c)) room)
+      (λ e. rw e (h, k .0, leb-true _ _ e, refl))
+      (λ e. rw e (h, k .0, leb-false _ _ e))
+
+  lists-only : (r : Listed) → Lists s c room r → listed s c room ≡ r
+  lists-only (SheetRefused f n) h = rw (sheet-is s (Refused f n) .1 h)
+  lists-only (CueRefused f n) (h, k) = rw (sheet-is s Read .1 h, cues-is c (RefusedList f n) .1 k)
+  lists-only TooLong (h, k, i) = rw (sheet-is s Read .1 h, cues-is c (Count (length (lines c))) .1 (k, refl), lt-leb _ _ i)
+  lists-only (Written n) (h, k, i, e) = rw (sheet-is s Read .1 h, cues-is c (Count (length (lines c))) .1 (k, refl), le-leb _ _ i, e)
+
+  pub listed-is : (r : Listed) → (listed s c room ≡ r) ↔ Lists s c room r
+  listed-is r = (λ e. rw e at (lists-by (sheetOutcome s) (sheet-answers s) (cuesRead c) (cues-answers c)), lists-only r)

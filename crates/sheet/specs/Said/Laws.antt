@@ -1,0 +1,81 @@
+-- A listing says of each cue just what the meaning of its model says.
+use mathlib.Core.Path.{_≡_, refl, sym, ap, _∙_}
+use mathlib.Core.Logic.{_↔_}
+use mathlib.Core.List.{List, [], map}
+use Prim.Native.Nat.{ℕ, zero, suc, _-_, _<_}
+use native.Mathlib.Nat.{sub-zero}
+use native.Mathlib.Numerals.{add-one}
+use native.Mathlib.Omega.{arith}
+use lib.ListN.{length, getD, length-map, List·getD-map}
+use Rattle.fields.specs.Bytes.{Text}
+use Rattle.fields.specs.Split.{lines, field}
+use Rattle.model.specs.Syntax.{Syntax, names, numberIn}
+use Rattle.model.specs.Syntax.Number.{number-found, number-none}
+use Rattle.model.specs.Fault.{Answers, accepted}
+use Rattle.model.specs.Fault.Answered.{answer-is}
+use Rattle.model.specs.Accept.Laws.{accepted-counts}
+use Rattle.model.specs.Model.{modelOf, typeOf}
+use Rattle.model.specs.Model.Types.{type-conflict-free}
+use Rattle.model.specs.Verdict.Laws.{verdict, verdict-says, verdict-is}
+use Rattle.judge.specs.Named.{rowOf}
+use Rattle.judge.specs.Reading.Laws.{number-of-name}
+use Rattle.sheet.specs.declared.line.Said.{Said}
+use Rattle.sheet.specs.declared.line.Said.the-variants.{NoSheet}
+use Rattle.sheet.specs.declared.sheet.SheetFault.the-variants.{Repeated}
+use Rattle.sheet.specs.declared.sheet.SheetOutcome.the-variants.{Read}
+use Rattle.sheet.specs.Cues.{children}
+use Rattle.sheet.specs.Sheet.{kind, model, sheetOutcome}
+use Rattle.sheet.specs.Sheet.Good.{line-accepted}
+use Rattle.sheet.specs.Listing.{wordOf, saidAt, said}
+use Rattle.sheet.specs.Refusal.Laws.{sheet-is}
+use Rattle.sheet.specs.Said.{CueSaid, lacking, by-line}
+
+module _ (s : Text) (e : sheetOutcome s ≡ Read) where
+  abbrev ls : List Text
+  ls = lines s
+
+  -- no two lines have one kind: 25
+  kinds-apart : (i j : ℕ) → i < j → j < length (map kind ls) → ¬ getD (map kind ls) i [] ≡ getD (map kind ls) j []
+  kinds-apart i j h k q =
+      sheet-is s Read .0 e Repeated (suc j)
+      ((omega arith, omega (arith, k, length-map ls kind)), (suc i, omega arith, omega arith, sym (List·getD-map kind ls i []) ∙ q ∙ List·getD-map kind ls j []))
+
+  module _ (l : Text) where
+    -- what the sheet's line of that kind says
+    line-says : (k : ℕ) → k < length ls → kind (getD ls k []) ≡ field 2 l → (t : Syntax) → Answers (model (getD ls k [])) (accepted t)
+        → said ls l ≡ wordOf (verdict (typeOf (modelOf t)) (rowOf (names t) (children l)))
+    unfolding kinds-apart
+    line-says k h q t a =
+        let n : numberIn (map kind ls) (field 2 l) ≡ suc k =
+        ap (numberIn (map kind ls)) (sym (List·getD-map kind ls k [] ∙ q)) ∙ number-of-name (map kind ls) k (rw length-map h) kinds-apart ∙ add-one k in
+        rw (n, ← answer-is (model (getD ls k [])) (accepted t) a)
+
+    by-number : (m : ℕ) → numberIn (map kind ls) (field 2 l) ≡ m → CueSaid ls l (saidAt ls m (children l))
+    by-number zero q = lacking (λ k o p. number-none 0 (map kind ls) (field 2 l) k q (rw length-map o) (List·getD-map kind ls k [] ∙ p))
+    by-number (suc k) q =
+        let f = number-found 0 (map kind ls) (field 2 l) k q in
+        let o : k < length ls = omega (arith, f .1, length-map ls kind) in
+        let p : kind (getD ls k []) ≡ field 2 l = sym (List·getD-map kind ls k []) ∙ ap (λ n. getD (map kind ls) n []) (sym (sub-zero k)) ∙ f .2 in
+        let (t, a) = line-accepted s e k o in
+        let m = model (getD ls k []) in
+        let A = typeOf (modelOf t) in
+        let w = rowOf (names t) (children l) in
+        rw (← answer-is m (accepted t) a)
+        (by-line k o p t a (verdict A w) (verdict-says A (type-conflict-free (modelOf t) (accepted-counts m t a)) w))
+
+    no-line : (m : ℕ) → numberIn (map kind ls) (field 2 l) ≡ m → ((k : ℕ) → k < length ls → ¬ kind (getD ls k []) ≡ field 2 l) → saidAt ls m (children l) ≡ NoSheet
+    no-line zero q n = refl
+    no-line (suc k) q n =
+        let f = number-found 0 (map kind ls) (field 2 l) k q in
+        absurd (n k (omega (arith, f .1, length-map ls kind)) (sym (List·getD-map kind ls k []) ∙ ap (λ n. getD (map kind ls) n []) (sym (sub-zero k)) ∙ f .2))
+
+    said-once : (a : Said) → CueSaid ls l a → said ls l ≡ a
+    unfolding line-says no-line
+    said-once a (lacking n) = no-line (numberIn (map kind ls) (field 2 l)) refl n
+    said-once a (by-line k o p t h v d) =
+        line-says k o p t h
+        ∙ ap wordOf (verdict-is (typeOf (modelOf t)) (type-conflict-free (modelOf t) (accepted-counts (model (getD ls k [])) t h)) (rowOf (names t) (children l)) v .1 d)
+
+    pub cue-is : (a : Said) → (said ls l ≡ a) ↔ CueSaid ls l a
+    unfolding by-number said-once
+    cue-is a = (λ q. rw q at (by-number (numberIn (map kind ls) (field 2 l)) refl), said-once a)
