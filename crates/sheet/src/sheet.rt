@@ -2,7 +2,7 @@
 
 ghost use mathlib.Core.Path.{_≡_};
 ghost use mathlib.Core.List.{[]};
-ghost use Prim.Native.Nat.{_≤_};
+ghost use Prim.Native.Nat.{_-_, _+_, _≤_};
 ghost use lib.ListN.{length};
 ghost use Rattle.fields.specs.Limits.{maxFile};
 ghost use Rattle.judge.specs.Reading.{noPlace, namesWith, partsOf};
@@ -164,6 +164,17 @@ fn check_line(text: &[u8], kinds: Names, line: &[u8], ends: Heads) -> Checked
     Checked::Good
 }
 
+// The part from `from` to `to` of the line that begins at `at`.
+fn place_in(at: usize, from: usize, to: usize) -> NamePlace
+    requires { ⌜ (from ≤ to) × (at + to ≤ maxFile) ⌝ }
+    ensures { λ r. ⌜ r ≡ record { start = at + from; len = to - from } ⌝ }
+{
+    NamePlace {
+        start: (at + from) as u16,
+        len: (to - from) as u16,
+    }
+}
+
 // Reads the line of the text from at to end, behind lines with these kinds.
 fn read_line(text: &[u8], kinds: Names, at: usize, end: usize) -> LineRead
     requires { ⌜ (at ≤ end) × (end ≤ length (now text)) × (length (now text) ≤ maxFile) ⌝ }
@@ -190,17 +201,13 @@ fn read_line(text: &[u8], kinds: Names, at: usize, end: usize) -> LineRead
     }
     let rule = model.rule;
     let names = model.names;
+    let kind = place_in(at, first + 1, second);
+    let place = place_in(at, second + 1, third);
     LineRead {
         checked: Checked::Good,
-        kind: NamePlace {
-            start: (at + first + 1) as u16,
-            len: (second - first - 1) as u16,
-        },
+        kind: kind,
         entry: Entry {
-            model: NamePlace {
-                start: (at + second + 1) as u16,
-                len: (third - second - 1) as u16,
-            },
+            model: place,
             rule: rule,
             names: names,
         },

@@ -169,24 +169,32 @@ module _ (ks : List Text) (l : Text) (h : Heads) (e : h ≡ headsOf l) (g : line
       let n : length (part l 0 (h .first)) ≡ 4 = ap length w in
       (omega (arith, n, part-size l 0 (h .first) (omega (arith, t .ascending)), t .ascending), t .ascending .0, t .ascending .1, t .ascending .2)
 
-  pub line-kind : (at : ℕ) → _≡_ {A = NamePlace} (record { start = at + h .first + 1; len = (h .second - h .first) - 1 }) (kindPlace (record { start = at; line = l }))
+  pub line-kind : (at : ℕ) → _≡_ {A = NamePlace} (record { start = at + (h .first + 1); len = h .second - (h .first + 1) }) (kindPlace (record { start = at; line = l }))
   line-kind at =
-      let t = good-three in
       let s = line-sizes in
-      let k : length (kind l) ≡ (h .second - h .first) - 1 = ap length (t .second-is) ∙ part-size l (h .first + 1) (h .second) (omega arith) ∙ omega arith in
-      let a : at + h .first + 1 ≡ at + 5 = omega arith in
+      let k : length (kind l) ≡ h .second - (h .first + 1) = ap length (good-three .second-is) ∙ part-size l (h .first + 1) (h .second) (omega arith) in
+      let a : at + (h .first + 1) ≡ at + 5 = omega arith in
       rw (k, a)
 
   pub line-entry : (at : ℕ) (m : Reading) → m ≡ reading (part l (h .second + 1) (h .third))
-      → _≡_ {A = Entry} (record { model = record { start = at + h .second + 1; len = (h .third - h .second) - 1 }; rule = m .rule; names = m .names }) (entryOf (record { start = at; line = l }))
+      → _≡_ {A = Entry} (record { model = record { start = at + (h .second + 1); len = h .third - (h .second + 1) }; rule = m .rule; names = m .names }) (entryOf (record { start = at; line = l }))
   line-entry at m r =
       let t = good-three in
       let s = line-sizes in
-      let k : length (kind l) ≡ (h .second - h .first) - 1 = ap length (t .second-is) ∙ part-size l (h .first + 1) (h .second) (omega arith) ∙ omega arith in
-      let j : length (model l) ≡ (h .third - h .second) - 1 = ap length (t .third-is) ∙ part-size l (h .second + 1) (h .third) (omega arith) ∙ omega arith in
-      let a : at + (6 + length (kind l)) ≡ at + h .second + 1 = omega arith in
+      let k : length (kind l) ≡ h .second - (h .first + 1) = ap length (t .second-is) ∙ part-size l (h .first + 1) (h .second) (omega arith) in
+      let j : length (model l) ≡ h .third - (h .second + 1) = ap length (t .third-is) ∙ part-size l (h .second + 1) (h .third) (omega arith) in
+      let a : at + (6 + length (kind l)) ≡ at + (h .second + 1) = omega arith in
       let q : m ≡ reading (model l) = r ∙ ap reading (sym (t .third-is)) in
       rw (q, j, a)
+
+-- and that they fit
+pub heads-fit : (x : Text) (kinds : Names) (at end : ℕ) → (at ≤ end) × (end ≤ length x) × (length x ≤ maxFile) → (h : Heads) → h ≡ headsOf (part x at end)
+    → lineChecked (partsOf x kinds) (part x at end) ≡ Good
+    → (h .first + 1 ≤ h .second) × (h .second + 1 ≤ h .third) × (h .third ≤ length (part x at end)) × (at + h .third ≤ maxFile)
+heads-fit x kinds at end p h e g =
+    let s = line-sizes (partsOf x kinds) (part x at end) h e g in
+    let n = part-size x at end (p .1) in
+    (omega (arith, s .1), omega (arith, s .2), s .3, omega (arith, n, s .3, p))
 
 module _ (x : Text) (kinds : Names) (at end : ℕ) (r : LineRead) where
   pub is-bad : (f : SheetFault) → r .checked ≡ Bad f → checkedBy (lineFault (partsOf x kinds) (part x at end)) ≡ Bad f → LineIs x kinds at end r

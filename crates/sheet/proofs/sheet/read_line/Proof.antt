@@ -3,7 +3,7 @@ use mathlib.Core.Path.{sym, ap, _∙_}
 use Rattle.judge.specs.Reading.{reading, partsOf}
 use Rattle.fields.specs.Split.{part}
 use Rattle.sheet.specs.declared.sheet.SheetFault.the-variants.{Model}
-use Rattle.sheet.specs.Sheet.Laws.{line-bad, line-read, line-model, part-size, line-sizes, third-model, line-kind, line-entry, is-bad}
+use Rattle.sheet.specs.Sheet.Laws.{line-bad, line-read, line-model, third-model, line-kind, line-entry, heads-fit, is-bad}
 use native.Mathlib.Omega.{arith}
 use borrow.Author.Needs.{needs}
 use Rattle.sheet.proofs.sheet.read_line.Statement.{statement}
@@ -41,35 +41,31 @@ returns c =
 
 add-read-model : tie.Need-add-read-model
 add-read-model c =
-    let at-args = c .before .before .before .before .before .before .args in
-    let at-first-fields = c .before .before .before .first-fields in
-    let at-pre = c .before .before .before .before .before .before .pre in
-    let s = line-sizes (partsOf (at-args .text .now) (at-args .kinds)) (part (at-args .text .now) (at-args .at) (at-args .end)) (at-first-fields .result) (at-first-fields .ensures) (sym (c .before .before .check-line .ensures) ∙ c .enum-told .given .1) in
-    omega (arith, part-size (at-args .text .now) (at-args .at) (at-args .end) (at-pre .1), at-pre)
+    let k = c .before .before in
+    let f = k .before in
+    let a = f .before .before .before in
+    omega (arith, heads-fit (a .args .text .now) (a .args .kinds) (a .args .at) (a .args .end) (a .pre) (f .first-fields .result) (f .first-fields .ensures) (sym (k .check-line .ensures) ∙ c .enum-told .given .1))
 
 sub-read-model : tie.Need-sub-read-model
 sub-read-model c =
-    let at-args = c .before .before .before .before .before .before .args in
-    let at-first-fields = c .before .before .before .first-fields in
-    let at-pre = c .before .before .before .before .before .before .pre in
-    let s = line-sizes (partsOf (at-args .text .now) (at-args .kinds)) (part (at-args .text .now) (at-args .at) (at-args .end)) (at-first-fields .result) (at-first-fields .ensures) (sym (c .before .before .check-line .ensures) ∙ c .enum-told .given .1) in
-    omega (arith, part-size (at-args .text .now) (at-args .at) (at-args .end) (at-pre .1), at-pre)
+    let k = c .before .before in
+    let f = k .before in
+    let a = f .before .before .before in
+    omega (arith, heads-fit (a .args .text .now) (a .args .kinds) (a .args .at) (a .args .end) (a .pre) (f .first-fields .result) (f .first-fields .ensures) (sym (k .check-line .ensures) ∙ c .enum-told .given .1))
 
 part-read-model-start : tie.Need-part-read-model-start
 part-read-model-start c =
-    let at-args = c .before .before .before .before .before .before .args in
-    let at-first-fields = c .before .before .before .first-fields in
-    let at-pre = c .before .before .before .before .before .before .pre in
-    let s = line-sizes (partsOf (at-args .text .now) (at-args .kinds)) (part (at-args .text .now) (at-args .at) (at-args .end)) (at-first-fields .result) (at-first-fields .ensures) (sym (c .before .before .check-line .ensures) ∙ c .enum-told .given .1) in
-    omega (arith, part-size (at-args .text .now) (at-args .at) (at-args .end) (at-pre .1), at-pre)
+    let k = c .before .before in
+    let f = k .before in
+    let a = f .before .before .before in
+    omega (arith, heads-fit (a .args .text .now) (a .args .kinds) (a .args .at) (a .args .end) (a .pre) (f .first-fields .result) (f .first-fields .ensures) (sym (k .check-line .ensures) ∙ c .enum-told .given .1))
 
 part-read-model-end : tie.Need-part-read-model-end
 part-read-model-end c =
-    let at-args = c .before .before .before .before .before .before .args in
-    let at-first-fields = c .before .before .before .first-fields in
-    let at-pre = c .before .before .before .before .before .before .pre in
-    let s = line-sizes (partsOf (at-args .text .now) (at-args .kinds)) (part (at-args .text .now) (at-args .at) (at-args .end)) (at-first-fields .result) (at-first-fields .ensures) (sym (c .before .before .check-line .ensures) ∙ c .enum-told .given .1) in
-    omega (arith, part-size (at-args .text .now) (at-args .at) (at-args .end) (at-pre .1), at-pre)
+    let k = c .before .before in
+    let f = k .before in
+    let a = f .before .before .before in
+    omega (arith, heads-fit (a .args .text .now) (a .args .kinds) (a .args .at) (a .args .end) (a .pre) (f .first-fields .result) (f .first-fields .ensures) (sym (k .check-line .ensures) ∙ c .enum-told .given .1))
 
 read-model-requires : tie.Need-read-model-requires
 read-model-requires c κs = search needs
@@ -92,113 +88,47 @@ returns-2 c =
     let at-first-fields = c .before .before .before .before .before .before .before .before .before .first-fields in
     is-bad (at-args .text .now) (at-args .kinds) (at-args .at) (at-args .end) _ (Model (at-outcome .given .0 .0)) (c .bad-line2 .ensures) (line-model (partsOf (at-args .text .now) (at-args .kinds)) (part (at-args .text .now) (at-args .at) (at-args .end)) (sym (at-check-line .ensures) ∙ at-enum-told .given .1) (at-outcome .given .0 .0) (at-outcome .given .0 .1 .0) (ap (λ m. reading m .outcome) (third-model (partsOf (at-args .text .now) (at-args .kinds)) (part (at-args .text .now) (at-args .at) (at-args .end)) (at-first-fields .result) (at-first-fields .ensures) (sym (at-check-line .ensures) ∙ at-enum-told .given .1)) ∙ sym (ap (λ r. r .outcome) (c .before .before .before .before .read-model .ensures)) ∙ at-outcome .given .1))
 
-add-t17 : tie.Need-add-t17
-add-t17 c =
-    let at-args = c .before .before .before .before .before .before .before .before .before .before .before .before .args in
-    let at-first-fields = c .before .before .before .before .before .before .before .before .before .first-fields in
-    let at-pre = c .before .before .before .before .before .before .before .before .before .before .before .before .pre in
-    let s = line-sizes (partsOf (at-args .text .now) (at-args .kinds)) (part (at-args .text .now) (at-args .at) (at-args .end)) (at-first-fields .result) (at-first-fields .ensures) (sym (c .before .before .before .before .before .before .before .before .check-line .ensures) ∙ c .before .before .before .before .before .before .enum-told .given .1) in
-    omega (arith, part-size (at-args .text .now) (at-args .at) (at-args .end) (at-pre .1), at-pre)
+add-place-in : tie.Need-add-place-in
+add-place-in c =
+    let k = c .before .before .before .before .before .before .before .before in
+    let f = k .before in
+    let a = f .before .before .before in
+    omega (arith, heads-fit (a .args .text .now) (a .args .kinds) (a .args .at) (a .args .end) (a .pre) (f .first-fields .result) (f .first-fields .ensures) (sym (k .check-line .ensures) ∙ c .before .before .before .before .before .before .enum-told .given .1))
 
-add-t21 : tie.Need-add-t21
-add-t21 c =
-    let at-args = c .before .before .before .before .before .before .before .before .before .before .before .before .args in
-    let at-first-fields = c .before .before .before .before .before .before .before .before .before .first-fields in
-    let at-pre = c .before .before .before .before .before .before .before .before .before .before .before .before .pre in
-    let s = line-sizes (partsOf (at-args .text .now) (at-args .kinds)) (part (at-args .text .now) (at-args .at) (at-args .end)) (at-first-fields .result) (at-first-fields .ensures) (sym (c .before .before .before .before .before .before .before .before .check-line .ensures) ∙ c .before .before .before .before .before .before .enum-told .given .1) in
-    omega (arith, part-size (at-args .text .now) (at-args .at) (at-args .end) (at-pre .1), at-pre)
+place-in-requires : tie.Need-place-in-requires
+place-in-requires c κs =
+    let k = c .before .before .before .before .before .before .before .before in
+    let f = k .before in
+    let a = f .before .before .before in
+    let s = heads-fit (a .args .text .now) (a .args .kinds) (a .args .at) (a .args .end) (a .pre) (f .first-fields .result) (f .first-fields .ensures) (sym (k .check-line .ensures) ∙ c .before .before .before .before .before .before .enum-told .given .1) in (omega (arith, s), omega (arith, s))
 
-cast-t26 : tie.Need-cast-t26
-cast-t26 c =
-    let at-args = c .before .before .before .before .before .before .before .before .before .before .before .before .args in
-    let at-first-fields = c .before .before .before .before .before .before .before .before .before .first-fields in
-    let at-pre = c .before .before .before .before .before .before .before .before .before .before .before .before .pre in
-    let s = line-sizes (partsOf (at-args .text .now) (at-args .kinds)) (part (at-args .text .now) (at-args .at) (at-args .end)) (at-first-fields .result) (at-first-fields .ensures) (sym (c .before .before .before .before .before .before .before .before .check-line .ensures) ∙ c .before .before .before .before .before .before .enum-told .given .1) in
-    omega (arith, part-size (at-args .text .now) (at-args .at) (at-args .end) (at-pre .1), at-pre)
+add-place-in-2 : tie.Need-add-place-in-2
+add-place-in-2 c =
+    let k = c .before .before .before .before .before .before .before .before .before in
+    let f = k .before in
+    let a = f .before .before .before in
+    omega (arith, heads-fit (a .args .text .now) (a .args .kinds) (a .args .at) (a .args .end) (a .pre) (f .first-fields .result) (f .first-fields .ensures) (sym (k .check-line .ensures) ∙ c .before .before .before .before .before .before .before .enum-told .given .1))
 
-sub-t27 : tie.Need-sub-t27
-sub-t27 c =
-    let at-args = c .before .before .before .before .before .before .before .before .before .before .before .before .args in
-    let at-first-fields = c .before .before .before .before .before .before .before .before .before .first-fields in
-    let at-pre = c .before .before .before .before .before .before .before .before .before .before .before .before .pre in
-    let s = line-sizes (partsOf (at-args .text .now) (at-args .kinds)) (part (at-args .text .now) (at-args .at) (at-args .end)) (at-first-fields .result) (at-first-fields .ensures) (sym (c .before .before .before .before .before .before .before .before .check-line .ensures) ∙ c .before .before .before .before .before .before .enum-told .given .1) in
-    omega (arith, part-size (at-args .text .now) (at-args .at) (at-args .end) (at-pre .1), at-pre)
-
-sub-t28 : tie.Need-sub-t28
-sub-t28 c =
-    let at-args = c .before .before .before .before .before .before .before .before .before .before .before .before .args in
-    let at-first-fields = c .before .before .before .before .before .before .before .before .before .first-fields in
-    let at-pre = c .before .before .before .before .before .before .before .before .before .before .before .before .pre in
-    let s = line-sizes (partsOf (at-args .text .now) (at-args .kinds)) (part (at-args .text .now) (at-args .at) (at-args .end)) (at-first-fields .result) (at-first-fields .ensures) (sym (c .before .before .before .before .before .before .before .before .check-line .ensures) ∙ c .before .before .before .before .before .before .enum-told .given .1) in
-    omega (arith, part-size (at-args .text .now) (at-args .at) (at-args .end) (at-pre .1), at-pre)
-
-cast-t29 : tie.Need-cast-t29
-cast-t29 c =
-    let at-args = c .before .before .before .before .before .before .before .before .before .before .before .before .args in
-    let at-first-fields = c .before .before .before .before .before .before .before .before .before .first-fields in
-    let at-pre = c .before .before .before .before .before .before .before .before .before .before .before .before .pre in
-    let s = line-sizes (partsOf (at-args .text .now) (at-args .kinds)) (part (at-args .text .now) (at-args .at) (at-args .end)) (at-first-fields .result) (at-first-fields .ensures) (sym (c .before .before .before .before .before .before .before .before .check-line .ensures) ∙ c .before .before .before .before .before .before .enum-told .given .1) in
-    omega (arith, part-size (at-args .text .now) (at-args .at) (at-args .end) (at-pre .1), at-pre)
-
-add-t31 : tie.Need-add-t31
-add-t31 c =
-    let at-args = c .before .before .before .before .before .before .before .before .before .before .before .before .args in
-    let at-first-fields = c .before .before .before .before .before .before .before .before .before .first-fields in
-    let at-pre = c .before .before .before .before .before .before .before .before .before .before .before .before .pre in
-    let s = line-sizes (partsOf (at-args .text .now) (at-args .kinds)) (part (at-args .text .now) (at-args .at) (at-args .end)) (at-first-fields .result) (at-first-fields .ensures) (sym (c .before .before .before .before .before .before .before .before .check-line .ensures) ∙ c .before .before .before .before .before .before .enum-told .given .1) in
-    omega (arith, part-size (at-args .text .now) (at-args .at) (at-args .end) (at-pre .1), at-pre)
-
-add-t32 : tie.Need-add-t32
-add-t32 c =
-    let at-args = c .before .before .before .before .before .before .before .before .before .before .before .before .args in
-    let at-first-fields = c .before .before .before .before .before .before .before .before .before .first-fields in
-    let at-pre = c .before .before .before .before .before .before .before .before .before .before .before .before .pre in
-    let s = line-sizes (partsOf (at-args .text .now) (at-args .kinds)) (part (at-args .text .now) (at-args .at) (at-args .end)) (at-first-fields .result) (at-first-fields .ensures) (sym (c .before .before .before .before .before .before .before .before .check-line .ensures) ∙ c .before .before .before .before .before .before .enum-told .given .1) in
-    omega (arith, part-size (at-args .text .now) (at-args .at) (at-args .end) (at-pre .1), at-pre)
-
-cast-t33 : tie.Need-cast-t33
-cast-t33 c =
-    let at-args = c .before .before .before .before .before .before .before .before .before .before .before .before .args in
-    let at-first-fields = c .before .before .before .before .before .before .before .before .before .first-fields in
-    let at-pre = c .before .before .before .before .before .before .before .before .before .before .before .before .pre in
-    let s = line-sizes (partsOf (at-args .text .now) (at-args .kinds)) (part (at-args .text .now) (at-args .at) (at-args .end)) (at-first-fields .result) (at-first-fields .ensures) (sym (c .before .before .before .before .before .before .before .before .check-line .ensures) ∙ c .before .before .before .before .before .before .enum-told .given .1) in
-    omega (arith, part-size (at-args .text .now) (at-args .at) (at-args .end) (at-pre .1), at-pre)
-
-sub-t34 : tie.Need-sub-t34
-sub-t34 c =
-    let at-args = c .before .before .before .before .before .before .before .before .before .before .before .before .args in
-    let at-first-fields = c .before .before .before .before .before .before .before .before .before .first-fields in
-    let at-pre = c .before .before .before .before .before .before .before .before .before .before .before .before .pre in
-    let s = line-sizes (partsOf (at-args .text .now) (at-args .kinds)) (part (at-args .text .now) (at-args .at) (at-args .end)) (at-first-fields .result) (at-first-fields .ensures) (sym (c .before .before .before .before .before .before .before .before .check-line .ensures) ∙ c .before .before .before .before .before .before .enum-told .given .1) in
-    omega (arith, part-size (at-args .text .now) (at-args .at) (at-args .end) (at-pre .1), at-pre)
-
-sub-t35 : tie.Need-sub-t35
-sub-t35 c =
-    let at-args = c .before .before .before .before .before .before .before .before .before .before .before .before .args in
-    let at-first-fields = c .before .before .before .before .before .before .before .before .before .first-fields in
-    let at-pre = c .before .before .before .before .before .before .before .before .before .before .before .before .pre in
-    let s = line-sizes (partsOf (at-args .text .now) (at-args .kinds)) (part (at-args .text .now) (at-args .at) (at-args .end)) (at-first-fields .result) (at-first-fields .ensures) (sym (c .before .before .before .before .before .before .before .before .check-line .ensures) ∙ c .before .before .before .before .before .before .enum-told .given .1) in
-    omega (arith, part-size (at-args .text .now) (at-args .at) (at-args .end) (at-pre .1), at-pre)
-
-cast-t36 : tie.Need-cast-t36
-cast-t36 c =
-    let at-args = c .before .before .before .before .before .before .before .before .before .before .before .before .args in
-    let at-first-fields = c .before .before .before .before .before .before .before .before .before .first-fields in
-    let at-pre = c .before .before .before .before .before .before .before .before .before .before .before .before .pre in
-    let s = line-sizes (partsOf (at-args .text .now) (at-args .kinds)) (part (at-args .text .now) (at-args .at) (at-args .end)) (at-first-fields .result) (at-first-fields .ensures) (sym (c .before .before .before .before .before .before .before .before .check-line .ensures) ∙ c .before .before .before .before .before .before .enum-told .given .1) in
-    omega (arith, part-size (at-args .text .now) (at-args .at) (at-args .end) (at-pre .1), at-pre)
+place-in-requires-2 : tie.Need-place-in-requires-2
+place-in-requires-2 c κs =
+    let k = c .before .before .before .before .before .before .before .before .before in
+    let f = k .before in
+    let a = f .before .before .before in
+    let s = heads-fit (a .args .text .now) (a .args .kinds) (a .args .at) (a .args .end) (a .pre) (f .first-fields .result) (f .first-fields .ensures) (sym (k .check-line .ensures) ∙ c .before .before .before .before .before .before .before .enum-told .given .1) in (omega (arith, s), omega (arith, s))
 
 returns-3 : tie.Need-returns-3
 returns-3 c =
-    let at-args = c .before .before .before .before .before .before .before .before .before .before .before .before .args in
-    let at-check-line = c .before .before .before .before .before .before .before .before .check-line in
-    let at-enum-told = c .before .before .before .before .before .before .enum-told in
-    let at-first-fields = c .before .before .before .before .before .before .before .before .before .first-fields in
-    let at-read-model = c .before .before .before .before .read-model in
+    let kind-at = c .before .place-in .ensures in
+    let model-at = c .place-in2 .ensures in
+    let at-args = c .before .before .before .before .before .before .before .before .before .before .before .before .before .before .args in
+    let at-check-line = c .before .before .before .before .before .before .before .before .before .before .check-line in
+    let at-enum-told = c .before .before .before .before .before .before .before .before .enum-told in
+    let at-first-fields = c .before .before .before .before .before .before .before .before .before .before .before .first-fields in
+    let at-read-model = c .before .before .before .before .before .before .read-model in
     record {
-      checked-is = sym (line-read (partsOf (at-args .text .now) (at-args .kinds)) (part (at-args .text .now) (at-args .at) (at-args .end)) (sym (at-check-line .ensures) ∙ at-enum-told .given .1) (ap (λ m. reading m .outcome) (third-model (partsOf (at-args .text .now) (at-args .kinds)) (part (at-args .text .now) (at-args .at) (at-args .end)) (at-first-fields .result) (at-first-fields .ensures) (sym (at-check-line .ensures) ∙ at-enum-told .given .1)) ∙ sym (ap (λ r. r .outcome) (at-read-model .ensures)) ∙ c .before .before .enum-told2 .given .1));
-      kind-is = λ e. line-kind (partsOf (at-args .text .now) (at-args .kinds)) (part (at-args .text .now) (at-args .at) (at-args .end)) (at-first-fields .result) (at-first-fields .ensures) (sym (at-check-line .ensures) ∙ at-enum-told .given .1) (at-args .at);
-      entry-is = λ e. line-entry (partsOf (at-args .text .now) (at-args .kinds)) (part (at-args .text .now) (at-args .at) (at-args .end)) (at-first-fields .result) (at-first-fields .ensures) (sym (at-check-line .ensures) ∙ at-enum-told .given .1) (at-args .at) (at-read-model .result) (at-read-model .ensures);
+      checked-is = sym (line-read (partsOf (at-args .text .now) (at-args .kinds)) (part (at-args .text .now) (at-args .at) (at-args .end)) (sym (at-check-line .ensures) ∙ at-enum-told .given .1) (ap (λ m. reading m .outcome) (third-model (partsOf (at-args .text .now) (at-args .kinds)) (part (at-args .text .now) (at-args .at) (at-args .end)) (at-first-fields .result) (at-first-fields .ensures) (sym (at-check-line .ensures) ∙ at-enum-told .given .1)) ∙ sym (ap (λ r. r .outcome) (at-read-model .ensures)) ∙ c .before .before .before .before .enum-told2 .given .1));
+      kind-is = λ e. kind-at ∙ line-kind (partsOf (at-args .text .now) (at-args .kinds)) (part (at-args .text .now) (at-args .at) (at-args .end)) (at-first-fields .result) (at-first-fields .ensures) (sym (at-check-line .ensures) ∙ at-enum-told .given .1) (at-args .at);
+      entry-is = λ e. rw model-at (line-entry (partsOf (at-args .text .now) (at-args .kinds)) (part (at-args .text .now) (at-args .at) (at-args .end)) (at-first-fields .result) (at-first-fields .ensures) (sym (at-check-line .ensures) ∙ at-enum-told .given .1) (at-args .at) (at-read-model .result) (at-read-model .ensures));
     }
 
 pub read-line-spec : {M : Type 1} → statement M
@@ -223,16 +153,8 @@ read-line-spec =
     enum-known-outcome
     bad-line-requires-2
     returns-2
-    add-t17
-    add-t21
-    cast-t26
-    sub-t27
-    sub-t28
-    cast-t29
-    add-t31
-    add-t32
-    cast-t33
-    sub-t34
-    sub-t35
-    cast-t36
+    add-place-in
+    place-in-requires
+    add-place-in-2
+    place-in-requires-2
     returns-3)
