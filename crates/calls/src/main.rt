@@ -1,10 +1,8 @@
 // Plays lists of calls on sessions. A line for each call has the call, its answer and the places of the trail; the file stdout has what the book of
 // document 01 says.
 
-ghost use mathlib.Core.Path.{_≡_};
-ghost use Rattle.judge.specs.Judge.{judgeNumber};
-use judge::fault::JudgeFault;
-use judge::text::read_model;
+use judge::fault::judge_number;
+use judge::reading::read_model;
 use judge::verdict::Judged;
 use libc::STDOUT_FILENO;
 use model::rule::NameNumber;
@@ -18,24 +16,11 @@ fn text(bytes: &[u8]) {
     io::write_all(STDOUT_FILENO, bytes);
 }
 
-fn number(fault: JudgeFault) -> u64
-    ensures { λ r. ⌜ r ≡ judgeNumber fault ⌝ }
-{
-    match fault {
-        JudgeFault::NoModel => 40,
-        JudgeFault::LongRow => 41,
-        JudgeFault::BadTrail => 42,
-        JudgeFault::NoName => 43,
-        JudgeFault::NoRoom => 44,
-        JudgeFault::NoChildren => 45,
-    }
-}
-
 fn show_outcome(outcome: Outcome) {
     match outcome {
         Outcome::Done => text(b"done"),
         Outcome::Refused(fault) => {
-            io::print_decimal(STDOUT_FILENO, number(fault));
+            io::print_decimal(STDOUT_FILENO, judge_number(fault) as u64);
         }
     }
 }
@@ -52,7 +37,7 @@ fn show_judged(judged: Judged) {
     match judged {
         Judged::Verdict(verdict) => show_verdict(verdict),
         Judged::Refused(fault) => {
-            io::print_decimal(STDOUT_FILENO, number(fault));
+            io::print_decimal(STDOUT_FILENO, judge_number(fault) as u64);
         }
     }
 }

@@ -8,12 +8,12 @@ use Prim.Native.Nat.{ℕ, zero, suc, _+_, _-_}
 use lib.Dec.{T}
 use lib.ListN.{length, take, drop, getD}
 use Rattle.fields.specs.Bytes.{Text}
-use Rattle.model.specs.Syntax.{Syntax, names, numberIn}
+use Rattle.model.specs.Syntax.{Syntax, writtenNames, numberIn}
 use Rattle.model.specs.Fault.{nameAt, nameFrom}
 use Rattle.model.specs.Fault.Ties.{places}
 use Rattle.desk.specs.declared.child.Located.{Located}
-use Rattle.desk.specs.declared.child.Located.the-variants.{InModel, InChildren, NoModel, NoChildren}
-use Rattle.judge.specs.Reply.{childrenIn, child, Reply, noModel, noChildren, good, Replies, reply}
+use Rattle.desk.specs.declared.child.Located.the-variants.{InModel, InChildren, ModelRefused, ChildrenRefused}
+use Rattle.judge.specs.Reply.{childrenIn, child, Reply, modelRefused, childrenRefused, good, Replies, reply}
 use Rattle.desk.specs.Desk.{replyNumber}
 
 -- a part of one of the two texts: its first place and its length
@@ -30,14 +30,14 @@ startIn (p ∷ ps) zero = 0
 startIn (p ∷ ps) (suc k) = suc (length p) + startIn ps k
 
 -- a name of the model stands in the model text, a foreign one in the children text
-abbrev pub Stands : Text → Text → ℕ → Syntax → Part → Type 0
-Stands m c k t (ofModel p n) = T (nameAt m p) × (nameFrom m p ≡ childName c k) × (n ≡ length (childName c k))
-Stands m c k t (ofChildren p n) =
-    (numberIn (names t) (childName c k) ≡ 0) × (p ≡ startIn (childrenIn c) (k - 1)) × (n ≡ length (childName c k))
+abbrev pub PartStands : Text → Text → ℕ → Syntax → Part → Type 0
+PartStands m c k t (ofModel p n) = T (nameAt m p) × (nameFrom m p ≡ childName c k) × (n ≡ length (childName c k))
+PartStands m c k t (ofChildren p n) =
+    (numberIn (writtenNames t) (childName c k) ≡ 0) × (p ≡ startIn (childrenIn c) (k - 1)) × (n ≡ length (childName c k))
 
 -- r is the reply to m, c and k (`Child.Laws.finds-exactly`: there is one, and only one)
 abbrev pub Finds : Text → Text → ℕ → Reply Part → Type 0
-Finds m c k = Replies (child k) (Stands m c k) m c
+Finds m c k = Replies (child k) (PartStands m c k) m c
 
 -- the same as a function
 abbrev pub partBy : Text → Text → ℕ → ℕ → Part
@@ -45,7 +45,7 @@ partBy m c k zero = ofChildren (startIn (childrenIn c) (k - 1)) (length (childNa
 partBy m c k (suc n) = ofModel (getD (places m (length m)) n 0) (length (childName c k))
 
 abbrev pub partIn : Text → Text → ℕ → Syntax → Part
-partIn m c k t = partBy m c k (numberIn (names t) (childName c k))
+partIn m c k t = partBy m c k (numberIn (writtenNames t) (childName c k))
 
 unfoldable pub found : Text → Text → ℕ → Reply Part
 found m c k = reply (child k) (partIn m c k) m c
@@ -56,8 +56,8 @@ childRefusal m c k = replyNumber (λ p. 0) (found m c k)
 
 -- on a refusal, the empty part at the beginning of the children text
 abbrev pub partOf : Reply Part → Part
-partOf (noModel f) = ofChildren 0 0
-partOf (noChildren f) = ofChildren 0 0
+partOf (modelRefused f) = ofChildren 0 0
+partOf (childrenRefused f) = ofChildren 0 0
 partOf (good p) = p
 
 abbrev pub childPart : Text → Text → ℕ → Part
@@ -82,7 +82,7 @@ bytesOf p m c = take (lengthOf p) (drop (startOf p) (textOf p m c))
 
 -- as the code hands it on
 abbrev pub located : Reply Part → Located
-located (noModel f) = NoModel f
-located (noChildren f) = NoChildren f
+located (modelRefused f) = ModelRefused f
+located (childrenRefused f) = ChildrenRefused f
 located (good (ofModel p n)) = InModel p n
 located (good (ofChildren p n)) = InChildren p n

@@ -6,12 +6,12 @@ use Rattle.fields.specs.Children.{cueNumber}
 use Rattle.model.specs.declared.verdict.Verdict.{Verdict}
 use Rattle.model.specs.declared.verdict.Verdict.the-variants.{Complete, Open, Dead}
 use Rattle.model.specs.Fault.{modelNumber}
-use Rattle.judge.specs.Reply.{Reply, noModel, noChildren, good, childrenReply}
+use Rattle.judge.specs.Reply.{Reply, modelRefused, childrenRefused, good, childrenReply}
 
 -- document 01's numbers
 abbrev pub replyNumber : {A : Type 0} → (A → ℕ) → Reply A → ℕ
-replyNumber n (noModel f) = modelNumber f
-replyNumber n (noChildren f) = cueNumber f
+replyNumber n (modelRefused f) = modelNumber f
+replyNumber n (childrenRefused f) = cueNumber f
 replyNumber n (good v) = n v
 
 abbrev pub verdictNumber : Verdict → ℕ

@@ -3,7 +3,7 @@
 ghost use mathlib.Core.Path.{_≡_};
 ghost use Rattle.desk.specs.Desk.{verdictNumber, deskAnswer};
 use fields::fault::cue_number;
-use judge::named::judge_children;
+use judge::reply::judge_children;
 use judge::verdict::ChildrenJudged;
 use model::fault::model_number;
 use model::verdict::Verdict;
@@ -25,7 +25,7 @@ pub extern "C" fn desk_judge(model: &[u8], children: &[u8]) -> u32
 {
     match judge_children(model, children) {
         ChildrenJudged::Verdict(v) => verdict_number(v),
-        ChildrenJudged::NoModel(f) => model_number(f),
-        ChildrenJudged::NoChildren(f) => cue_number(f),
+        ChildrenJudged::ModelRefused(f) => model_number(f),
+        ChildrenJudged::ChildrenRefused(f) => cue_number(f),
     }
 }

@@ -6,7 +6,7 @@ ghost use lib.ListN.{length};
 ghost use Rattle.fields.specs.Limits.{maxFile};
 ghost use Rattle.fields.specs.Split.{tab, split};
 ghost use Rattle.desk.specs.Child.{startIn, found, located, childPart, childRefusal, textOf, startOf, bytesOf};
-ghost use Rattle.desk.specs.Child.Code.{Reached, askedOf, locatedIn, locatedRead};
+ghost use Rattle.desk.specs.Child.Code.{ChildReached, askedOf, locatedIn, locatedRead};
 use fields::children::Children;
 use fields::children::count_children;
 use fields::fault::CueFault;
@@ -14,10 +14,10 @@ use fields::fault::cue_number;
 use fields::limits::MAX_FILE;
 use fields::split::TAB;
 use fields::split::part_end;
-use judge::text::Names;
-use judge::text::Outcome;
-use judge::text::number_of;
-use judge::text::read_model;
+use judge::reading::Names;
+use judge::reading::Outcome;
+use judge::reading::number_of;
+use judge::reading::read_model;
 use model::fault::ModelFault;
 use model::fault::model_number;
 
@@ -25,8 +25,8 @@ use model::fault::model_number;
 enum Located {
     InModel(usize, usize),
     InChildren(usize, usize),
-    NoModel(ModelFault),
-    NoChildren(CueFault),
+    ModelRefused(ModelFault),
+    ChildrenRefused(CueFault),
 }
 
 // How many children there are, if child k is one of them; or the refusal.
@@ -54,7 +54,7 @@ fn asked(children: &[u8], k: usize) -> Children
 // Where child k begins.
 fn child_start(children: &[u8], k: usize) -> usize
     requires { ⌜ (1 ≤ k) × (k ≤ length (split tab (now children))) × (length (now children) ≤ maxFile) ⌝ }
-    ensures { λ r. ⌜ (r ≡ startIn (split tab (now (children .entry))) (k - 1)) × Reached (now (children .entry)) (k - 1) r ⌝ }
+    ensures { λ r. ⌜ (r ≡ startIn (split tab (now (children .entry))) (k - 1)) × ChildReached (now (children .entry)) (k - 1) r ⌝ }
 {
     let last = k - 1;
     let mut at: usize = 0;
@@ -89,7 +89,7 @@ fn locate_read(model: &[u8], names: Names, children: &[u8], k: usize) -> Located
             let number = number_of(model, names, &children[at..end]);
             name_place(names, number.0, at, end)
         }
-        Children::Refused(f) => Located::NoChildren(f),
+        Children::Refused(f) => Located::ChildrenRefused(f),
     }
 }
 
@@ -103,7 +103,7 @@ fn locate(model: &[u8], children: &[u8], k: usize) -> Located
             let names = read.names;
             locate_read(model, names, children, k)
         }
-        Outcome::Refused(f, _) => Located::NoModel(f),
+        Outcome::Refused(f, _) => Located::ModelRefused(f),
     }
 }
 
@@ -121,8 +121,8 @@ pub fn child<'a>(model: &'a [u8], children: &'a [u8], k: usize) -> &'a [u8]
             let end = start + len;
             &children[start..end]
         }
-        Located::NoModel(_) => &children[0..0],
-        Located::NoChildren(_) => &children[0..0],
+        Located::ModelRefused(_) => &children[0..0],
+        Located::ChildrenRefused(_) => &children[0..0],
     }
 }
 
@@ -133,7 +133,7 @@ pub fn child_refusal(model: &[u8], children: &[u8], k: usize) -> u32
     match locate(model, children, k) {
         Located::InModel(_, _) => 0,
         Located::InChildren(_, _) => 0,
-        Located::NoModel(f) => model_number(f),
-        Located::NoChildren(f) => cue_number(f),
+        Located::ModelRefused(f) => model_number(f),
+        Located::ChildrenRefused(f) => cue_number(f),
     }
 }

@@ -2,10 +2,10 @@
 
 pub mod fault;
 mod lexeme;
-pub mod named;
 mod packed;
 mod reader;
+pub mod reading;
+pub mod reply;
 pub mod row;
 mod table;
-pub mod text;
 pub mod verdict;

@@ -7,8 +7,8 @@ ghost use lib.ListN.{length};
 ghost use Rattle.model.specs.declared.rule.Kind.the-variants.{Atom, Group};
 ghost use Rattle.fields.specs.Limits.{maxNodes};
 ghost use Rattle.model.specs.Rule.Laws.{used};
-ghost use Rattle.judge.specs.Reading.Buffer.{Holds};
-ghost use Rattle.judge.specs.Packed.{word, nodeOf, plain, optional, isSign, signBy, kindBy, markBy};
+ghost use Rattle.judge.specs.Reading.Buffer.{Stores};
+ghost use Rattle.judge.specs.Packed.{packedWord, nodeIn, plainNode, optionalNode, isSign, signBy, kindBy, markBy};
 use model::rule::Kind;
 use model::rule::MAX_NODES;
 use model::rule::Mark;
@@ -19,13 +19,13 @@ use model::rule::Upper;
 
 // The number of a node that has no mark: its shape is a sign's byte or 0, or 1 or 2 for an atom.
 fn packed(shape: u8, low: u16, high: u16) -> u64
-    ensures { λ r. ⌜ r ≡ word shape low high ⌝ }
+    ensures { λ r. ⌜ r ≡ packedWord shape low high ⌝ }
 {
     ((high as u64) * 65536 + (low as u64)) * 256 + (shape as u64)
 }
 
 pub(crate) fn packed_atom(min: u16, max: Upper) -> u64
-    ensures { λ r. ⌜ nodeOf r ≡ plain (Atom min max) ⌝ }
+    ensures { λ r. ⌜ nodeIn r ≡ plainNode (Atom min max) ⌝ }
 {
     match max {
         Upper::Number(n) => packed(1, min, n),
@@ -36,14 +36,14 @@ pub(crate) fn packed_atom(min: u16, max: Upper) -> u64
 // `sign` is the byte of a sign, or 0.
 pub(crate) fn packed_group(sign: u8, members: u16) -> u64
     requires { ⌜ T (isSign sign) ⌝ }
-    ensures { λ r. ⌜ nodeOf r ≡ plain (Group (signBy sign) members) ⌝ }
+    ensures { λ r. ⌜ nodeIn r ≡ plainNode (Group (signBy sign) members) ⌝ }
 {
     packed(sign, members, 0)
 }
 
 // The number of the same node with `?`.
 pub(crate) fn packed_optional(word: u64) -> u64
-    ensures { λ r. ⌜ nodeOf r ≡ optional (nodeOf word) ⌝ }
+    ensures { λ r. ⌜ nodeIn r ≡ optionalNode (nodeIn packedWord) ⌝ }
 {
     word / 256 * 256 + 128 + word % 128
 }
@@ -95,7 +95,7 @@ fn mark_of(bit: u64) -> Mark
 }
 
 pub(crate) fn unpacked(word: u64) -> Node
-    ensures { λ r. ⌜ r ≡ nodeOf word ⌝ }
+    ensures { λ r. ⌜ r ≡ nodeIn packedWord ⌝ }
 {
     Node {
         kind: kind_of(
@@ -120,7 +120,7 @@ fn byte_of(sign: Sign) -> u8
 }
 
 fn packed_kind(kind: Kind) -> u64
-    ensures { λ r. ⌜ nodeOf r ≡ plain kind ⌝ }
+    ensures { λ r. ⌜ nodeIn r ≡ plainNode kind ⌝ }
 {
     match kind {
         Kind::Atom { min, max } => packed_atom(min, max),
@@ -129,7 +129,7 @@ fn packed_kind(kind: Kind) -> u64
 }
 
 fn packed_node(node: Node) -> u64
-    ensures { λ r. ⌜ nodeOf r ≡ node ⌝ }
+    ensures { λ r. ⌜ nodeIn r ≡ node ⌝ }
 {
     let kind = node.kind;
     let mark = node.mark;
@@ -142,7 +142,7 @@ fn packed_node(node: Node) -> u64
 // The nodes of a rule. Places from len on stay as they were.
 pub(crate) fn pack(rule: Rule, words: &mut [u64; MAX_NODES])
     requires { ⌜ (rule .len ≤ maxNodes) × (length (now words) ≡ maxNodes) ⌝ }
-    ensures { λ r. ⌜ Holds nodeOf maxNodes (now (words .exit)) (rule .len) (used rule) ⌝ }
+    ensures { λ r. ⌜ Stores nodeIn maxNodes (now (words .exit)) (rule .len) (used rule) ⌝ }
 {
     let len = rule.len;
     let mut i: usize = 0;

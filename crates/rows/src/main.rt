@@ -2,9 +2,9 @@
 // and the answer.
 
 use judge::row::judge_row;
-use judge::text::Outcome;
-use judge::text::number_of;
-use judge::text::read_model;
+use judge::reading::Outcome;
+use judge::reading::number_of;
+use judge::reading::read_model;
 use judge::verdict::Judged;
 use model::fault::model_number;
 use model::verdict::Verdict;

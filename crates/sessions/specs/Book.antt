@@ -6,7 +6,7 @@ use mathlib.Core.List.{List, [], _∷_, _++_}
 use Prim.Native.Nat.{ℕ, _≤_, _<_, min}
 use lib.ListN.{length}
 use Rattle.judge.specs.declared.fault.JudgeFault.{JudgeFault}
-use Rattle.judge.specs.declared.fault.JudgeFault.the-variants.{NoModel, NoName, NoRoom, NoChildren}
+use Rattle.judge.specs.declared.fault.JudgeFault.the-variants.{Unreadable, UnknownName, NoRoom, NothingToTakeBack}
 use Rattle.model.specs.declared.rule.Rule.{Rule}
 use Rattle.model.specs.declared.verdict.Verdict.{Verdict}
 use Rattle.model.specs.Word.{Word}
@@ -21,10 +21,10 @@ pub data Call : Type 0 where
   takingBack asking : Call
 
 -- a verdict, a refusal, or neither
-pub data Reply : Type 0 where
-  says : Verdict → Reply
-  refuses : JudgeFault → Reply
-  nothing : Reply
+pub data CallReply : Type 0 where
+  says : Verdict → CallReply
+  refuses : JudgeFault → CallReply
+  nothing : CallReply
 
 pub record Book : Type 0 where
   pub rule : Rule
@@ -38,17 +38,17 @@ abbrev pub room : ℕ → ℕ
 room n = min n maxRow
 
 -- One call: the book before it, the call, the book's reply and the book after it. n is the trail's length.
-pub data Enters (n : ℕ) : Book → Call → Reply → Book → Type 0 where
-  no-model : {b : Book} {r : Rule} → ¬ Readable r → Enters n b (opening r) (refuses NoModel) b
+pub data Enters (n : ℕ) : Book → Call → CallReply → Book → Type 0 where
+  no-model : {b : Book} {r : Rule} → ¬ Readable r → Enters n b (opening r) (refuses Unreadable) b
   opens : {b : Book} {r : Rule} → Readable r → Enters n b (opening r) nothing (book r [])
-  no-name : {r : Rule} {w : Word} {x : ℕ} → names r < x → Enters n (book r w) (adding x) (refuses NoName) (book r w)
+  no-name : {r : Rule} {w : Word} {x : ℕ} → names r < x → Enters n (book r w) (adding x) (refuses UnknownName) (book r w)
   no-room : {r : Rule} {w : Word} {x : ℕ} → x ≤ names r → length w ≡ room n → Enters n (book r w) (adding x) (refuses NoRoom) (book r w)
   adds : {r : Rule} {w : Word} {x : ℕ} → x ≤ names r → ¬ length w ≡ room n → Enters n (book r w) (adding x) nothing (book r (w ++ (x ∷ [])))
-  no-children : {r : Rule} → Enters n (book r []) takingBack (refuses NoChildren) (book r [])
+  no-children : {r : Rule} → Enters n (book r []) takingBack (refuses NothingToTakeBack) (book r [])
   takes : {r : Rule} {w : Word} (x : ℕ) → Enters n (book r (w ++ (x ∷ []))) takingBack nothing (book r w)
   judges : {r : Rule} {w : Word} {A : Ty} {v : Verdict} → Means r A → Says A w v → Enters n (book r w) asking (says v) (book r w)
 
 -- A list of calls, with the book's reply to each (`Book.Laws.keeps-once`: there are no other replies, and no other book at the end).
-pub data Keeps (n : ℕ) : Book → List Call → List Reply → Book → Type 0 where
+pub data Keeps (n : ℕ) : Book → List Call → List CallReply → Book → Type 0 where
   done : {b : Book} → Keeps n b [] [] b
-  next : {b c d : Book} {q : Call} {a : Reply} {qs : List Call} {rs : List Reply} → Enters n b q a c → Keeps n c qs rs d → Keeps n b (q ∷ qs) (a ∷ rs) d
+  next : {b c d : Book} {q : Call} {a : CallReply} {qs : List Call} {rs : List CallReply} → Enters n b q a c → Keeps n c qs rs d → Keeps n b (q ∷ qs) (a ∷ rs) d

@@ -8,12 +8,12 @@ use Rattle.model.specs.declared.rule.Rule.{Rule}
 use Rattle.sessions.specs.declared.session.Outcome.{Outcome}
 use Rattle.sessions.specs.declared.session.Session.{Session}
 use Rattle.judge.specs.declared.verdict.Judged.{Judged}
-use Rattle.sessions.specs.Book.{Call, opening, Reply, nothing, Book, book, room, Keeps}
+use Rattle.sessions.specs.Book.{Call, opening, CallReply, nothing, Book, book, room, Keeps}
 use Rattle.sessions.specs.Book.Laws.{keeps-once}
 use Rattle.sessions.specs.Session.{Trail, outcome, asked}
 use Rattle.sessions.specs.Refusal.{Tried, Asks}
 use Rattle.sessions.specs.Refusal.Laws.{outcome-is, asked-is}
-use Rattle.sessions.specs.Session.Calls.{World, plays, replyTo, after, replies, shown}
+use Rattle.sessions.specs.Session.Calls.{World, plays, replyTo, worldAfter, repliesTo, shown}
 use Rattle.sessions.specs.Session.Theorem.{agrees-with-book}
 
 -- Demand 1, sessions: a call of any session with any trail is refused just as the table says, and asking is else answered by the meaning.
@@ -28,8 +28,8 @@ asked-exactly = asked-is
 pub calls-keep-book : (w₀ : World) (r : Rule) → replyTo (opening r) w₀ ≡ nothing → (qs : List Call) →
     let n = length (w₀ .trail) in
     let w = plays (opening r) w₀ in
-    (b : Book) × Keeps n (book r []) qs (replies qs w) b × (after qs w ≡ shown n b) × (length (b .row) ≤ room n)
+    (b : Book) × Keeps n (book r []) qs (repliesTo qs w) b × (worldAfter qs w ≡ shown n b) × (length (b .row) ≤ room n)
 calls-keep-book = agrees-with-book
 
-pub book-once : {n : ℕ} {b c d : Book} {qs : List Call} {rs rs′ : List Reply} → Keeps n b qs rs c → Keeps n b qs rs′ d → (rs ≡ rs′) × (c ≡ d)
+pub book-once : {n : ℕ} {b c d : Book} {qs : List Call} {rs rs′ : List CallReply} → Keeps n b qs rs c → Keeps n b qs rs′ d → (rs ≡ rs′) × (c ≡ d)
 book-once = keeps-once

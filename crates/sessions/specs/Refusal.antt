@@ -9,10 +9,10 @@ use Rattle.model.specs.Types.{Ty}
 use Rattle.model.specs.Verdict.{Says}
 use Rattle.model.specs.Rule.{Readable, Means, names}
 use Rattle.judge.specs.declared.fault.JudgeFault.{JudgeFault}
-use Rattle.judge.specs.declared.fault.JudgeFault.the-variants.{NoModel, BadTrail, NoName, NoRoom, NoChildren}
+use Rattle.judge.specs.declared.fault.JudgeFault.the-variants.{Unreadable, BadTrail, UnknownName, NoRoom, NothingToTakeBack}
 use Rattle.judge.specs.declared.verdict.Judged.{Judged}
 use Rattle.judge.specs.declared.verdict.Judged.the-variants.{Verdict, Refused as RefusedRow}
-use Rattle.judge.specs.Judge.{Upto, judgeNumber}
+use Rattle.judge.specs.Row.{Upto, judgeNumber}
 use Rattle.sessions.specs.declared.session.Outcome.{Outcome}
 use Rattle.sessions.specs.declared.session.Outcome.the-variants.{Done, Refused}
 use Rattle.sessions.specs.declared.session.Session.{Session}
@@ -36,20 +36,20 @@ Later takingBack = Unit {0}
 Later asking = Unit {0}
 
 -- a refusal that the call tries, and when it stands
-pub data Fault (s : Session) (t : Trail) : Call → JudgeFault → Type 0 where
-  no-rule : {r : Rule} → ¬ Readable r → Fault s t (opening r) NoModel
-  no-model : {q : Call} → Later q → ¬ Readable (s .rule) → Fault s t q NoModel
-  bad-trail : {q : Call} → Later q → ¬ Intact (s .children) (names (s .rule)) t → Fault s t q BadTrail
-  no-name : {x : ℕ} → names (s .rule) < x → Fault s t (adding x) NoName
-  no-room : {x : ℕ} → room (length t) ≤ s .children → Fault s t (adding x) NoRoom
-  no-children : s .children ≡ 0 → Fault s t takingBack NoChildren
+pub data CallStands (s : Session) (t : Trail) : Call → JudgeFault → Type 0 where
+  no-rule : {r : Rule} → ¬ Readable r → CallStands s t (opening r) Unreadable
+  no-model : {q : Call} → Later q → ¬ Readable (s .rule) → CallStands s t q Unreadable
+  bad-trail : {q : Call} → Later q → ¬ Intact (s .children) (names (s .rule)) t → CallStands s t q BadTrail
+  no-name : {x : ℕ} → names (s .rule) < x → CallStands s t (adding x) UnknownName
+  no-room : {x : ℕ} → room (length t) ≤ s .children → CallStands s t (adding x) NoRoom
+  no-children : s .children ≡ 0 → CallStands s t takingBack NothingToTakeBack
 
 -- what a call is answered: the refusal of the smallest number that stands, if one does
 abbrev pub Tried : Session → Trail → Call → Outcome → Type 0
-Tried s t q Done = (g : JudgeFault) → ¬ Fault s t q g
-Tried s t q (Refused f) = Fault s t q f × ((g : JudgeFault) → Fault s t q g → judgeNumber f ≤ judgeNumber g)
+Tried s t q Done = (g : JudgeFault) → ¬ CallStands s t q g
+Tried s t q (Refused f) = CallStands s t q f × ((g : JudgeFault) → CallStands s t q g → judgeNumber f ≤ judgeNumber g)
 
 -- what asking is answered: else the verdict by the meaning
 abbrev pub Asks : Session → Trail → Judged → Type 0
-Asks s t (Verdict v) = ((g : JudgeFault) → ¬ Fault s t asking g) × ((A : Ty) × Means (s .rule) A × Says A (take (s .children) t) v)
+Asks s t (Verdict v) = ((g : JudgeFault) → ¬ CallStands s t asking g) × ((A : Ty) × Means (s .rule) A × Says A (take (s .children) t) v)
 Asks s t (RefusedRow f) = Tried s t asking (Refused f)

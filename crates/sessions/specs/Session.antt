@@ -12,7 +12,7 @@ use Prim.Native.Nat.{ℕ, _+_, _-_}
 use lib.Dec.{leb, ltb, eqb}
 use lib.ListN.{length, take, drop, set, replicate}
 use Rattle.judge.specs.declared.fault.JudgeFault.{JudgeFault}
-use Rattle.judge.specs.declared.fault.JudgeFault.the-variants.{NoModel, BadTrail, NoName, NoRoom, NoChildren}
+use Rattle.judge.specs.declared.fault.JudgeFault.the-variants.{Unreadable, BadTrail, UnknownName, NoRoom, NothingToTakeBack}
 use Rattle.sessions.specs.declared.session.Outcome.{Outcome}
 use Rattle.sessions.specs.declared.session.Outcome.the-variants.{Done, Refused}
 use Rattle.sessions.specs.declared.session.Session.{Session}
@@ -22,7 +22,7 @@ use Rattle.judge.specs.declared.verdict.Judged.the-variants.{Verdict, Refused a
 use Rattle.model.specs.Verdict.Laws.{verdict}
 use Rattle.model.specs.Rule.{names}
 use Rattle.model.specs.Rule.Decide.{readable, ruleType}
-use Rattle.judge.specs.Judge.Laws.{upto}
+use Rattle.judge.specs.Row.Laws.{upto}
 use Rattle.sessions.specs.Book.{Call, opening, adding, takingBack, asking, room}
 
 -- the places of a trail
@@ -53,13 +53,13 @@ _then_ (Refused f) o = Refused f
 infixr 20 _then_
 -- 40 and 42
 unfoldable pub checked : Session → Trail → Outcome
-checked s t = check (readable (s .rule)) NoModel then check (intact (s .children) (names (s .rule)) t) BadTrail
+checked s t = check (readable (s .rule)) Unreadable then check (intact (s .children) (names (s .rule)) t) BadTrail
 
 -- what each call tries, in this order
 unfoldable pub outcome : Call → Session → Trail → Outcome
-outcome (opening r) s t = check (readable r) NoModel
-outcome (adding x) s t = checked s t then check (leb x (names (s .rule))) NoName then check (ltb (s .children) (room (length t))) NoRoom
-outcome takingBack s t = checked s t then check (ltb 0 (s .children)) NoChildren
+outcome (opening r) s t = check (readable r) Unreadable
+outcome (adding x) s t = checked s t then check (leb x (names (s .rule))) UnknownName then check (ltb (s .children) (room (length t))) NoRoom
+outcome takingBack s t = checked s t then check (ltb 0 (s .children)) NothingToTakeBack
 outcome asking s t = checked s t
 
 -- what is new where the call was done, and what was where it was refused
@@ -80,15 +80,15 @@ newTrail takingBack s t = set t (s .children - 1) free
 newTrail asking s t = t
 
 -- the answer of opening, adding and taking back, and the trail at exit
-abbrev pub step : Call → Session → Trail → Step
-step q s t = record { session = whenDone (outcome q s t) (newSession q s) s; outcome = outcome q s t }
+abbrev pub callStep : Call → Session → Trail → Step
+callStep q s t = record { session = whenDone (outcome q s t) (newSession q s) s; outcome = outcome q s t }
 
 abbrev pub trailAfter : Call → Session → Trail → Trail
 trailAfter q s t = whenDone (outcome q s t) (newTrail q s t) t
 
 -- what the methods promise of the answer r and the trail t′ at exit
 abbrev pub Does : Call → Session → Trail → Step → Trail → Type 0
-Does q s t r t′ = (r ≡ step q s t) × (t′ ≡ trailAfter q s t)
+Does q s t r t′ = (r ≡ callStep q s t) × (t′ ≡ trailAfter q s t)
 
 -- the answer of asking, which hands back no session and writes nothing
 abbrev pub judgedBy : Outcome → Session → Trail → Judged

@@ -116,7 +116,7 @@ impl Session {
             }
             return Outcome::Refused(JudgeFault::BadTrail);
         }
-        Outcome::Refused(JudgeFault::NoModel)
+        Outcome::Refused(JudgeFault::Unreadable)
     }
 
     // Refused with 40. Else a session of the rule with no children, and every place is free.
@@ -128,7 +128,7 @@ impl Session {
             free_all(trail);
             return done(rule, 0);
         }
-        refused(self, JudgeFault::NoModel)
+        refused(self, JudgeFault::Unreadable)
     }
 
     // Refused with 40, 42, 43 or 44. Else the next place holds the name's number.
@@ -143,7 +143,7 @@ impl Session {
             Outcome::Done => {
                 let names = names(rule);
                 if names < number as usize {
-                    return refused(self, JudgeFault::NoName);
+                    return refused(self, JudgeFault::UnknownName);
                 }
                 let most = room_in(trail.len());
                 if most <= children {
@@ -165,7 +165,7 @@ impl Session {
             Outcome::Refused(fault) => refused(self, fault),
             Outcome::Done => {
                 if children == 0 {
-                    return refused(self, JudgeFault::NoChildren);
+                    return refused(self, JudgeFault::NothingToTakeBack);
                 }
                 trail[children - 1] = FREE;
                 done(rule, children - 1)
@@ -187,6 +187,6 @@ impl Session {
         if good {
             return Judged::Refused(JudgeFault::BadTrail);
         }
-        Judged::Refused(JudgeFault::NoModel)
+        Judged::Refused(JudgeFault::Unreadable)
     }
 }

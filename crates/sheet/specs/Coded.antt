@@ -8,9 +8,9 @@ use lib.Dec.{T, eqb}
 use lib.ListN.{length, getD}
 use Rattle.fields.specs.Limits.{maxFile}
 use Rattle.fields.specs.Bytes.{Text}
-use Rattle.judge.specs.declared.text.NamePlace.{NamePlace}
+use Rattle.judge.specs.declared.reading.NamePlace.{NamePlace}
 use Rattle.judge.specs.declared.verdict.ChildrenJudged.{ChildrenJudged}
-use Rattle.judge.specs.declared.verdict.ChildrenJudged.the-variants.{Verdict, NoModel, NoChildren}
+use Rattle.judge.specs.declared.verdict.ChildrenJudged.the-variants.{Verdict, ModelRefused, ChildrenRefused}
 use Rattle.fields.specs.Split.{lines, behind, part}
 use Rattle.fields.specs.Split.Laws.{Stand}
 use Rattle.fields.specs.Children.{allNames}
@@ -23,8 +23,8 @@ use Rattle.sheet.specs.Listing.{wordOf, listingLine, said}
 -- by what `judge_children` answers
 abbrev pub saidFrom : ChildrenJudged → Said
 saidFrom (Verdict v) = wordOf v
-saidFrom (NoModel f) = Dead
-saidFrom (NoChildren f) = Dead
+saidFrom (ModelRefused f) = Dead
+saidFrom (ChildrenRefused f) = Dead
 
 abbrev pub codeOf : Said → ℕ
 codeOf Complete = 0
@@ -41,7 +41,7 @@ listingCoded vs i [] = []
 listingCoded vs i (l ∷ ls) = listingLine l (decoded (getD vs i 0)) ++ listingCoded vs (suc i) ls
 
 -- the place lies in the sheet's text; the cue line is good
-pub record Ready (s : Text) (p : NamePlace) (l : Text) : Type 0 where
+pub record CueReady (s : Text) (p : NamePlace) (l : Text) : Type 0 where
   pub inside : p .start + p .len ≤ length s
   pub fits : Fits l
   pub named : T (allNames (children l))
@@ -54,7 +54,7 @@ pub record GoodCues (c : Text) : Type 0 where
   pub named : (i : ℕ) → i < length (lines c) → T (allNames (children (getD (lines c) i [])))
 
 -- a loop over its lines stands before line n, which begins at `at`
-pub record Before (c : Text) (n at : ℕ) : Type 0 where
+pub record AtLine (c : Text) (n at : ℕ) : Type 0 where
   pub stand : Stand c n at
   pub below : n ≤ at
   pub good : GoodCues c
@@ -66,7 +66,7 @@ pub record Cue (c : Text) (n at end : ℕ) : Type 0 where
   pub line-is : getD (lines c) n [] ≡ part c at end
   pub fits : Fits (part c at end)
   pub named : T (allNames (children (part c at end)))
-  pub next : Before c (n + 1) (end + 1)
+  pub next : AtLine c (n + 1) (end + 1)
 
 abbrev pub Coded : Text → Text → List ℕ → Type 0
 Coded s c codes = (i : ℕ) → i < length (lines c) → getD codes i 0 ≡ codeOf (said (lines s) (getD (lines c) i []))

@@ -9,7 +9,7 @@ use Rattle.model.specs.declared.verdict.Verdict.{Verdict}
 use Rattle.model.specs.declared.verdict.Verdict.the-variants.{Complete as IsComplete, Open as IsOpen, Dead as IsDead}
 use Rattle.fields.specs.Bytes.{Text, bytes}
 use Rattle.fields.specs.Bytes.Numeral.{digits}
-use Rattle.model.specs.Syntax.{names, numberIn}
+use Rattle.model.specs.Syntax.{writtenNames, numberIn}
 use Rattle.model.specs.Fault.{Answer, refused, accepted}
 use Rattle.model.specs.Fault.Answered.{answer}
 use Rattle.model.specs.Model.{modelOf, typeOf}
@@ -52,7 +52,7 @@ wordOf IsDead = Dead
 -- refused model: `Ends.cue-said`)
 abbrev pub saidBy : Answer → List Text → Said
 saidBy (refused f p) cs = Dead
-saidBy (accepted t) cs = wordOf (verdict (typeOf (modelOf t)) (rowOf (names t) cs))
+saidBy (accepted t) cs = wordOf (verdict (typeOf (modelOf t)) (rowOf (writtenNames t) cs))
 
 -- what a model text says of children
 abbrev pub saidOf : Text → List Text → Said

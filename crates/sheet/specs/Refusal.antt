@@ -74,7 +74,7 @@ SheetStands x Repeated n = Line x n × Earlier x n
 -- 10 to 17: the model text of the line is refused so
 SheetStands x (Model f) n = Line x n × ((p : ℕ) × Answers (model (line x n)) (refused f p))
 
--- by number, then the model's own
+-- by numberOf, then the model's own
 abbrev pub sheetRank : SheetFault → ℕ
 sheetRank LongFile = 20
 sheetRank Unended = 21
@@ -89,9 +89,9 @@ abbrev pub SheetAnswers : Text → SheetOutcome → Type 0
 SheetAnswers x Read = NoFault (SheetStands x)
 SheetAnswers x (Refused f n) = First sheetRank (SheetStands x) f n
 
--- the number of a cue line
-abbrev pub number : Text → ℕ
-number l = value (field 1 l)
+-- the numberOf of a cue line
+abbrev pub numberOf : Text → ℕ
+numberOf l = value (field 1 l)
 
 -- what is wrong with a cue list
 abbrev pub CueStands : Text → CueFault → ℕ → Type 0
@@ -99,10 +99,10 @@ CueStands x LongList n = Long x n
 CueStands x UnendedList n = LacksFeed x n
 -- 32: under three fields, or the first is not `cue`
 CueStands x BadCue n = Line x n × ((length (fields (line x n)) < 3) ⊎ ¬ (field 0 (line x n) ≡ bytes "cue"))
--- 33: the number is not 1 to 5 digits, or begins with 0
+-- 33: the numberOf is not 1 to 5 digits, or begins with 0
 CueStands x BadNumber n = Line x n × (isCueNumber (field 1 (line x n)) ≡ false)
--- 34: the number is not above the line before
-CueStands x NotAbove n = Line x n × ((1 < n) × (number (line x n) ≤ number (line x (n - 1))))
+-- 34: the numberOf is not above the line before
+CueStands x NotAbove n = Line x n × ((1 < n) × (numberOf (line x n) ≤ numberOf (line x (n - 1))))
 -- 35: the kind or a child is no name of 1 to 32 characters
 CueStands x NoName n = Line x n × (allNames (field 2 (line x n) ∷ children (line x n)) ≡ false)
 -- 36: over 4,096 children

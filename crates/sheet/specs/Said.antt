@@ -7,7 +7,7 @@ use lib.ListN.{length, getD}
 use Rattle.fields.specs.Bytes.{Text}
 use Rattle.fields.specs.Split.{field}
 use Rattle.model.specs.declared.verdict.Verdict.{Verdict}
-use Rattle.model.specs.Syntax.{Syntax, names}
+use Rattle.model.specs.Syntax.{Syntax, writtenNames}
 use Rattle.model.specs.Fault.{Answers, accepted}
 use Rattle.model.specs.Model.{modelOf, typeOf}
 use Rattle.model.specs.Verdict.{Says}
@@ -23,4 +23,4 @@ pub data CueSaid (ls : List Text) (l : Text) : Said → Type 0 where
   lacking : ((k : ℕ) → k < length ls → ¬ kind (getD ls k []) ≡ field 2 l) → CueSaid ls l NoSheet
   -- line k has its kind, t is the tree that the model there spells, and v is the verdict by its meaning on the row of the children
   by-line : (k : ℕ) → k < length ls → kind (getD ls k []) ≡ field 2 l → (t : Syntax) → Answers (model (getD ls k [])) (accepted t) → (v : Verdict)
-      → Says (typeOf (modelOf t)) (rowOf (names t) (children l)) v → CueSaid ls l (wordOf v)
+      → Says (typeOf (modelOf t)) (rowOf (writtenNames t) (children l)) v → CueSaid ls l (wordOf v)

@@ -10,7 +10,7 @@ use Prim.Native.Nat.{ℕ, suc, _+_, _-_}
 use lib.Dec.{leb, ltb, eqb}
 use lib.ListN.{length, replicate}
 use Rattle.fields.specs.Limits.{maxFile}
-use Rattle.judge.specs.declared.text.NamePlace.{NamePlace}
+use Rattle.judge.specs.declared.reading.NamePlace.{NamePlace}
 use Rattle.fields.specs.Bytes.{Text, bytes, sameText}
 use Rattle.model.specs.Fault.{Answer, refused, accepted, modelNumber}
 use Rattle.model.specs.Fault.Answered.{answer}

@@ -10,7 +10,7 @@ ghost use Rattle.judge.specs.Reading.{partAt, partsOf};
 ghost use Rattle.fields.specs.Split.{lines, field};
 ghost use Rattle.sheet.specs.Cues.{children};
 ghost use Rattle.sheet.specs.Listing.{saidOf, listing, listed, bufferAfter};
-ghost use Rattle.sheet.specs.Coded.{saidFrom, codeOf, decoded, Ready, GoodCues, Coded, listingCoded};
+ghost use Rattle.sheet.specs.Coded.{saidFrom, codeOf, decoded, CueReady, GoodCues, Coded, listingCoded};
 ghost use Rattle.sheet.specs.Sheet.Walk.{Loaded};
 ghost use Rattle.sheet.specs.Put.{Put, Fits};
 use crate::cues::CuesRead;
@@ -27,10 +27,10 @@ use fields::limits::MAX_FILE;
 use fields::split::LINE_FEED;
 use fields::split::first_fields;
 use fields::split::part_end;
-use judge::named::judge_children;
-use judge::text::NamePlace;
-use judge::text::Names;
-use judge::text::number_of;
+use judge::reply::judge_children;
+use judge::reading::NamePlace;
+use judge::reading::Names;
+use judge::reading::number_of;
 use judge::verdict::ChildrenJudged;
 use model::verdict::Verdict;
 
@@ -52,8 +52,8 @@ fn said_from(judged: ChildrenJudged) -> Said
             Verdict::Open => Said::Open,
             Verdict::Dead => Said::Dead,
         },
-        ChildrenJudged::NoModel(_) => Said::Dead,
-        ChildrenJudged::NoChildren(_) => Said::Dead,
+        ChildrenJudged::ModelRefused(_) => Said::Dead,
+        ChildrenJudged::ChildrenRefused(_) => Said::Dead,
     }
 }
 
@@ -86,7 +86,7 @@ fn decode(code: u8) -> Said
 
 // What the model at a place of the sheet's text says of a cue.
 fn say(sheet: &[u8], place: NamePlace, cue: &[u8]) -> Said
-    requires { ⌜ Ready (now sheet) place (now cue) ⌝ }
+    requires { ⌜ CueReady (now sheet) place (now cue) ⌝ }
     ensures { λ r. ⌜ r ≡ saidOf (partAt (now (sheet .entry)) place) (children (now (cue .entry))) ⌝ }
 {
     let start = place.start as usize;
@@ -101,7 +101,7 @@ fn say(sheet: &[u8], place: NamePlace, cue: &[u8]) -> Said
 
 // The same as a byte, by the number of the sheet's line: 0 where the sheet lacks the kind.
 fn code_for(sheet: &[u8], place: NamePlace, cue: &[u8], number: usize) -> u8
-    requires { ⌜ ((number ≡ 0 → ⊥) → Ready (now sheet) place (now cue)) ⌝ }
+    requires { ⌜ ((number ≡ 0 → ⊥) → CueReady (now sheet) place (now cue)) ⌝ }
     ensures { λ r. ⌜ r ≡ cond (eqb number 0) 3 (codeOf (saidOf (partAt (now (sheet .entry)) place) (children (now (cue .entry))))) ⌝ }
 {
     if number == 0 {

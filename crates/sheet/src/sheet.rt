@@ -21,11 +21,11 @@ use fields::split::LINE_FEED;
 use fields::split::first_fields;
 use fields::split::is_ended;
 use fields::split::part_end;
-use judge::text::NamePlace;
-use judge::text::Names;
-use judge::text::Outcome;
-use judge::text::number_of;
-use judge::text::read_model;
+use judge::reading::NamePlace;
+use judge::reading::Names;
+use judge::reading::Outcome;
+use judge::reading::number_of;
+use judge::reading::read_model;
 use model::fault::ModelFault;
 use model::rule::Rule;
 

@@ -13,11 +13,11 @@ use lib.Seq.{drop-cons}
 use borrow.Author.Tests.{leb-true, lt-leb, le-ltb, lt-ltb, ltb-true, ltb-false}
 use Rattle.fields.specs.Tests.{by-test}
 use Rattle.model.specs.declared.fault.ModelFault.{ModelFault}
-use Rattle.judge.specs.declared.text.Names.{Names}
-use Rattle.judge.specs.declared.text.Outcome.the-variants.{Read, Refused as Unread}
-use Rattle.judge.specs.declared.text.Reading.{Reading}
+use Rattle.judge.specs.declared.reading.Names.{Names}
+use Rattle.judge.specs.declared.reading.Outcome.the-variants.{Read, Refused as Unread}
+use Rattle.judge.specs.declared.reading.Reading.{Reading}
 use Rattle.fields.specs.Bytes.{Text}
-use Rattle.model.specs.Syntax.{Syntax, names, numberIn}
+use Rattle.model.specs.Syntax.{Syntax, writtenNames, numberIn}
 use Rattle.model.specs.Fault.{modelNumber, Answer, Answers, refused, accepted}
 use Rattle.model.specs.Fault.Answered.{answer, answered, name-inside}
 use Rattle.model.specs.Fault.Ties.{places}
@@ -30,11 +30,11 @@ use Rattle.fields.specs.declared.fault.CueFault.the-variants.{LongFile, NoName,
 use Rattle.fields.specs.declared.children.Children.{Children}
 use Rattle.fields.specs.declared.children.Children.the-variants.{Count, Refused}
 use Rattle.fields.specs.Split.{tab, split, part, partEnd, more}
-use Rattle.fields.specs.Split.Laws.{joined, joined-split, part-at, end-within}
+use Rattle.fields.specs.Split.Laws.{rejoined, joined-split, part-at, end-within}
 use Rattle.fields.specs.Children.{cueNumber, allNames, childrenOf}
 use Rattle.desk.specs.declared.child.Located.{Located}
-use Rattle.desk.specs.declared.child.Located.the-variants.{InModel, InChildren, NoModel, NoChildren}
-use Rattle.judge.specs.Reply.{childrenIn, child, Reply, noModel, noChildren, good, childrenBy}
+use Rattle.desk.specs.declared.child.Located.the-variants.{InModel, InChildren, ModelRefused, ChildrenRefused}
+use Rattle.judge.specs.Reply.{childrenIn, child, Reply, modelRefused, childrenRefused, good, childrenBy}
 use Rattle.judge.specs.Reply.Children.Laws.{children-some}
 use Rattle.judge.specs.Reply.Judged.{childrenGive}
 use Rattle.desk.specs.Desk.{replyNumber}
@@ -111,12 +111,12 @@ module _ (c : Text) (k : ℕ) where
       go (b ∷ y) l d = let h = there (split tab (b ∷ y)) d in (h .0, h .1, l, λ z. omega arith)
 
 -- A walk over the children stands where child i begins, counted from 0.
-pub record Reached (c : Text) (i at : ℕ) : Type 0 where
+pub record ChildReached (c : Text) (i at : ℕ) : Type 0 where
   pub at-is : at ≡ startIn (split tab c) i
   pub within : at ≤ length c
   pub left : split tab (drop at c) ≡ drop i (split tab c)
 
-pub reached-first : (c : Text) → Reached c 0 0
+pub reached-first : (c : Text) → ChildReached c 0 0
 reached-first c = record { at-is = go (split tab c); within = omega arith; left = refl }
   where
     go : (l : List Text) → 0 ≡ startIn l 0
@@ -132,7 +132,7 @@ start-next (p ∷ l) zero h = go l
     go (q ∷ l) = omega arith
 start-next (p ∷ l) (suc i) h = omega (arith, start-next l i (omega arith))
 
-module _ (c : Text) (i at : ℕ) (r : Reached c i at) (h : i < length (split tab c)) where
+module _ (c : Text) (i at : ℕ) (r : ChildReached c i at) (h : i < length (split tab c)) where
   here-is : (part c at (partEnd c tab at) ≡ getD (split tab c) i []) × (more c tab (partEnd c tab at) ≡ drop (suc i) (split tab c))
   here-is =
       let g : part c at (partEnd c tab at) ∷ more c tab (partEnd c tab at) ≡ getD (split tab c) i [] ∷ drop (suc i) (split tab c) = sym (part-at c tab at (r .within)) ∙ r .left ∙ drop-cons (split tab c) i [] h in
@@ -149,7 +149,7 @@ module _ (c : Text) (i at : ℕ) (r : Reached c i at) (h : i < length (split tab
       let b = reached-bounds e k in
       sym (ap length (sym (reached-name e k)) ∙ length-take (e - at) (drop at c) ∙ omega (arith, length-drop at c, b .0, b .1))
 
-  pub reached-next : suc i < length (split tab c) → (e : ℕ) → e ≡ partEnd c tab at → Reached c (i + 1) (e + 1)
+  pub reached-next : suc i < length (split tab c) → (e : ℕ) → e ≡ partEnd c tab at → ChildReached c (i + 1) (e + 1)
   reached-next l e k =
       let b = reached-bounds e k in
       let m = here-is .1 in
@@ -176,13 +176,13 @@ located-some ns (suc n) at len o = let z : suc n - 1 ≡ n = omega arith in rw z
 
 abbrev locatedBy : Text → Names → Text → ℕ → Children → Located
 locatedBy m ns c k (Count n) = locatedIn ns (numberIn (partsOf m ns) (childName c k)) (startIn (childrenIn c) (k - 1)) (length (childName c k))
-locatedBy m ns c k (Refused f) = NoChildren f
+locatedBy m ns c k (Refused f) = ChildrenRefused f
 
 unfoldable pub locatedRead : Text → Names → Text → ℕ → Located
 locatedRead m ns c k = locatedBy m ns c k (askedOf c k)
 
 module _ (m : Text) (ns : Names) (c : Text) (k : ℕ) where
-  pub read-missing : (f : CueFault) → askedOf c k ≡ Refused f → NoChildren f ≡ locatedRead m ns c k
+  pub read-missing : (f : CueFault) → askedOf c k ≡ Refused f → ChildrenRefused f ≡ locatedRead m ns c k
   unfolding locatedRead
   read-missing f e = rw e
 
@@ -199,7 +199,7 @@ module _ (m c : Text) (k : ℕ) where
   unfolding locatedRead found
   located-is t h e = rw (e, kids-asked c k (partIn m c k t)) (go (askedOf c k))
     where
-      by-number : (n : ℕ) → numberIn (names t) (childName c k) ≡ n
+      by-number : (n : ℕ) → numberIn (writtenNames t) (childName c k) ≡ n
           → locatedIn (namesOf m) n (startIn (childrenIn c) (k - 1)) (length (childName c k)) ≡ located (good (partBy m c k n))
       by-number zero d = refl
       by-number (suc n) d =
@@ -208,7 +208,7 @@ module _ (m c : Text) (k : ℕ) where
           rw (p, f .2)
 
       go : (x : Children) → locatedBy m (namesOf m) c k x ≡ located (childrenGive x (partIn m c k t))
-      go (Count n) = rw (names-are m t h) (by-number (numberIn (names t) (childName c k)) refl)
+      go (Count n) = rw (names-are m t h) (by-number (numberIn (writtenNames t) (childName c k)) refl)
       go (Refused f) = refl
 
   module _ (x : Reading) (e : x ≡ reading m) where
@@ -219,21 +219,21 @@ module _ (m c : Text) (k : ℕ) where
         go (refused f p) d i o = let z : _≡_ {A = ℕ} 0 1 = cc in absurd (omega arith)
         go (accepted t) d i o = i ∙ located-is t (rw d at (answered m)) d
 
-    pub located-unread : (f : ModelFault) (p : ℕ) → x .outcome ≡ Unread f p → NoModel f ≡ located (found m c k)
+    pub located-unread : (f : ModelFault) (p : ℕ) → x .outcome ≡ Unread f p → ModelRefused f ≡ located (found m c k)
     unfolding found
     located-unread = rw e (go (answer m) refl)
       where
-        go : (a : Answer) → answer m ≡ a → (f : ModelFault) (p : ℕ) → readingBy m a .outcome ≡ Unread f p → NoModel f ≡ located (found m c k)
+        go : (a : Answer) → answer m ≡ a → (f : ModelFault) (p : ℕ) → readingBy m a .outcome ≡ Unread f p → ModelRefused f ≡ located (found m c k)
         go (refused g q) d f p o = let z : f ≡ g = cc in rw (d, z)
         go (accepted t) d f p o = let z : _≡_ {A = ℕ} 0 1 = cc in absurd (omega arith)
 
 -- a child lies inside the children text
-start-within : (l : List Text) (i : ℕ) → i < length l → startIn l i + length (getD l i []) ≤ length (joined tab l)
+start-within : (l : List Text) (i : ℕ) → i < length l → startIn l i + length (getD l i []) ≤ length (rejoined tab l)
 start-within [] i h = absurd (omega arith)
 start-within (p ∷ []) zero h = omega arith
 start-within (p ∷ []) (suc i) h = absurd (omega arith)
-start-within (p ∷ q ∷ l) zero h = omega (arith, length-append p (tab ∷ joined tab (q ∷ l)))
-start-within (p ∷ q ∷ l) (suc i) h = omega (arith, length-append p (tab ∷ joined tab (q ∷ l)), start-within (q ∷ l) i (omega arith))
+start-within (p ∷ q ∷ l) zero h = omega (arith, length-append p (tab ∷ rejoined tab (q ∷ l)))
+start-within (p ∷ q ∷ l) (suc i) h = omega (arith, length-append p (tab ∷ rejoined tab (q ∷ l)), start-within (q ∷ l) i (omega arith))
 
 child-within : (c : Text) (i : ℕ) → i < length (childrenIn c) → startIn (childrenIn c) i + length (getD (childrenIn c) i []) ≤ length c
 child-within [] i h = absurd (omega arith)
@@ -243,20 +243,20 @@ child-within (b ∷ c) i h = omega (arith, start-within (split tab (b ∷ c)) i 
 abbrev partAs : Located → Part
 partAs (InModel s n) = ofModel s n
 partAs (InChildren s n) = ofChildren s n
-partAs (NoModel f) = ofChildren 0 0
-partAs (NoChildren f) = ofChildren 0 0
+partAs (ModelRefused f) = ofChildren 0 0
+partAs (ChildrenRefused f) = ofChildren 0 0
 
 abbrev numberAs : Located → ℕ
 numberAs (InModel s n) = 0
 numberAs (InChildren s n) = 0
-numberAs (NoModel f) = modelNumber f
-numberAs (NoChildren f) = cueNumber f
+numberAs (ModelRefused f) = modelNumber f
+numberAs (ChildrenRefused f) = cueNumber f
 
 abbrev Inside : Text → Text → Located → Type 0
 Inside m c (InModel s n) = s + n ≤ length m
 Inside m c (InChildren s n) = s + n ≤ length c
-Inside m c (NoModel f) = Unit {0}
-Inside m c (NoChildren f) = Unit {0}
+Inside m c (ModelRefused f) = Unit {0}
+Inside m c (ChildrenRefused f) = Unit {0}
 
 module _ (m c : Text) (k : ℕ) (x y : Located) (e : x ≡ located (found m c k)) (d : x ≡ y) where
   is : located (found m c k) ≡ y
@@ -266,8 +266,8 @@ module _ (m c : Text) (k : ℕ) (x y : Located) (e : x ≡ located (found m c k)
   part-is = go (found m c k) ∙ ap partAs is
     where
       go : (r : Reply Part) → partOf r ≡ partAs (located r)
-      go (noModel f) = refl
-      go (noChildren f) = refl
+      go (modelRefused f) = refl
+      go (childrenRefused f) = refl
       go (good (ofModel p n)) = refl
       go (good (ofChildren p n)) = refl
 
@@ -275,8 +275,8 @@ module _ (m c : Text) (k : ℕ) (x y : Located) (e : x ≡ located (found m c k)
   refusal-is = sym (go (found m c k) ∙ ap numberAs is)
     where
       go : (r : Reply Part) → replyNumber (λ p. 0) r ≡ numberAs (located r)
-      go (noModel f) = refl
-      go (noChildren f) = refl
+      go (modelRefused f) = refl
+      go (childrenRefused f) = refl
       go (good (ofModel p n)) = refl
       go (good (ofChildren p n)) = refl
 
@@ -284,8 +284,8 @@ module _ (m c : Text) (k : ℕ) (x y : Located) (e : x ≡ located (found m c k)
   inside = subst (Inside m c) is (go (found m c k) (finds-exactly m c k (found m c k) .0 refl))
     where
       go : (r : Reply Part) → Finds m c k r → Inside m c (located r)
-      go (noModel f) h = tt
-      go (noChildren f) h = tt
+      go (modelRefused f) h = tt
+      go (childrenRefused f) h = tt
       go (good (ofModel p n)) (t, a, b, q) = omega (arith, name-fits m p (omega (arith, name-inside m p (q .0))), q .2, ap length (q .1))
       go (good (ofChildren p n)) (t, a, b, q) =
           let l : k - 1 < length (childrenIn c) = by-cases (decLt (k - 1) (length (childrenIn c))) (λ o. o) (λ o. absurd (b NoChild (by-cases (decLt 0 k) (λ u. inr (omega arith)) (λ u. inl (omega arith))))) in

@@ -9,32 +9,32 @@ use lib.Dec.{T}
 use lib.ListN.{length, getD}
 use Rattle.model.specs.declared.fault.ModelFault.the-variants.{Repeated}
 use Rattle.fields.specs.Bytes.{Text}
-use Rattle.model.specs.Syntax.{Syntax, text, names, numberIn}
+use Rattle.model.specs.Syntax.{Syntax, text, writtenNames, numberIn}
 use Rattle.model.specs.Fault.{nameAt, nameFrom, tally, Answers, accepted}
 use Rattle.model.specs.Fault.Ties.{places}
 use Rattle.model.specs.Accept.Starts.{name-at}
 use Rattle.judge.specs.Reply.{child, Reply}
 use Rattle.judge.specs.Reply.Laws.{replies-exactly}
-use Rattle.model.specs.Syntax.Number.{number-found, number-none}
+use Rattle.model.specs.Syntax.Number.{from-found, from-none}
 use Rattle.desk.specs.Child.Names.{begins-at, name-is}
-use Rattle.desk.specs.Child.{Part, ofModel, ofChildren, childName, Stands, Finds, partBy, partIn, found}
+use Rattle.desk.specs.Child.{Part, ofModel, ofChildren, childName, PartStands, Finds, partBy, partIn, found}
 
 -- the function and what it means agree
 module _ (m c : Text) (k : ℕ) (t : Syntax) (h : Answers m (accepted t)) where
-  pub name-here : (n : ℕ) → numberIn (names t) (childName c k) ≡ suc n
-      → (n < length (names t)) × T (nameAt m (getD (places m (length m)) n 0)) × (nameFrom m (getD (places m (length m)) n 0) ≡ childName c k)
+  pub name-here : (n : ℕ) → numberIn (writtenNames t) (childName c k) ≡ suc n
+      → (n < length (writtenNames t)) × T (nameAt m (getD (places m (length m)) n 0)) × (nameFrom m (getD (places m (length m)) n 0) ≡ childName c k)
   name-here n e =
-      let f = number-found 0 (names t) (childName c k) n e in
-      let l : n < length (names t) = omega (arith, f .1) in
+      let f = from-found 0 (writtenNames t) (childName c k) n e in
+      let l : n < length (writtenNames t) = omega (arith, f .1) in
       let z : n - 0 ≡ n = omega arith in
-      (l, begins-at m t h n l, name-is m t h n l ∙ ap (λ j. getD (names t) j []) (sym z) ∙ f .2)
+      (l, begins-at m t h n l, name-is m t h n l ∙ ap (λ j. getD (writtenNames t) j []) (sym z) ∙ f .2)
 
-  stands-by : (n : ℕ) → numberIn (names t) (childName c k) ≡ n → Stands m c k t (partBy m c k n)
+  stands-by : (n : ℕ) → numberIn (writtenNames t) (childName c k) ≡ n → PartStands m c k t (partBy m c k n)
   stands-by zero e = (e, refl, refl)
   stands-by (suc n) e = let f = name-here n e in (f .1, f .2, refl)
 
   -- no name stands at two places
-  only-place : (p n : ℕ) → T (nameAt m p) → nameFrom m p ≡ childName c k → numberIn (names t) (childName c k) ≡ suc n → getD (places m (length m)) n 0 ≡ p
+  only-place : (p n : ℕ) → T (nameAt m p) → nameFrom m p ≡ childName c k → numberIn (writtenNames t) (childName c k) ≡ suc n → getD (places m (length m)) n 0 ≡ p
   only-place p n a e d =
       let f = name-here n d in
       let q = getD (places m (length m)) n 0 in
@@ -44,15 +44,15 @@ module _ (m c : Text) (k : ℕ) (t : Syntax) (h : Answers m (accepted t)) where
       (λ o. absurd (h .0 Repeated q (record { here = f .1; first = p; earlier = o; there = a; same = e ∙ sym (f .2) })))
       (λ o. omega arith))
 
-  is-there : (p : ℕ) → T (nameAt m p) → nameFrom m p ≡ childName c k → numberIn (names t) (childName c k) ≡ 0 → ⊥
+  is-there : (p : ℕ) → T (nameAt m p) → nameFrom m p ≡ childName c k → numberIn (writtenNames t) (childName c k) ≡ 0 → ⊥
   is-there p a e z =
       let f = name-at t (h .1 .formed) p (subst (λ y. T (nameAt y p)) (sym (h .1 .spelt)) a) in
-      number-none 0 (names t) (childName c k) (tally (nameAt (text t)) p) z (f .0) (f .1 ∙ ap (λ y. nameFrom y p) (h .1 .spelt) ∙ e)
+      from-none 0 (writtenNames t) (childName c k) (tally (nameAt (text t)) p) z (f .0) (f .1 ∙ ap (λ y. nameFrom y p) (h .1 .spelt) ∙ e)
 
-  agrees : (v : Part) → (partIn m c k t ≡ v) ↔ Stands m c k t v
-  agrees v = (λ e. subst (Stands m c k t) e (stands-by (numberIn (names t) (childName c k)) refl), λ s. back v s (numberIn (names t) (childName c k)) refl)
+  agrees : (v : Part) → (partIn m c k t ≡ v) ↔ PartStands m c k t v
+  agrees v = (λ e. subst (PartStands m c k t) e (stands-by (numberIn (writtenNames t) (childName c k)) refl), λ s. back v s (numberIn (writtenNames t) (childName c k)) refl)
     where
-      back : (v : Part) → Stands m c k t v → (n : ℕ) → numberIn (names t) (childName c k) ≡ n → partBy m c k n ≡ v
+      back : (v : Part) → PartStands m c k t v → (n : ℕ) → numberIn (writtenNames t) (childName c k) ≡ n → partBy m c k n ≡ v
       back (ofModel p l) s zero e = absurd (is-there p (s .0) (s .1) e)
       back (ofModel p l) s (suc n) e = rw (only-place p n (s .0) (s .1) e, s .2)
       back (ofChildren p l) s zero e = rw (s .1, s .2)
@@ -60,4 +60,4 @@ module _ (m c : Text) (k : ℕ) (t : Syntax) (h : Answers m (accepted t)) where
 
 pub finds-exactly : (m c : Text) (k : ℕ) (r : Reply Part) → (found m c k ≡ r) ↔ Finds m c k r
 unfolding found
-finds-exactly m c k = replies-exactly (child k) (partIn m c k) (Stands m c k) m c (λ t h g v. agrees m c k t h v)
+finds-exactly m c k = replies-exactly (child k) (partIn m c k) (PartStands m c k) m c (λ t h g v. agrees m c k t h v)

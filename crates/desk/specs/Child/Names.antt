@@ -1,4 +1,4 @@
--- The names of a model stand at the places where names begin in its text.
+-- The writtenNames of a model stand at the places where writtenNames begin in its text.
 use mathlib.Core.Path.{_≡_, sym, ap, _∙_}
 use mathlib.Core.List.{[], map}
 use Prim.Native.Nat.{ℕ, _<_}
@@ -6,7 +6,7 @@ use native.Mathlib.Omega.{arith}
 use lib.Dec.{T}
 use lib.ListN.{length, getD, length-map, List·getD-append}
 use Rattle.fields.specs.Bytes.{Text}
-use Rattle.model.specs.Syntax.{Syntax, names}
+use Rattle.model.specs.Syntax.{Syntax, writtenNames}
 use Rattle.model.specs.Fault.{nameAt, nameFrom, Answers, accepted}
 use Rattle.model.specs.Fault.Ties.{places, in-places}
 use Rattle.judge.specs.Reading.{namePlace, noPlace, namesOf}
@@ -19,15 +19,15 @@ place-in x i h =
     ∙ mapped-at (namePlace x) (places x (length x)) i 0 noPlace h
 
 module _ (x : Text) (t : Syntax) (a : Answers x (accepted t)) where
-  names-placed : map (nameFrom x) (places x (length x)) ≡ names t
+  names-placed : map (nameFrom x) (places x (length x)) ≡ writtenNames t
   names-placed = sym (parts-begin x) ∙ names-are x t a
 
-  pub names-many : length (places x (length x)) ≡ length (names t)
+  pub names-many : length (places x (length x)) ≡ length (writtenNames t)
   names-many = sym (length-map (places x (length x)) (nameFrom x)) ∙ ap length names-placed
 
-  module _ (k : ℕ) (h : k < length (names t)) where
+  module _ (k : ℕ) (h : k < length (writtenNames t)) where
     pub begins-at : T (nameAt x (getD (places x (length x)) k 0))
     begins-at = in-places x (length x) (getD (places x (length x)) k 0) (in-list (places x (length x)) k 0 (omega (arith, names-many))) .1
 
-    pub name-is : nameFrom x (getD (places x (length x)) k 0) ≡ getD (names t) k []
+    pub name-is : nameFrom x (getD (places x (length x)) k 0) ≡ getD (writtenNames t) k []
     name-is = sym (mapped-at (nameFrom x) (places x (length x)) k 0 [] (omega (arith, names-many))) ∙ ap (λ l. getD l k []) names-placed

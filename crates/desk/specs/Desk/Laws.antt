@@ -8,27 +8,19 @@ use Rattle.fields.specs.declared.fault.CueFault.the-variants.{LongFile, Unended
 use Rattle.fields.specs.Bytes.{Text}
 use Rattle.fields.specs.Children.{cueNumber}
 use Rattle.model.specs.declared.fault.ModelFault.{ModelFault}
-use Rattle.model.specs.declared.fault.ModelFault.the-variants.{Size, Spelling, LongName, WrongCount, TooDeep, ManyAtoms, ManyNodes, Repeated}
 use Rattle.model.specs.declared.verdict.Verdict.{Verdict}
 use Rattle.model.specs.declared.verdict.Verdict.the-variants.{Complete, Open, Dead}
 use Rattle.model.specs.Fault.{modelNumber}
-use Rattle.model.specs.Fault.Answered.{number-injective}
+use Rattle.model.specs.Fault.Answered.{number-injective, number-over, number-under}
 use Rattle.judge.specs.declared.verdict.ChildrenJudged.{ChildrenJudged}
-use Rattle.judge.specs.declared.verdict.ChildrenJudged.the-variants.{Verdict as Said, NoModel, NoChildren}
-use Rattle.judge.specs.Reply.{Reply, noModel, noChildren, good, ChildrenJudges, childrenReply, judgedOf}
+use Rattle.judge.specs.declared.verdict.ChildrenJudged.the-variants.{Verdict as Said, ModelRefused, ChildrenRefused}
+use Rattle.judge.specs.Reply.{Reply, modelRefused, childrenRefused, good, ChildrenJudges, childrenReply, judgedOf}
 use Rattle.judge.specs.Reply.Laws.{cue-injective, judges-exactly}
 use Rattle.desk.specs.Desk.{replyNumber, verdictNumber, deskAnswer}
 
 -- those of the model text are below 18, those of the children text from 30 on, verdicts below 3
 model-under : (f : ModelFault) → (10 ≤ modelNumber f) × (modelNumber f < 18)
-model-under Size = (omega arith, omega arith)
-model-under Spelling = (omega arith, omega arith)
-model-under LongName = (omega arith, omega arith)
-model-under WrongCount = (omega arith, omega arith)
-model-under TooDeep = (omega arith, omega arith)
-model-under ManyAtoms = (omega arith, omega arith)
-model-under ManyNodes = (omega arith, omega arith)
-model-under Repeated = (omega arith, omega arith)
+model-under f = (number-over f, number-under f)
 
 cue-over : (f : CueFault) → 30 ≤ cueNumber f
 cue-over LongFile = omega arith
@@ -57,14 +49,14 @@ verdict-injective Dead Open e = absurd (omega arith)
 verdict-injective Dead Dead e = refl
 
 reply-injective : (r s : Reply Verdict) → replyNumber verdictNumber r ≡ replyNumber verdictNumber s → r ≡ s
-reply-injective (noModel f) (noModel g) e = let d : f ≡ g = number-injective f g e in cc
-reply-injective (noModel f) (noChildren g) e = absurd (omega (arith, model-under f, cue-over g))
-reply-injective (noModel f) (good v) e = absurd (omega (arith, model-under f, verdict-under v))
-reply-injective (noChildren f) (noModel g) e = absurd (omega (arith, cue-over f, model-under g))
-reply-injective (noChildren f) (noChildren g) e = let d : f ≡ g = cue-injective f g e in cc
-reply-injective (noChildren f) (good v) e = absurd (omega (arith, cue-over f, verdict-under v))
-reply-injective (good u) (noModel g) e = absurd (omega (arith, verdict-under u, model-under g))
-reply-injective (good u) (noChildren g) e = absurd (omega (arith, verdict-under u, cue-over g))
+reply-injective (modelRefused f) (modelRefused g) e = let d : f ≡ g = number-injective f g e in cc
+reply-injective (modelRefused f) (childrenRefused g) e = absurd (omega (arith, model-under f, cue-over g))
+reply-injective (modelRefused f) (good v) e = absurd (omega (arith, model-under f, verdict-under v))
+reply-injective (childrenRefused f) (modelRefused g) e = absurd (omega (arith, cue-over f, model-under g))
+reply-injective (childrenRefused f) (childrenRefused g) e = let d : f ≡ g = cue-injective f g e in cc
+reply-injective (childrenRefused f) (good v) e = absurd (omega (arith, cue-over f, verdict-under v))
+reply-injective (good u) (modelRefused g) e = absurd (omega (arith, verdict-under u, model-under g))
+reply-injective (good u) (childrenRefused g) e = absurd (omega (arith, verdict-under u, cue-over g))
 reply-injective (good u) (good v) e = let d : u ≡ v = verdict-injective u v e in cc
 
 pub answer-exactly : (m c : Text) (r : Reply Verdict) → (deskAnswer m c ≡ replyNumber verdictNumber r) ↔ ChildrenJudges m c r
@@ -76,13 +68,13 @@ answer-exactly m c r = (
 -- as the code takes it from the judge
 abbrev judgedNumber : ChildrenJudged → ℕ
 judgedNumber (Said v) = verdictNumber v
-judgedNumber (NoModel f) = modelNumber f
-judgedNumber (NoChildren f) = cueNumber f
+judgedNumber (ModelRefused f) = modelNumber f
+judgedNumber (ChildrenRefused f) = cueNumber f
 
 pub judged-number : (m c : Text) (x y : ChildrenJudged) → x ≡ judgedOf (childrenReply m c) → x ≡ y → judgedNumber y ≡ deskAnswer m c
 judged-number m c x y e d = sym (ap judgedNumber d) ∙ ap judgedNumber e ∙ go (childrenReply m c)
   where
     go : (r : Reply Verdict) → judgedNumber (judgedOf r) ≡ replyNumber verdictNumber r
-    go (noModel f) = refl
-    go (noChildren f) = refl
+    go (modelRefused f) = refl
+    go (childrenRefused f) = refl
     go (good v) = refl

@@ -9,7 +9,7 @@ use Rattle.model.specs.Word.{Word}
 use Rattle.model.specs.Verdict.Laws.{says-once}
 use Rattle.model.specs.Rule.{names}
 use Rattle.model.specs.Rule.Laws.{means-once}
-use Rattle.sessions.specs.Book.{Call, takingBack, Reply, says, nothing, Book, book, Enters, no-model, opens, no-name, no-room, adds, no-children, takes, judges, Keeps, done, next}
+use Rattle.sessions.specs.Book.{Call, takingBack, CallReply, says, nothing, Book, book, Enters, no-model, opens, no-name, no-room, adds, no-children, takes, judges, Keeps, done, next}
 
 -- no word that ends in x is empty
 pub ends-not-empty : (w : Word) (x : ℕ) → ¬ w ++ (x ∷ []) ≡ []
@@ -26,7 +26,7 @@ before-last (a ∷ v) (b ∷ w) x y e =
     let i = before-last v w x y t in cc
 
 module _ {n : ℕ} where
-  enters-same : {b b′ c d : Book} {q : Call} {a a′ : Reply} → b ≡ b′ → Enters n b q a c → Enters n b′ q a′ d → (a ≡ a′) × (c ≡ d)
+  enters-same : {b b′ c d : Book} {q : Call} {a a′ : CallReply} → b ≡ b′ → Enters n b q a c → Enters n b′ q a′ d → (a ≡ a′) × (c ≡ d)
   enters-same e (no-model h) (no-model k) = (refl, e)
   enters-same e (no-model h) (opens k) = absurd (h k)
   enters-same e (opens h) (no-model k) = absurd (k h)
@@ -54,10 +54,10 @@ module _ {n : ℕ} where
   pub takes-last : {r : Rule} (u w : Word) (x : ℕ) → u ≡ w ++ (x ∷ []) → Enters n (book r u) takingBack nothing (book r w)
   takes-last u w x e = rw e (takes x)
 
-  pub enters-once : {b c d : Book} {q : Call} {a a′ : Reply} → Enters n b q a c → Enters n b q a′ d → (a ≡ a′) × (c ≡ d)
+  pub enters-once : {b c d : Book} {q : Call} {a a′ : CallReply} → Enters n b q a c → Enters n b q a′ d → (a ≡ a′) × (c ≡ d)
   enters-once h k = enters-same refl h k
 
-  pub keeps-once : {b c d : Book} {qs : List Call} {rs rs′ : List Reply} → Keeps n b qs rs c → Keeps n b qs rs′ d → (rs ≡ rs′) × (c ≡ d)
+  pub keeps-once : {b c d : Book} {qs : List Call} {rs rs′ : List CallReply} → Keeps n b qs rs c → Keeps n b qs rs′ d → (rs ≡ rs′) × (c ≡ d)
   keeps-once done done = (refl, refl)
   keeps-once (next h hs) (next k ks) =
       let e = enters-once h k in

@@ -8,7 +8,7 @@ use lib.Dec.{leb, ltb, eqb}
 use lib.ListN.{length, take}
 use borrow.Author.Tests.{leb-true, leb-false, ltb-true, ltb-false}
 use Rattle.judge.specs.declared.fault.JudgeFault.{JudgeFault}
-use Rattle.judge.specs.declared.fault.JudgeFault.the-variants.{NoModel, LongRow, BadTrail, NoName, NoRoom, NoChildren}
+use Rattle.judge.specs.declared.fault.JudgeFault.the-variants.{Unreadable, LongRow, BadTrail, UnknownName, NoRoom, NothingToTakeBack}
 use Rattle.model.specs.declared.rule.Rule.{Rule}
 use Rattle.sessions.specs.declared.session.Outcome.{Outcome}
 use Rattle.sessions.specs.declared.session.Outcome.the-variants.{Done, Refused}
@@ -20,11 +20,11 @@ use Rattle.model.specs.Rule.Laws.{means-once}
 use Rattle.fields.specs.Tests.{by-test, untold}
 use Rattle.model.specs.Rule.{Readable, names}
 use Rattle.model.specs.Rule.Decide.{readable, readable-is, ruleType, type-means, means-conflict-free}
-use Rattle.judge.specs.Judge.{judgeNumber}
+use Rattle.judge.specs.Row.{judgeNumber}
 use Rattle.sessions.specs.Book.{Call, opening, adding, takingBack, asking, room}
 use Rattle.sessions.specs.Session.{Trail, intact, _then_, checked, outcome, judgedBy, asked}
 use Rattle.sessions.specs.Session.Laws.{intact-tells, checked-done}
-use Rattle.sessions.specs.Refusal.{Intact, Later, Fault, no-rule, no-model, bad-trail, no-name, no-room, no-children, Tried, Asks}
+use Rattle.sessions.specs.Refusal.{Intact, Later, CallStands, no-rule, no-model, bad-trail, no-name, no-room, no-children, Tried, Asks}
 
 then-no-more : (o : Outcome) → (o then Done) ≡ o
 then-no-more Done = refl
@@ -33,16 +33,16 @@ then-no-more (Refused f) = refl
 -- the fault of a number
 numbered : ℕ → JudgeFault
 numbered n =
-    cond (eqb n 40) NoModel (cond (eqb n 41) LongRow (cond (eqb n 42) BadTrail (cond (eqb n 43) NoName (cond (eqb n 44) NoRoom NoChildren))))
+    cond (eqb n 40) Unreadable (cond (eqb n 41) LongRow (cond (eqb n 42) BadTrail (cond (eqb n 43) UnknownName (cond (eqb n 44) NoRoom NothingToTakeBack))))
 
 numbered-is : (f : JudgeFault) → numbered (judgeNumber f) ≡ f
 unfolding numbered
-numbered-is NoModel = refl
+numbered-is Unreadable = refl
 numbered-is LongRow = refl
 numbered-is BadTrail = refl
-numbered-is NoName = refl
+numbered-is UnknownName = refl
 numbered-is NoRoom = refl
-numbered-is NoChildren = refl
+numbered-is NothingToTakeBack = refl
 
 module _ (s : Session) (t : Trail) where
   pub tried-once : (q : Call) (o p : Outcome) → Tried s t q o → Tried s t q p → o ≡ p
@@ -55,7 +55,7 @@ module _ (s : Session) (t : Trail) where
       let e : judgeNumber f ≡ judgeNumber g = omega arith in
       ap Refused (sym (numbered-is f) ∙ ap numbered e ∙ numbered-is g)
 
-  above-model : {q : Call} (g : JudgeFault) → Fault s t q g → 40 ≤ judgeNumber g
+  above-model : {q : Call} (g : JudgeFault) → CallStands s t q g → 40 ≤ judgeNumber g
   above-model g (no-rule h) = omega arith
   above-model g (no-model l h) = omega arith
   above-model g (bad-trail l h) = omega arith
@@ -63,13 +63,13 @@ module _ (s : Session) (t : Trail) where
   above-model g (no-room h) = omega arith
   above-model g (no-children h) = omega arith
 
-  openable : (r : Rule) → Readable r → (g : JudgeFault) → ¬ Fault s t (opening r) g
+  openable : (r : Rule) → Readable r → (g : JudgeFault) → ¬ CallStands s t (opening r) g
   openable r k g (no-rule h) = h k
   openable r k g (no-model l h) = l
   openable r k g (bad-trail l h) = l
 
   module _ (r : Readable (s .rule)) where
-    above-trail : {q : Call} → Later q → (g : JudgeFault) → Fault s t q g → 42 ≤ judgeNumber g
+    above-trail : {q : Call} → Later q → (g : JudgeFault) → CallStands s t q g → 42 ≤ judgeNumber g
     above-trail l g (no-rule h) = absurd l
     above-trail l g (no-model m h) = absurd (h r)
     above-trail l g (bad-trail m h) = omega arith
@@ -78,35 +78,35 @@ module _ (s : Session) (t : Trail) where
     above-trail l g (no-children h) = omega arith
 
     module _ (i : Intact (s .children) (names (s .rule)) t) where
-      above-name : (x : ℕ) (g : JudgeFault) → Fault s t (adding x) g → 43 ≤ judgeNumber g
+      above-name : (x : ℕ) (g : JudgeFault) → CallStands s t (adding x) g → 43 ≤ judgeNumber g
       above-name x g (no-model l h) = absurd (h r)
       above-name x g (bad-trail l h) = absurd (h i)
       above-name x g (no-name h) = omega arith
       above-name x g (no-room h) = omega arith
 
-      above-room : (x : ℕ) → x ≤ names (s .rule) → (g : JudgeFault) → Fault s t (adding x) g → 44 ≤ judgeNumber g
+      above-room : (x : ℕ) → x ≤ names (s .rule) → (g : JudgeFault) → CallStands s t (adding x) g → 44 ≤ judgeNumber g
       above-room x n g (no-model l h) = absurd (h r)
       above-room x n g (bad-trail l h) = absurd (h i)
       above-room x n g (no-name h) = absurd (omega arith)
       above-room x n g (no-room h) = omega arith
 
-      addable : (x : ℕ) → x ≤ names (s .rule) → s .children < room (length t) → (g : JudgeFault) → ¬ Fault s t (adding x) g
+      addable : (x : ℕ) → x ≤ names (s .rule) → s .children < room (length t) → (g : JudgeFault) → ¬ CallStands s t (adding x) g
       addable x n m g (no-model l h) = absurd (h r)
       addable x n m g (bad-trail l h) = absurd (h i)
       addable x n m g (no-name h) = absurd (omega arith)
       addable x n m g (no-room h) = absurd (omega arith)
 
-      above-children : (g : JudgeFault) → Fault s t takingBack g → 45 ≤ judgeNumber g
+      above-children : (g : JudgeFault) → CallStands s t takingBack g → 45 ≤ judgeNumber g
       above-children g (no-model l h) = absurd (h r)
       above-children g (bad-trail l h) = absurd (h i)
       above-children g (no-children h) = omega arith
 
-      takeable : 0 < s .children → (g : JudgeFault) → ¬ Fault s t takingBack g
+      takeable : 0 < s .children → (g : JudgeFault) → ¬ CallStands s t takingBack g
       takeable n g (no-model l h) = absurd (h r)
       takeable n g (bad-trail l h) = absurd (h i)
       takeable n g (no-children h) = absurd (omega arith)
 
-      askable : (g : JudgeFault) → ¬ Fault s t asking g
+      askable : (g : JudgeFault) → ¬ CallStands s t asking g
       askable g (no-model l h) = absurd (h r)
       askable g (bad-trail l h) = absurd (h i)
 

@@ -10,7 +10,7 @@ use lib.Dec.{leb, ltb}
 use lib.ListN.{length, set, replicate, length-append, length-replicate}
 use lib.Seq.{take-at, drop-at, set-at}
 use borrow.Author.Tests.{leb-true, leb-false, ltb-true, ltb-false}
-use Rattle.judge.specs.declared.fault.JudgeFault.the-variants.{NoModel}
+use Rattle.judge.specs.declared.fault.JudgeFault.the-variants.{Unreadable}
 use Rattle.model.specs.declared.rule.Rule.{Rule}
 use Rattle.sessions.specs.declared.session.Outcome.the-variants.{Done}
 use Rattle.fields.specs.Tests.{by-test, untold}
@@ -18,7 +18,7 @@ use Rattle.model.specs.Word.{Word}
 use Rattle.model.specs.Verdict.Laws.{verdict-says}
 use Rattle.model.specs.Rule.{Readable, names}
 use Rattle.model.specs.Rule.Decide.{readable, readable-is, ruleType, type-means, means-conflict-free}
-use Rattle.judge.specs.Judge.{Upto}
+use Rattle.judge.specs.Row.{Upto}
 use Rattle.sessions.specs.Book.{Call, opening, adding, takingBack, asking, nothing, refuses, Book, book, room, Enters, no-model, opens, no-name, no-room, adds, no-children, judges}
 use Rattle.sessions.specs.Book.Laws.{takes-last}
 use Rattle.sessions.specs.Session.{free, intact, checked, outcome}
@@ -66,12 +66,12 @@ last (x ∷ []) h = ([], x, refl)
 last (x ∷ y ∷ w) h = let i = last (y ∷ w) (omega arith) in (x ∷ i .0, i .1, ap (λ (l : Word). x ∷ l) (i .2))
 
 -- what a book in a trail of n places keeps to
-pub record Kept (n : ℕ) (b : Book) : Type 0 where
+pub record Matches (n : ℕ) (b : Book) : Type 0 where
   pub known : Readable (b .rule)
   pub named : Upto (names (b .rule)) (b .row)
   pub fits : length (b .row) ≤ room n
 
-kept-fresh : (n : ℕ) (r : Rule) → Readable r → Kept n (book r [])
+kept-fresh : (n : ℕ) (r : Rule) → Readable r → Matches n (book r [])
 kept-fresh n r h = record { known = h; named = tt; fits = omega arith }
 
 -- opening shows a fresh book, whatever session and trail there were
@@ -81,20 +81,20 @@ opened w r e = rw (e, sub-zero)
 
 -- an opening that was not refused
 pub record Opened (w : World) (r : Rule) : Type 0 where
-  pub kept : Kept (length (w .trail)) (book r [])
+  pub kept : Matches (length (w .trail)) (book r [])
   pub shows : plays (opening r) w ≡ shown (length (w .trail)) (book r [])
 
 pub done-opened : (w : World) (r : Rule) → replyTo (opening r) w ≡ nothing → Opened w r
 unfolding outcome
 done-opened w r i = by-test (readable r)
     (λ e. record { kept = kept-fresh (length (w .trail)) r (readable-is r .0 e); shows = opened w r e })
-    (λ e. let z : refuses NoModel ≡ nothing = rw e at i in let y : _≡_ {A = ℕ} 0 1 = cc in absurd (omega arith))
+    (λ e. let z : refuses Unreadable ≡ nothing = rw e at i in let y : _≡_ {A = ℕ} 0 1 = cc in absurd (omega arith))
 
 -- a call on the world that shows a book does what the book does
 abbrev pub Agrees : ℕ → Book → Call → Type 0
-Agrees n b q = (c : Book) × Enters n b q (replyTo q (shown n b)) c × (plays q (shown n b) ≡ shown n c) × Kept n c
+Agrees n b q = (c : Book) × Enters n b q (replyTo q (shown n b)) c × (plays q (shown n b) ≡ shown n c) × Matches n c
 
-module _ (n : ℕ) (b : Book) (k : Kept n b) where
+module _ (n : ℕ) (b : Book) (k : Matches n b) where
   length-shown : length (shown n b .trail) ≡ n
   length-shown =
       let h = k .fits in
@@ -165,7 +165,7 @@ module _ (n : ℕ) (b : Book) (k : Kept n b) where
       rw (checked-shown, take-at (b .row) (replicate (n - length (b .row)) free) (length (b .row)) refl)
       (b, judges m (verdict-says (ruleType (b .rule)) (means-conflict-free m) (b .row)), refl, k)
 
-pub agrees : (n : ℕ) (b : Book) → Kept n b → (q : Call) → Agrees n b q
+pub agrees : (n : ℕ) (b : Book) → Matches n b → (q : Call) → Agrees n b q
 agrees n b k (opening r) = agrees-opening n b k r
 agrees n b k (adding x) = agrees-adding n b k x
 agrees n b k takingBack = agrees-taking n b k

@@ -8,8 +8,8 @@ use Rattle.sessions.specs.declared.session.Outcome.the-variants.{Done, R
 use Rattle.sessions.specs.declared.session.Session.{Session}
 use Rattle.judge.specs.declared.verdict.Judged.{Judged}
 use Rattle.judge.specs.declared.verdict.Judged.the-variants.{Verdict, Refused as RefusedRow}
-use Rattle.sessions.specs.Book.{Call, opening, adding, takingBack, asking, Reply, says, refuses, nothing, Book}
-use Rattle.sessions.specs.Session.{Trail, free, step, trailAfter, asked}
+use Rattle.sessions.specs.Book.{Call, opening, adding, takingBack, asking, CallReply, says, refuses, nothing, Book}
+use Rattle.sessions.specs.Session.{Trail, free, callStep, trailAfter, asked}
 
 pub record World : Type 0 where
   pub session : Session
@@ -17,7 +17,7 @@ pub record World : Type 0 where
 
 -- what the contracts say of the session that is handed back and of the trail at exit; asking hands back no session and writes nothing
 abbrev pub moved : Call → World → World
-moved q w = record { session = step q (w .session) (w .trail) .session; trail = trailAfter q (w .session) (w .trail) }
+moved q w = record { session = callStep q (w .session) (w .trail) .session; trail = trailAfter q (w .session) (w .trail) }
 
 abbrev pub plays : Call → World → World
 plays (opening r) w = moved (opening r) w
@@ -26,27 +26,27 @@ plays takingBack w = moved takingBack w
 plays asking w = w
 
 -- a verdict, a refusal, or neither
-abbrev pub ofOutcome : Outcome → Reply
+abbrev pub ofOutcome : Outcome → CallReply
 ofOutcome Done = nothing
 ofOutcome (Refused f) = refuses f
 
-abbrev pub ofJudged : Judged → Reply
+abbrev pub ofJudged : Judged → CallReply
 ofJudged (Verdict v) = says v
 ofJudged (RefusedRow f) = refuses f
 
-abbrev pub replyTo : Call → World → Reply
-replyTo (opening r) w = ofOutcome (step (opening r) (w .session) (w .trail) .outcome)
-replyTo (adding x) w = ofOutcome (step (adding x) (w .session) (w .trail) .outcome)
-replyTo takingBack w = ofOutcome (step takingBack (w .session) (w .trail) .outcome)
+abbrev pub replyTo : Call → World → CallReply
+replyTo (opening r) w = ofOutcome (callStep (opening r) (w .session) (w .trail) .outcome)
+replyTo (adding x) w = ofOutcome (callStep (adding x) (w .session) (w .trail) .outcome)
+replyTo takingBack w = ofOutcome (callStep takingBack (w .session) (w .trail) .outcome)
 replyTo asking w = ofJudged (asked (w .session) (w .trail))
 
-abbrev pub after : List Call → World → World
-after [] w = w
-after (q ∷ qs) w = after qs (plays q w)
+abbrev pub worldAfter : List Call → World → World
+worldAfter [] w = w
+worldAfter (q ∷ qs) w = worldAfter qs (plays q w)
 
-abbrev pub replies : List Call → World → List Reply
-replies [] w = []
-replies (q ∷ qs) w = replyTo q w ∷ replies qs (plays q w)
+abbrev pub repliesTo : List Call → World → List CallReply
+repliesTo [] w = []
+repliesTo (q ∷ qs) w = replyTo q w ∷ repliesTo qs (plays q w)
 
 -- the world that shows a book in a trail of n places: the book's rule, as many children as the row is long, the row in the first places and every
 -- other place free

@@ -8,7 +8,7 @@ use lib.ListN.{length, take, drop, length-take, length-drop}
 use lib.Seq.{take-all}
 use borrow.Author.Tests.{le-leb, lt-ltb, le-ltb, lt-leb}
 use Rattle.judge.specs.declared.fault.JudgeFault.{JudgeFault}
-use Rattle.judge.specs.declared.fault.JudgeFault.the-variants.{NoModel, BadTrail, NoName, NoRoom, NoChildren}
+use Rattle.judge.specs.declared.fault.JudgeFault.the-variants.{Unreadable, BadTrail, UnknownName, NoRoom, NothingToTakeBack}
 use Rattle.model.specs.declared.rule.Rule.{Rule}
 use Rattle.sessions.specs.declared.session.Outcome.the-variants.{Done, Refused}
 use Rattle.sessions.specs.declared.session.Session.{Session}
@@ -17,7 +17,7 @@ use Rattle.judge.specs.declared.verdict.Judged.the-variants.{Verdict, Refused a
 use Rattle.model.specs.Verdict.Laws.{verdict}
 use Rattle.model.specs.Rule.{names}
 use Rattle.model.specs.Rule.Decide.{readable, ruleType}
-use Rattle.judge.specs.Judge.Laws.{judged, upto, upto-tells}
+use Rattle.judge.specs.Row.Laws.{judged, upto, upto-tells}
 use Rattle.sessions.specs.Book.{Call, opening, adding, takingBack, room}
 use Rattle.sessions.specs.Session.{Trail, allFree, intact, check, checked, outcome, newSession, newTrail, Does, asked}
 use Rattle.sessions.specs.Session.Laws.{intact-tells, checked-done}
@@ -48,13 +48,13 @@ pub completed : (q : Call) (s : Session) (t : Trail) (r : Step) → outcome q s 
 completed q s t r e h = rw e (h, refl)
 
 pub opening-by : (r : Rule) (s : Session) (t : Trail) (b x : Bool) → b ≡ readable r → b ≡ x
-    → outcome (opening r) s t ≡ check x NoModel
+    → outcome (opening r) s t ≡ check x Unreadable
 unfolding outcome
 opening-by r s t b x e f = rw (← e, f)
 
 module _ (s : Session) (t : Trail) where
   module _ (b : Bool) (e : b ≡ readable (s .rule)) where
-    pub checked-no-model : b ≡ false → checked s t ≡ Refused NoModel
+    pub checked-no-model : b ≡ false → checked s t ≡ Refused Unreadable
     unfolding checked
     checked-no-model f = rw (← e, f)
 
@@ -68,7 +68,7 @@ module _ (s : Session) (t : Trail) where
     adding-refused f e = rw e
 
     module _ (e : checked s t ≡ Done) (n : ℕ) (i : n ≡ names (s .rule)) where
-      pub adding-unnamed : n < x → outcome (adding x) s t ≡ Refused NoName
+      pub adding-unnamed : n < x → outcome (adding x) s t ≡ Refused UnknownName
       unfolding outcome
       adding-unnamed h = rw (e, ← i, lt-leb x n h)
 
@@ -86,7 +86,7 @@ module _ (s : Session) (t : Trail) where
   taking-refused f e = rw e
 
   module _ (e : checked s t ≡ Done) where
-    pub taking-none : s .children ≡ 0 → outcome takingBack s t ≡ Refused NoChildren
+    pub taking-none : s .children ≡ 0 → outcome takingBack s t ≡ Refused NothingToTakeBack
     unfolding outcome
     taking-none h = rw (e, le-ltb 0 (s .children) (omega arith))
 

@@ -7,7 +7,7 @@ use native.Mathlib.Omega.{arith}
 use lib.Dec.{eqb}
 use lib.ListN.{take, drop}
 use borrow.Author.Tests.{eq-eqb, eqb-true}
-use Rattle.judge.specs.declared.fault.JudgeFault.the-variants.{NoModel, BadTrail}
+use Rattle.judge.specs.declared.fault.JudgeFault.the-variants.{Unreadable, BadTrail}
 use Rattle.judge.specs.declared.fault.JudgeFault.{JudgeFault}
 use Rattle.sessions.specs.declared.session.Session.{Session}
 use Rattle.sessions.specs.declared.session.Outcome.{Outcome}
@@ -15,7 +15,7 @@ use Rattle.sessions.specs.declared.session.Outcome.the-variants.{Done, R
 use Rattle.fields.specs.Tests.{Tells, tells-le, tells-and, tells-three}
 use Rattle.model.specs.Rule.{names}
 use Rattle.model.specs.Rule.Decide.{readable}
-use Rattle.judge.specs.Judge.Laws.{upto-tells}
+use Rattle.judge.specs.Row.Laws.{upto-tells}
 use Rattle.sessions.specs.Refusal.{AllFree, Intact}
 use Rattle.sessions.specs.Session.{Trail, free, allFree, intact, check, _then_, checked}
 
@@ -39,5 +39,5 @@ then-done (Refused f) p e = let z : _≡_ {A = ℕ} 0 1 = cc in absurd (omega ar
 pub checked-done : (s : Session) (t : Trail) → checked s t ≡ Done → (readable (s .rule) ≡ true) × (intact (s .children) (names (s .rule)) t ≡ true)
 unfolding checked
 checked-done s t e =
-    let (a, b) = then-done (check (readable (s .rule)) NoModel) _ e in
-    (check-done (readable (s .rule)) NoModel a, check-done (intact (s .children) (names (s .rule)) t) BadTrail b)
+    let (a, b) = then-done (check (readable (s .rule)) Unreadable) _ e in
+    (check-done (readable (s .rule)) Unreadable a, check-done (intact (s .children) (names (s .rule)) t) BadTrail b)

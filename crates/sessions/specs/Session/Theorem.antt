@@ -5,12 +5,12 @@ use Prim.Native.Nat.{ℕ, _≤_}
 use lib.ListN.{length}
 use Rattle.model.specs.declared.rule.Rule.{Rule}
 use Rattle.sessions.specs.Book.{Call, opening, nothing, Book, book, room, Keeps, done, next}
-use Rattle.sessions.specs.Session.Calls.{World, plays, replyTo, after, replies, shown}
-use Rattle.sessions.specs.Session.Agree.{Kept, agrees, done-opened}
+use Rattle.sessions.specs.Session.Calls.{World, plays, replyTo, worldAfter, repliesTo, shown}
+use Rattle.sessions.specs.Session.Agree.{Matches, agrees, done-opened}
 
 -- a list of calls on the world that shows a book
-keeps : (n : ℕ) (b : Book) (w : World) → Kept n b → w ≡ shown n b → (qs : List Call) →
-    (c : Book) × Keeps n b qs (replies qs w) c × (after qs w ≡ shown n c) × (length (c .row) ≤ room n)
+keeps : (n : ℕ) (b : Book) (w : World) → Matches n b → w ≡ shown n b → (qs : List Call) →
+    (c : Book) × Keeps n b qs (repliesTo qs w) c × (worldAfter qs w ≡ shown n c) × (length (c .row) ≤ room n)
 keeps n b w k e [] = (b, done, e, k .fits)
 keeps n b w k e (q ∷ qs) =
     let (c, h, f, l) = agrees n b k q in
@@ -21,5 +21,5 @@ keeps n b w k e (q ∷ qs) =
 pub agrees-with-book : (w₀ : World) (r : Rule) → replyTo (opening r) w₀ ≡ nothing → (qs : List Call) →
     let n = length (w₀ .trail) in
     let w = plays (opening r) w₀ in
-    (b : Book) × Keeps n (book r []) qs (replies qs w) b × (after qs w ≡ shown n b) × (length (b .row) ≤ room n)
+    (b : Book) × Keeps n (book r []) qs (repliesTo qs w) b × (worldAfter qs w ≡ shown n b) × (length (b .row) ≤ room n)
 agrees-with-book w₀ r e qs = let o = done-opened w₀ r e in keeps (length (w₀ .trail)) (book r []) (plays (opening r) w₀) (o .kept) (o .shows) qs

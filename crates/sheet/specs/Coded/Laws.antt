@@ -12,8 +12,8 @@ use lib.ListN.{length, take, drop, getD, set, length-append, length-map, length-
 use lib.Seq.{take-at, drop-at, take-all, take-add, drop-cons, drop-drop, drop-length, take-length, getD-set-same, getD-set-other}
 use borrow.Author.Tests.{eqb-true, eqb-false, leb-true, le-leb, lt-leb, le-ltb, lt-ltb}
 use Rattle.fields.specs.Tests.{by-test}
-use Rattle.judge.specs.declared.text.NamePlace.{NamePlace}
-use Rattle.judge.specs.declared.text.Names.{Names}
+use Rattle.judge.specs.declared.reading.NamePlace.{NamePlace}
+use Rattle.judge.specs.declared.reading.Names.{Names}
 use Rattle.fields.specs.Bytes.{Text}
 use Rattle.model.specs.Syntax.{numberIn}
 use Rattle.fields.specs.Bytes.Laws.{T-true}
@@ -49,7 +49,7 @@ use Rattle.sheet.specs.Put.{Put, Fits}
 use Rattle.sheet.specs.Listing.Laws.{enough, cue-three, line-length, word-short}
 use Rattle.fields.specs.Bytes.Numeral.{digits-length}
 use borrow.Rule.Slice.PartMut.{putMid}
-use Rattle.sheet.specs.Coded.{saidFrom, codeOf, decoded, listingCoded, Ready, GoodCues, Before, Cue, Coded}
+use Rattle.sheet.specs.Coded.{saidFrom, codeOf, decoded, listingCoded, CueReady, GoodCues, AtLine, Cue, Coded}
 
 -- of children that are good, the judge's answer says what the model says
 said-judged : (m c : Text) → length c ≤ maxFile → allNames (childrenIn c) ≡ true → length (childrenIn c) ≤ maxRow
@@ -67,7 +67,7 @@ children-in [] n = let z : _≡_ {A = ℕ} 0 1 = cc n in absurd (omega arith)
 children-in (b ∷ c) n = refl
 
 -- what the model m says of a cue line
-module _ (s m : Text) (p : NamePlace) (l : Text) (r : Ready s p l) (e : m ≡ partAt s p) (h : Heads) (i : h ≡ headsOf l) where
+module _ (s m : Text) (p : NamePlace) (l : Text) (r : CueReady s p l) (e : m ≡ partAt s p) (h : Heads) (i : h ≡ headsOf l) where
   ready-three : Three l h
   ready-three = cue-three l h i (r .fits .enough)
 
@@ -163,10 +163,10 @@ pub part-at-place : (s : Text) (p : NamePlace) → part s (p .start) (p .start +
 part-at-place s p = let e : (p .start + p .len) - p .start ≡ p .len = omega arith in ap (λ n. take n (drop (p .start) s)) e
 
 -- the lines of a cue list, one by one
-pub before-first : {c : Text} → GoodCues c → Before c 0 0
+pub before-first : {c : Text} → GoodCues c → AtLine c 0 0
 before-first {c} g = record { stand = stand-start c (g .ended); below = omega arith; good = g }
 
-pub before-cue : {c : Text} {n at end : ℕ} → Before c n at → at < length c → end ≡ partEnd c lineFeed at → Cue c n at end
+pub before-cue : {c : Text} {n at end : ℕ} → AtLine c n at → at < length c → end ≡ partEnd c lineFeed at → Cue c n at end
 before-cue {c} {n} {at} {end} b h e =
     let v = stand-next c n at (b .stand) end h e in
     let k = end-bounds c lineFeed at end (omega arith) e in
@@ -205,7 +205,7 @@ module _ {s : Text} {rules : Sheet} {kinds : Names} {c : Text} {n at end k : ℕ
       let g = w .entries-good (k - 1) d (rule-inside (eqb-false k 0 o)) in
       q ∙ rw (m .line-is, o, y, g .model-is))
 
-  pub place-ready : (d : Entry) → (k ≡ 0 → ⊥) → Ready s (getD (rules .entries) (k - 1) d .model) (part c at end)
+  pub place-ready : (d : Entry) → (k ≡ 0 → ⊥) → CueReady s (getD (rules .entries) (k - 1) d .model) (part c at end)
   place-ready d o = record { inside = w .entries-good (k - 1) d (rule-inside o) .inside; fits = m .fits; named = m .named }
 
 -- one byte more

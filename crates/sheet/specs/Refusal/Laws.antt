@@ -38,7 +38,7 @@ use Rattle.sheet.specs.declared.listing.Listed.the-variants.{Written, Sh
 use Rattle.sheet.specs.Cues.{isCueNumber, children, byLine, cueLines, cuesRead}
 use Rattle.sheet.specs.Sheet.{maxRules, kind, model, among, modelFault, byFault, sheetLines, sheetOutcome}
 use Rattle.sheet.specs.Listing.{listing, byCues, bySheet, listed}
-use Rattle.sheet.specs.Refusal.{Line, line, Earlier, SheetStands, sheetRank, SheetAnswers, number, CueStands, CuesAnswers, Lists}
+use Rattle.sheet.specs.Refusal.{Line, line, Earlier, SheetStands, sheetRank, SheetAnswers, numberOf, CueStands, CuesAnswers, Lists}
 use Rattle.sheet.specs.Refusal.Order.{exactly, tells-no, tells-lt, tells-other, beside, long-tells, feed-tells}
 use Rattle.sheet.specs.Refusal.Order.{Place, Table, first-once, Tried, narrow, try, next-line, walk, whole}
 
@@ -233,15 +233,15 @@ number-positive (b ∷ y) e =
     omega (arith, k, eqb-false b (code "0") (not-true (eqb b (code "0")) (j .0)), v)
 
 module _ (x : Text) where
-  above-tells : (n : ℕ) (l : Text) → 1 ≤ number l → Tells (leb (number l) (number (line x n))) ((1 < suc n) × (number l ≤ number (line x (suc n - 1))))
-  above-tells zero l p = (λ e. absurd (omega (arith, leb-true (number l) 0 e)), λ k. absurd (omega arith))
+  above-tells : (n : ℕ) (l : Text) → 1 ≤ numberOf l → Tells (leb (numberOf l) (numberOf (line x n))) ((1 < suc n) × (numberOf l ≤ numberOf (line x (suc n - 1))))
+  above-tells zero l p = (λ e. absurd (omega (arith, leb-true (numberOf l) 0 e)), λ k. absurd (omega arith))
   above-tells (suc n) l p =
       let e : suc (suc n) - 1 ≡ suc n = omega arith in
       rw e (λ t. (omega arith, leb-true _ _ t), λ k. le-leb _ _ (k .1))
 
   -- what is said behind n lines
   abbrev cuesFrom : ℕ → CuesRead
-  cuesFrom n = cueLines n (number (line x n)) (drop n (lines x))
+  cuesFrom n = cueLines n (numberOf (line x n)) (drop n (lines x))
 
   cues-step : (n : ℕ) → n < length (lines x) → (Tried (ofCues x) (suc (suc n)) 32 → CuesAnswers x (cuesFrom (suc n)))
       → Tried (ofCues x) (suc n) 32 → CuesAnswers x (cuesFrom n)

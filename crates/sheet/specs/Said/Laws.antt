@@ -9,8 +9,8 @@ use native.Mathlib.Omega.{arith}
 use lib.ListN.{length, getD, length-map, List·getD-map}
 use Rattle.fields.specs.Bytes.{Text}
 use Rattle.fields.specs.Split.{lines, field}
-use Rattle.model.specs.Syntax.{Syntax, names, numberIn}
-use Rattle.model.specs.Syntax.Number.{number-found, number-none}
+use Rattle.model.specs.Syntax.{Syntax, writtenNames, numberIn}
+use Rattle.model.specs.Syntax.Number.{from-found, from-none}
 use Rattle.model.specs.Fault.{Answers, accepted}
 use Rattle.model.specs.Fault.Answered.{answer-is}
 use Rattle.model.specs.Accept.Laws.{accepted-counts}
@@ -43,7 +43,7 @@ module _ (s : Text) (e : sheetOutcome s ≡ Read) where
   module _ (l : Text) where
     -- what the sheet's line of that kind says
     line-says : (k : ℕ) → k < length ls → kind (getD ls k []) ≡ field 2 l → (t : Syntax) → Answers (model (getD ls k [])) (accepted t)
-        → said ls l ≡ wordOf (verdict (typeOf (modelOf t)) (rowOf (names t) (children l)))
+        → said ls l ≡ wordOf (verdict (typeOf (modelOf t)) (rowOf (writtenNames t) (children l)))
     unfolding kinds-apart
     line-says k h q t a =
         let n : numberIn (map kind ls) (field 2 l) ≡ suc k =
@@ -51,22 +51,22 @@ module _ (s : Text) (e : sheetOutcome s ≡ Read) where
         rw (n, ← answer-is (model (getD ls k [])) (accepted t) a)
 
     by-number : (m : ℕ) → numberIn (map kind ls) (field 2 l) ≡ m → CueSaid ls l (saidAt ls m (children l))
-    by-number zero q = lacking (λ k o p. number-none 0 (map kind ls) (field 2 l) k q (rw length-map o) (List·getD-map kind ls k [] ∙ p))
+    by-number zero q = lacking (λ k o p. from-none 0 (map kind ls) (field 2 l) k q (rw length-map o) (List·getD-map kind ls k [] ∙ p))
     by-number (suc k) q =
-        let f = number-found 0 (map kind ls) (field 2 l) k q in
+        let f = from-found 0 (map kind ls) (field 2 l) k q in
         let o : k < length ls = omega (arith, f .1, length-map ls kind) in
         let p : kind (getD ls k []) ≡ field 2 l = sym (List·getD-map kind ls k []) ∙ ap (λ n. getD (map kind ls) n []) (sym (sub-zero k)) ∙ f .2 in
         let (t, a) = line-accepted s e k o in
         let m = model (getD ls k []) in
         let A = typeOf (modelOf t) in
-        let w = rowOf (names t) (children l) in
+        let w = rowOf (writtenNames t) (children l) in
         rw (← answer-is m (accepted t) a)
         (by-line k o p t a (verdict A w) (verdict-says A (type-conflict-free (modelOf t) (accepted-counts m t a)) w))
 
     no-line : (m : ℕ) → numberIn (map kind ls) (field 2 l) ≡ m → ((k : ℕ) → k < length ls → ¬ kind (getD ls k []) ≡ field 2 l) → saidAt ls m (children l) ≡ NoSheet
     no-line zero q n = refl
     no-line (suc k) q n =
-        let f = number-found 0 (map kind ls) (field 2 l) k q in
+        let f = from-found 0 (map kind ls) (field 2 l) k q in
         absurd (n k (omega (arith, f .1, length-map ls kind)) (sym (List·getD-map kind ls k []) ∙ ap (λ n. getD (map kind ls) n []) (sym (sub-zero k)) ∙ f .2))
 
     said-once : (a : Said) → CueSaid ls l a → said ls l ≡ a
@@ -74,7 +74,7 @@ module _ (s : Text) (e : sheetOutcome s ≡ Read) where
     said-once a (lacking n) = no-line (numberIn (map kind ls) (field 2 l)) refl n
     said-once a (by-line k o p t h v d) =
         line-says k o p t h
-        ∙ ap wordOf (verdict-is (typeOf (modelOf t)) (type-conflict-free (modelOf t) (accepted-counts (model (getD ls k [])) t h)) (rowOf (names t) (children l)) v .1 d)
+        ∙ ap wordOf (verdict-is (typeOf (modelOf t)) (type-conflict-free (modelOf t) (accepted-counts (model (getD ls k [])) t h)) (rowOf (writtenNames t) (children l)) v .1 d)
 
     pub cue-is : (a : Said) → (said ls l ≡ a) ↔ CueSaid ls l a
     unfolding by-number said-once

@@ -11,10 +11,10 @@ use lib.Seq.{take-nil, drop-nil, take-take, drop-drop}
 use borrow.Author.Tests.{ltb-true, ltb-false, lt-ltb, le-ltb, eqb-true, eq-eqb, ne-eqb, not-true, not-false}
 use Rattle.fields.specs.Limits.{maxFile}
 use Rattle.fields.specs.Tests.{by-test}
-use Rattle.judge.specs.declared.text.NamePlace.{NamePlace}
-use Rattle.judge.specs.declared.text.Names.{Names}
-use Rattle.judge.specs.declared.text.Reading.{Reading}
-use Rattle.judge.specs.declared.text.Outcome.the-variants.{Read as ModelRead, Refused as ModelRefused}
+use Rattle.judge.specs.declared.reading.NamePlace.{NamePlace}
+use Rattle.judge.specs.declared.reading.Names.{Names}
+use Rattle.judge.specs.declared.reading.Reading.{Reading}
+use Rattle.judge.specs.declared.reading.Outcome.the-variants.{Read as ModelRead, Refused as ModelRefused}
 use Rattle.model.specs.declared.fault.ModelFault.{ModelFault}
 use Rattle.fields.specs.Bytes.{Text, bytes, sameText}
 use Rattle.fields.specs.Bytes.Laws.{same-text}

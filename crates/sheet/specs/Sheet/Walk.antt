@@ -10,7 +10,7 @@ use native.Mathlib.Numerals.{add-one}
 use lib.ListN.{length, take, drop, getD, set, replicate, length-append, length-replicate, length-map}
 use lib.Seq.{take-suc, take-all, take-at, drop-cons, drop-length, getD-set-same, getD-set-other}
 use borrow.Author.Tests.{le-leb, lt-leb}
-use Rattle.judge.specs.declared.text.Names.{Names}
+use Rattle.judge.specs.declared.reading.Names.{Names}
 use Rattle.fields.specs.Bytes.{Text}
 use Rattle.judge.specs.Reading.{noPlace, namesWith, partAt, partsOf}
 use Rattle.judge.specs.Reading.Filled.{filled, fill-length, fill-turn, names-filled}

@@ -6,7 +6,7 @@ use Rattle.desk.proofs.answer.desk_judge.Statement.{statement}
 use Rattle.desk.proofs.answer.desk_judge.Tie as tie
 use Rattle.desk.proofs.answer.desk_judge.Reads as reads
 use Rattle.desk.proofs.answer.desk_judge.Lts as lts
-use Rattle.judge.proofs.named.judge_children.Reads as judge-children-reads
+use Rattle.judge.proofs.reply.judge_children.Reads as judge-children-reads
 use Rattle.desk.proofs.answer.verdict_number.Reads as verdict-number-reads
 use Rattle.fields.proofs.fault.cue_number.Reads as cue-number-reads
 use Rattle.model.proofs.fault.model_number.Reads as model-number-reads

@@ -6,7 +6,7 @@ use Rattle.desk.proofs.child.locate.Tie as tie
 use Rattle.desk.proofs.child.locate.Reads as reads
 use Rattle.desk.proofs.child.locate.Lts as lts
 use Rattle.desk.proofs.child.locate_read.Reads as locate-read-reads
-use Rattle.judge.proofs.text.read_model.Reads as read-model-reads
+use Rattle.judge.proofs.reading.read_model.Reads as read-model-reads
 
 read-model-requires : tie.Need-read-model-requires
 read-model-requires c κs = search needs

@@ -18,7 +18,7 @@ use Rattle.desk.proofs.child.asked.Reads as asked-reads
 use Rattle.desk.proofs.child.child_start.Reads as child-start-reads
 use Rattle.desk.proofs.child.name_place.Reads as name-place-reads
 use Rattle.fields.proofs.split.part_end.Reads as part-end-reads
-use Rattle.judge.proofs.text.number_of.Reads as number-of-reads
+use Rattle.judge.proofs.reading.number_of.Reads as number-of-reads
 
 asked-requires : tie.Need-asked-requires
 asked-requires c κs = search needs

@@ -7,7 +7,7 @@ use Rattle.fields.specs.Split.{lines}
 use Rattle.fields.specs.Split.Laws.{stand-stop}
 use Rattle.sheet.specs.Listing.{said}
 use Rattle.sheet.specs.Sheet.Walk.{Loaded}
-use Rattle.sheet.specs.Coded.{codeOf, Before}
+use Rattle.sheet.specs.Coded.{codeOf, AtLine}
 use Rattle.sheet.specs.Coded.Laws.{rule-few, code-said, place-ready, coded-set, before-first, before-cue}
 use borrow.Author.Needs.{needs}
 use native.Mathlib.Omega.{arith}
@@ -15,7 +15,7 @@ use Rattle.sheet.proofs.listing.say_all.Statement.{statement}
 use Rattle.sheet.proofs.listing.say_all.Tie as tie
 
 abbrev Inv-loop : tie.InvT-loop
-Inv-loop sheet cues codes₀ rules kinds n₀ at₀ codes n at = Before cues n at × Loaded sheet rules × (kinds ≡ rules .kinds) × (length codes ≡ 65535) × ((i : ℕ) → i < n → getD codes i 0 ≡ codeOf (said (lines sheet) (getD (lines cues) i [])))
+Inv-loop sheet cues codes₀ rules kinds n₀ at₀ codes n at = AtLine cues n at × Loaded sheet rules × (kinds ≡ rules .kinds) × (length codes ≡ 65535) × ((i : ℕ) → i < n → getD codes i 0 ≡ codeOf (said (lines sheet) (getD (lines cues) i [])))
 
 abbrev μ-loop : tie.MeasureT-loop
 μ-loop sheet cues codes₀ rules kinds n₀ at₀ codes n at = length cues - at

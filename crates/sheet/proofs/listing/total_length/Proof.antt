@@ -5,7 +5,7 @@ use lib.ListN.{length, drop, getD, length-append}
 use Rattle.fields.specs.Split.{lines, part}
 use Rattle.fields.specs.Split.Laws.{stand-stop}
 use Rattle.sheet.specs.Listing.{listingLine}
-use Rattle.sheet.specs.Coded.{decoded, Before, listingCoded}
+use Rattle.sheet.specs.Coded.{decoded, AtLine, listingCoded}
 use Rattle.sheet.specs.Coded.Laws.{before-first, before-cue, line-short, coded-next, coded-end}
 use borrow.Author.Needs.{needs}
 use native.Mathlib.Omega.{arith}
@@ -13,7 +13,7 @@ use Rattle.sheet.proofs.listing.total_length.Statement.{statement}
 use Rattle.sheet.proofs.listing.total_length.Tie as tie
 
 abbrev Inv-loop : tie.InvT-loop
-Inv-loop cues codes total₀ n₀ at₀ total n at = Before cues n at × (length codes ≡ 65535) × (total + length (listingCoded codes n (drop n (lines cues))) ≡ length (listingCoded codes 0 (lines cues))) × (total ≤ n * 66000)
+Inv-loop cues codes total₀ n₀ at₀ total n at = AtLine cues n at × (length codes ≡ 65535) × (total + length (listingCoded codes n (drop n (lines cues))) ≡ length (listingCoded codes 0 (lines cues))) × (total ≤ n * 66000)
 
 abbrev μ-loop : tie.MeasureT-loop
 μ-loop cues codes total₀ n₀ at₀ total n at = length cues - at

@@ -6,7 +6,7 @@ use lib.ListN.{length, take, drop}
 use Rattle.fields.specs.Split.{lines, part}
 use Rattle.fields.specs.Split.Laws.{stand-stop}
 use Rattle.sheet.specs.Listing.{listingLine}
-use Rattle.sheet.specs.Coded.{Before, listingCoded}
+use Rattle.sheet.specs.Coded.{AtLine, listingCoded}
 use Rattle.sheet.specs.Coded.Laws.{before-first, before-cue, coded-next, coded-end, buffer-length, line-fits, room-left, lines-ahead, line-put, put-all}
 use borrow.Rule.Slice.PartMut.{same-len-mid}
 use borrow.Author.Needs.{needs}
@@ -15,7 +15,7 @@ use Rattle.sheet.proofs.listing.write_lines.Statement.{statement}
 use Rattle.sheet.proofs.listing.write_lines.Tie as tie
 
 abbrev Inv-loop : tie.InvT-loop
-Inv-loop buffer₀ cues codes written₀ n₀ at₀ buffer written n at = Before cues n at × (length codes ≡ 65535) × (length (listingCoded codes 0 (lines cues)) ≤ length buffer₀) × (written ≤ length (listingCoded codes 0 (lines cues))) × (drop written (listingCoded codes 0 (lines cues)) ≡ listingCoded codes n (drop n (lines cues))) × (buffer ≡ take written (listingCoded codes 0 (lines cues)) ++ drop written buffer₀) × (length buffer ≡ length buffer₀)
+Inv-loop buffer₀ cues codes written₀ n₀ at₀ buffer written n at = AtLine cues n at × (length codes ≡ 65535) × (length (listingCoded codes 0 (lines cues)) ≤ length buffer₀) × (written ≤ length (listingCoded codes 0 (lines cues))) × (drop written (listingCoded codes 0 (lines cues)) ≡ listingCoded codes n (drop n (lines cues))) × (buffer ≡ take written (listingCoded codes 0 (lines cues)) ++ drop written buffer₀) × (length buffer ≡ length buffer₀)
 
 abbrev μ-loop : tie.MeasureT-loop
 μ-loop buffer₀ cues codes written₀ n₀ at₀ buffer written n at = length cues - at

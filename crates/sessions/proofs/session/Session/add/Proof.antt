@@ -1,6 +1,6 @@
 -- each answer by the tests that led there
 use mathlib.Core.Path.{sym, _∙_}
-use Rattle.judge.specs.declared.fault.JudgeFault.the-variants.{NoName, NoRoom}
+use Rattle.judge.specs.declared.fault.JudgeFault.the-variants.{UnknownName, NoRoom}
 use Rattle.sessions.specs.Book.{adding}
 use Rattle.sessions.specs.Session.Code.{refused, completed, adding-refused, adding-unnamed, adding-full, adding-done}
 use borrow.Author.Needs.{needs}
@@ -39,7 +39,7 @@ returns c =
     let x = a .name .0 in
     let f = sym (k .checked .ensures) ∙ n .before .enum-told .given .1 in
     let e = adding-unnamed (a .self) (a .trail .now) x f _ (n .names .ensures) (c .before .if1 .taken) in
-    refused (adding x) (a .self) (a .trail .now) NoName _ e (c .refused2 .ensures)
+    refused (adding x) (a .self) (a .trail .now) UnknownName _ e (c .refused2 .ensures)
 
 room-in-requires : tie.Need-room-in-requires
 room-in-requires c κs = search needs

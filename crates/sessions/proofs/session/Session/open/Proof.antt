@@ -1,7 +1,7 @@
 -- each answer by the test of the rule; the trail by what free_all gives
 use mathlib.Core.Path.{_∙_}
 use mathlib.Core.Bool.{true, false}
-use Rattle.judge.specs.declared.fault.JudgeFault.the-variants.{NoModel}
+use Rattle.judge.specs.declared.fault.JudgeFault.the-variants.{Unreadable}
 use Rattle.sessions.specs.Book.{opening}
 use Rattle.sessions.specs.Session.Code.{opening-by, completed, refused}
 use borrow.Author.Needs.{needs}
@@ -36,7 +36,7 @@ returns-2 c =
     let w = c .before in
     let a = w .before .before .before .args in
     let e = opening-by (a .rule) (a .self) (a .trail .now) _ false (w .before .is-readable .ensures) (w .if1 .left) in
-    refused (opening (a .rule)) (a .self) (a .trail .now) NoModel _ e (c .refused .ensures)
+    refused (opening (a .rule)) (a .self) (a .trail .now) Unreadable _ e (c .refused .ensures)
 
 pub open-spec : {M : Type 1} → statement M
 open-spec =

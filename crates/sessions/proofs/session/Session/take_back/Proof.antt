@@ -1,6 +1,6 @@
 -- each answer by the tests that led there; a session that passes 42 has its children within the trail
 use mathlib.Core.Path.{sym, _∙_}
-use Rattle.judge.specs.declared.fault.JudgeFault.the-variants.{NoChildren}
+use Rattle.judge.specs.declared.fault.JudgeFault.the-variants.{NothingToTakeBack}
 use Rattle.sessions.specs.Book.{takingBack}
 use Rattle.sessions.specs.Session.Code.{refused, completed, taking-refused, taking-none, taking-done, checked-fits}
 use borrow.Author.Needs.{needs}
@@ -31,7 +31,7 @@ returns c =
     let k = o .before .before in
     let a = k .before .before .before .before .args in
     let f = sym (k .checked .ensures) ∙ o .enum-told .given .1 in
-    refused takingBack (a .self) (a .trail .now) NoChildren _ (taking-none (a .self) (a .trail .now) f (c .before .if1 .taken)) (c .refused2 .ensures)
+    refused takingBack (a .self) (a .trail .now) NothingToTakeBack _ (taking-none (a .self) (a .trail .now) f (c .before .if1 .taken)) (c .refused2 .ensures)
 
 sub-trail : tie.Need-sub-trail
 sub-trail c = search needs

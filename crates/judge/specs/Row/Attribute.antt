@@ -1,0 +1,123 @@
+-- What the second pass over a row computes of a type, from what the firstPlace has seen of each name: its span, whether its part of the row is held,
+-- and whether that can be extended. `attributeBy` is the same over a model.
+use mathlib.Core.Path.{_≡_, refl}
+use mathlib.Core.Bool.{true, false, _&&_}
+use mathlib.Core.List.{List, [], _∷_, map}
+use Prim.Native.Nat.{ℕ, zero, suc, min, max}
+use lib.Dec.{leb, ltb}
+use lib.ListN.{length}
+use Rattle.model.specs.declared.rule.Upper.{Upper}
+use Rattle.model.specs.declared.rule.Sign.{Sign}
+use Rattle.model.specs.declared.rule.Mark.{Mark}
+use Rattle.model.specs.declared.rule.Mark.the-variants.{Plain, Optional}
+use Rattle.judge.specs.declared.row.Seen.{Seen}
+use Rattle.judge.specs.declared.row.Attribute.{Attribute}
+use Rattle.model.specs.Word.{Word, only}
+use Rattle.model.specs.Word.Projection.{count}
+use Rattle.model.specs.Word.Order.{touched}
+use Rattle.model.specs.Word.Span.{firstPlace, lastBehind, first-untouched, behind-untouched, touched-behind, ordered-span, first-either, behind-either}
+use Rattle.model.specs.Types.{Operator, choice, Ty, ε, atom, join, symbols, ConflictFree}
+use Rattle.model.specs.Types.Decide.{under, joined, begun, done, alive}
+use Rattle.model.specs.Model.{Algebra, operator, joinedFrom, joinedType, typeBy}
+
+abbrev pub emptyAttribute : ℕ → Attribute
+emptyAttribute n = record { first = n; behind = 0; done = true; alive = true }
+
+abbrev pub atomAttribute : ℕ → Upper → Seen → Attribute
+atomAttribute m n x =
+    record { first = x .first; behind = x .behind; done = leb m (x .count) && under (x .count) n; alive = under (x .count) n }
+
+abbrev pub pairAttribute : Operator → Attribute → Attribute → Attribute
+pairAttribute o x y =
+    record {
+      first = min (x .first) (y .first);
+      behind = max (x .behind) (y .behind);
+      done = joined o (leb (x .behind) (y .first)) (ltb 0 (x .behind)) (ltb 0 (y .behind)) (x .done) (y .done);
+      alive = begun o (leb (x .behind) (y .first)) (ltb 0 (x .behind)) (ltb 0 (y .behind)) (x .done) (x .alive) (y .alive);
+    }
+
+-- of a row's length and what is seen of each name
+unfoldable pub attribute : ℕ → (ℕ → Seen) → Ty → Attribute
+attribute n s ε = emptyAttribute n
+attribute n s (atom a m k) = atomAttribute m k (s a)
+attribute n s (join o A B) = pairAttribute o (attribute n s A) (attribute n s B)
+
+-- of the row itself
+unfoldable pub seen : Word → ℕ → Seen
+seen w a = record { count = count a w; first = firstPlace (only a) w; behind = lastBehind (only a) w }
+
+unfoldable pub attributeOf : Ty → Word → Attribute
+attributeOf A w = record { first = firstPlace (symbols A) w; behind = lastBehind (symbols A) w; done = done A w; alive = alive A w }
+
+untouched-ε : (w : Word) → touched (symbols ε) w ≡ false
+unfolding touched
+untouched-ε [] = refl
+untouched-ε (x ∷ w) = untouched-ε w
+
+pub attribute-is : (A : Ty) → ConflictFree A → (w : Word) → attribute (length w) (seen w) A ≡ attributeOf A w
+unfolding attribute attributeOf seen done alive
+attribute-is ε g w = rw (first-untouched (symbols ε) w (untouched-ε w), behind-untouched (symbols ε) w (untouched-ε w))
+attribute-is (atom a m n) g w = refl
+attribute-is (join o A B) g w =
+    rw (
+      attribute-is A (g .1) w,
+      attribute-is B (g .2) w,
+      first-either (symbols A) (symbols B) w,
+      behind-either (symbols A) (symbols B) w,
+      ordered-span (symbols A) (symbols B) (g .0) w,
+      touched-behind (symbols A) w,
+      touched-behind (symbols B) w,
+    )
+
+-- the attributes of a model's nodes, each as the type of that node has it
+abbrev pub joinedAttributeFrom : Operator → Attribute → List Attribute → Attribute
+joinedAttributeFrom o x [] = x
+joinedAttributeFrom o x (y ∷ l) = joinedAttributeFrom o (pairAttribute o x y) l
+
+module _ (n : ℕ) where
+  abbrev pub countedAttribute : ℕ → Upper → Seen → Attribute
+  countedAttribute zero k x = pairAttribute choice (emptyAttribute n) (atomAttribute 1 k x)
+  countedAttribute (suc m) k x = atomAttribute (suc m) k x
+
+  abbrev pub joinedAttribute : Operator → List Attribute → Attribute
+  joinedAttribute o [] = emptyAttribute n
+  joinedAttribute o (x ∷ l) = joinedAttributeFrom o x l
+
+  abbrev pub markedAttribute : Mark → Attribute → Attribute
+  markedAttribute Plain x = x
+  markedAttribute Optional x = pairAttribute choice (emptyAttribute n) x
+
+  abbrev pub attributeBy : (ℕ → Seen) → Algebra Attribute
+  attributeBy s =
+      record {
+        onAtom = λ a lo hi. countedAttribute lo hi (s a);
+        onGroup = λ a sign l. joinedAttribute (operator sign) l;
+        onMark = markedAttribute;
+      }
+
+-- `attribute n s` carries `typeBy` into `attributeBy n s`
+module _ (n : ℕ) (s : ℕ → Seen) where
+  pub attribute-atom : (a lo : ℕ) (hi : Upper) → attribute n s (typeBy .onAtom a lo hi) ≡ attributeBy n s .onAtom a lo hi
+  unfolding attribute
+  attribute-atom a zero hi = refl
+  attribute-atom a (suc lo) hi = refl
+
+  attribute-from : (o : Operator) (A : Ty) (l : List Ty)
+      → attribute n s (joinedFrom o A l) ≡ joinedAttributeFrom o (attribute n s A) (map (attribute n s) l)
+  unfolding attribute
+  attribute-from o A [] = refl
+  attribute-from o A (B ∷ l) = attribute-from o (join o A B) l
+
+  attribute-joined : (o : Operator) (l : List Ty) → attribute n s (joinedType o l) ≡ joinedAttribute n o (map (attribute n s) l)
+  unfolding attribute
+  attribute-joined o [] = refl
+  attribute-joined o (A ∷ l) = attribute-from o A l
+
+  pub attribute-group : (a : ℕ) (sign : Sign) (l : List Ty)
+      → attribute n s (typeBy .onGroup a sign l) ≡ attributeBy n s .onGroup a sign (map (attribute n s) l)
+  attribute-group a sign l = attribute-joined (operator sign) l
+
+  pub attribute-mark : (m : Mark) (A : Ty) → attribute n s (typeBy .onMark m A) ≡ attributeBy n s .onMark m (attribute n s A)
+  unfolding attribute
+  attribute-mark Plain A = refl
+  attribute-mark Optional A = refl

@@ -1,0 +1,92 @@
+-- What `judge_row` answers, with what its calls gave, is `judged`.
+use mathlib.Core.Path.{_≡_, sym, ap, _∙_}
+use mathlib.Core.Bool.{Bool, true, false, _&&_}
+use mathlib.Core.List.{List, map}
+use Prim.Native.Nat.{ℕ, _≤_, _<_}
+use native.Mathlib.Omega.{arith}
+use borrow.Author.Tests.{le-leb, lt-leb}
+use lib.Dec.{eqb}
+use lib.ListN.{length, take, getD}
+use Rattle.judge.specs.declared.fault.JudgeFault.the-variants.{Unreadable, LongRow, UnknownName}
+use Rattle.model.specs.declared.rule.Rule.{Rule}
+use Rattle.model.specs.declared.rule.Node.{Node}
+use Rattle.judge.specs.declared.row.Attribute.{Attribute}
+use Rattle.model.specs.declared.verdict.Verdict.{Verdict as Said}
+use Rattle.judge.specs.declared.verdict.Judged.the-variants.{Verdict, Refused}
+use Rattle.fields.specs.Limits.{maxAtoms, maxNodes, maxRow}
+use Rattle.model.specs.Word.{Word}
+use Rattle.model.specs.Verdict.Laws.{verdictOf, verdict}
+use Rattle.model.specs.Tree.{atoms, nodes}
+use Rattle.model.specs.Model.Laws.{length-encode}
+use Rattle.model.specs.Rule.{atomsIn, names}
+use Rattle.model.specs.Rule.Laws.{used, used-with, used-is}
+use Rattle.model.specs.Rule.Names.{names-model}
+use Rattle.model.specs.Rule.Decide.{readable, ruleType, readable-formed}
+use Rattle.model.specs.Rule.{ruleWith}
+use Rattle.judge.specs.Reading.Buffer.{Stores}
+use Rattle.judge.specs.Packed.{nodeIn, ruleIn}
+use Rattle.judge.specs.Row.Laws.{upto, judged}
+use Rattle.judge.specs.Row.Tally.{seenOf, Tallied}
+use Rattle.judge.specs.Row.Root.{rootAttribute}
+use Rattle.judge.specs.Row.Pass.{verdict-seen}
+
+-- the limits that the passes ask for
+pub readable-within : (r : Rule) → readable r ≡ true → (r .len ≤ maxNodes) × (names r ≤ maxAtoms)
+readable-within r e =
+    let w = readable-formed r e in
+    let l : r .len ≡ nodes (w .model) = ap (λ s. s .len) (w .rule-is) ∙ length-encode (w .model) in
+    let n : names r ≡ atoms (w .model) = ap names (w .rule-is) ∙ names-model (w .model) in
+    (omega (arith, w .few-nodes), omega (arith, w .few-atoms))
+
+-- its unused places hold nothing else
+pub readable-with : (r : Rule) → readable r ≡ true → r ≡ ruleWith (used r)
+readable-with r e = let w = readable-formed r e in rw (w .rule-is) (ap ruleWith (sym (used-is (w .model))))
+
+pub atoms-within : (l : List Node) → readable (ruleWith l) ≡ true → atomsIn l ≤ maxAtoms
+atoms-within l e = rw (used-with l) at (readable-within (ruleWith l) e .1)
+
+-- packed, it is still the same rule
+module _ (r : Rule) (e : readable r ≡ true) (words : List ℕ) (h : Stores nodeIn maxNodes words (r .len) (used r)) where
+  pub packed-is : ruleIn words (r .len) ≡ r
+  packed-is = rw (h .held) (sym (readable-with r e))
+
+  pub packed-readable : readable (ruleIn words (r .len)) ≡ true
+  packed-readable = rw packed-is e
+
+  pub packed-names : (m : ℕ) → m ≡ names r → m ≡ atomsIn (map nodeIn (take (r .len) words))
+  packed-names m f = rw (h .held) f
+
+-- with what the first pass has counted, and what the second made of it
+pub verdict-tallied : (l : List Node) → readable (ruleWith l) ≡ true → (w : Word) (m : ℕ) → m ≡ atomsIn l → upto m w ≡ true
+    → (s : List ℕ) → Tallied w s → (x : Attribute) → x ≡ rootAttribute (ruleWith l) (length w) (λ k. seenOf (getD s k 0))
+    → verdictOf (eqb (seenOf (getD s 0 0) .count) 0 && x .done) (eqb (seenOf (getD s 0 0) .count) 0 && x .alive) ≡ verdict (ruleType (ruleWith l)) w
+verdict-tallied l e w m f h s g x i =
+    let n : m ≡ names (ruleWith l) = rw (used-with l) f in
+    let c = readable-within (ruleWith l) e in
+    rw i (verdict-seen (ruleWith l) e w (rw n at h) (λ k. seenOf (getD s k 0)) (λ k j. g k (omega arith)))
+
+-- the test of 40
+module _ (r : Rule) (good : Bool) (e : good ≡ readable r) where
+  pub tested : (b : Bool) → good ≡ b → readable r ≡ b
+  tested b f = sym e ∙ f
+
+  module _ (w : Word) where
+    pub no-model : good ≡ false → Refused Unreadable ≡ judged r w
+    unfolding judged
+    no-model f = rw (tested false f)
+
+    pub long-row : good ≡ true → maxRow < length w → Refused LongRow ≡ judged r w
+    unfolding judged
+    long-row f h = rw (tested true f, lt-leb (length w) maxRow h)
+
+    module _ (f : good ≡ true) (h : length w ≤ maxRow) (m : ℕ) (n : m ≡ names r) (named : Bool) (g : named ≡ upto m w) where
+      upto-is : (b : Bool) → named ≡ b → upto (names r) w ≡ b
+      upto-is b i = rw (← n) (sym g ∙ i)
+
+      pub no-name : named ≡ false → Refused UnknownName ≡ judged r w
+      unfolding judged
+      no-name i = rw (tested true f, le-leb (length w) maxRow h, upto-is false i)
+
+      pub a-verdict : named ≡ true → (v : Said) → v ≡ verdict (ruleType r) w → Verdict v ≡ judged r w
+      unfolding judged
+      a-verdict i v j = rw (tested true f, le-leb (length w) maxRow h, upto-is true i) (ap Verdict j)

@@ -1,0 +1,62 @@
+-- Every row has one answer, and `judged` computes it.
+use mathlib.Core.Path.{_≡_, refl, sym, ap}
+use mathlib.Core.Bool.{Bool, true, cond, _&&_}
+use mathlib.Core.List.{[], _∷_}
+use Prim.Native.Nat.{ℕ}
+use native.Mathlib.Omega.{arith}
+use lib.Dec.{leb}
+use lib.ListN.{length}
+use Rattle.judge.specs.declared.fault.JudgeFault.the-variants.{Unreadable, LongRow, BadTrail, UnknownName, NoRoom, NothingToTakeBack}
+use Rattle.model.specs.declared.rule.Rule.{Rule}
+use Rattle.judge.specs.declared.verdict.Judged.{Judged}
+use Rattle.judge.specs.declared.verdict.Judged.the-variants.{Verdict, Refused}
+use Rattle.fields.specs.Tests.{by-test, Tells, untold, fails, tells-le, tells-and}
+use Rattle.model.specs.Word.{Word}
+use Rattle.model.specs.Verdict.Laws.{verdict, verdict-says, verdict-is}
+use Rattle.model.specs.Rule.{names}
+use Rattle.model.specs.Rule.Decide.{readable, readable-is, ruleType, type-means, means-type, means-conflict-free}
+use Rattle.judge.specs.Row.{Upto, Judges}
+use Rattle.fields.specs.Limits.{maxRow}
+
+abbrev pub upto : ℕ → Word → Bool
+upto n [] = true
+upto n (x ∷ w) = leb x n && upto n w
+
+pub upto-tells : (n : ℕ) (w : Word) → Tells (upto n w) (Upto n w)
+upto-tells n [] = (λ e. tt, λ h. refl)
+upto-tells n (x ∷ w) = tells-and (leb x n) (upto n w) (tells-le x n) (upto-tells n w)
+
+unfoldable pub judged : Rule → Word → Judged
+judged r w =
+    cond (readable r)
+    (cond (leb (length w) maxRow) (cond (upto (names r) w) (Verdict (verdict (ruleType r) w)) (Refused UnknownName)) (Refused LongRow))
+    (Refused Unreadable)
+
+pub judges : (r : Rule) (w : Word) → Judges r w (judged r w)
+unfolding judged
+judges r w =
+    by-test (readable r)
+    (λ a. let i = readable-is r .0 a in
+    by-test (leb (length w) maxRow)
+    (λ b. let j = tells-le (length w) maxRow .0 b in
+    by-test (upto (names r) w)
+    (λ c. let m = type-means i in
+    rw (a, b, c) (ruleType r, m, j, upto-tells (names r) w .0 c, verdict-says (ruleType r) (means-conflict-free m) w))
+    (λ c. rw (a, b, c) (i, j, untold (upto (names r) w) (upto-tells (names r) w) c)))
+    (λ b. let n = untold (leb (length w) maxRow) (tells-le (length w) maxRow) b in rw (a, b) (i, omega arith)))
+    (λ a. rw a (untold (readable r) (readable-is r) a))
+
+-- there is no second one
+pub judged-is : (r : Rule) (w : Word) (a : Judged) → Judges r w a → a ≡ judged r w
+unfolding judged
+judged-is r w (Refused Unreadable) h = rw (fails (readable r) (readable-is r) h)
+judged-is r w (Refused LongRow) h =
+    rw (readable-is r .1 (h .0), fails (leb (length w) maxRow) (tells-le (length w) maxRow) (λ l. omega arith))
+judged-is r w (Refused BadTrail) h = absurd h
+judged-is r w (Refused UnknownName) h =
+    rw (readable-is r .1 (h .0), tells-le (length w) maxRow .1 (h .1), fails (upto (names r) w) (upto-tells (names r) w) (h .2))
+judged-is r w (Refused NoRoom) h = absurd h
+judged-is r w (Refused NothingToTakeBack) h = absurd h
+judged-is r w (Verdict v) (A, m, l, u, s) =
+    rw (readable-is r .1 (m .text, m .reads), tells-le (length w) maxRow .1 l, upto-tells (names r) w .1 u)
+    (ap Verdict (sym (verdict-is (ruleType r) (rw (means-type m) at (means-conflict-free m)) w v .1 (rw (means-type m) at s))))

@@ -1,0 +1,94 @@
+-- From what the two passes over a row know to the verdict on it.
+use mathlib.Core.Path.{_≡_, refl, sym, ap, _∙_}
+use mathlib.Core.Logic.{_↔_, by-cases}
+use mathlib.Core.Bool.{true, false, _&&_, and-eq-true-iff}
+use mathlib.Core.List.{List, [], _∷_, map}
+use Prim.Native.Nat.{ℕ, suc, _≤_, _<_}
+use native.Mathlib.Decide.{decLt}
+use native.Mathlib.Omega.{arith}
+use lib.Dec.{eqb, leb}
+use borrow.Author.Tests.{eq-eqb, ne-eqb, leb-true}
+use lib.ListN.{length, getD}
+use Rattle.model.specs.declared.rule.Kind.{Kind}
+use Rattle.model.specs.declared.rule.Kind.the-variants.{Atom, Group}
+use Rattle.model.specs.declared.rule.Mark.{Mark}
+use Rattle.model.specs.declared.rule.Node.{Node}
+use Rattle.model.specs.declared.rule.Rule.{Rule}
+use Rattle.judge.specs.declared.row.Seen.{Seen}
+use Rattle.judge.specs.declared.row.Attribute.{Attribute}
+use Rattle.model.specs.declared.verdict.Verdict.{Verdict}
+use Rattle.fields.specs.Tests.{by-test}
+use Rattle.model.specs.Word.{Word, Names, only}
+use Rattle.model.specs.Word.Projection.{keep, count}
+use Rattle.model.specs.Types.{symbols}
+use Rattle.model.specs.Types.Decide.{over?, holds?, extends?}
+use Rattle.judge.specs.Row.Attribute.{emptyAttribute, attributeBy, attribute, attribute-is, attribute-atom, attribute-group, attribute-mark, seen, attributeOf}
+use Rattle.model.specs.Verdict.Laws.{verdictOf, verdict}
+use Rattle.model.specs.Tree.{atoms}
+use Rattle.model.specs.Model.{Model, typeBy, typeOf}
+use Rattle.model.specs.Model.Eval.{after, after-from, evalStep, eval, eval-map, number, number-from, number-range}
+use Rattle.model.specs.Model.Types.{Fits, type-conflict-free, type-symbols}
+use Rattle.model.specs.Rule.{ruleOf, names}
+use Rattle.model.specs.Rule.Laws.{used, rule-eval}
+use Rattle.model.specs.Rule.Names.{names-number, names-model}
+use Rattle.model.specs.Rule.Decide.{readable, readable-formed, ruleType, rule-type}
+use Rattle.judge.specs.Row.Laws.{upto}
+use Rattle.judge.specs.Row.Root.{rootAttribute}
+
+-- by what is seen of each name in a row of n children, of foreign names under 0
+abbrev pub seenVerdict : Rule → ℕ → (ℕ → Seen) → Verdict
+seenVerdict r n s =
+    verdictOf (eqb (s 0 .count) 0 && rootAttribute r n s .done) (eqb (s 0 .count) 0 && rootAttribute r n s .alive)
+
+-- of names, only those that number the atoms are looked at
+module _ (n : ℕ) (s t : ℕ → Seen) where
+  step-same : (κ : Kind) (m : Mark) (k : ℕ) (l : List Attribute) → (k < after κ k → s k ≡ t k)
+      → evalStep (attributeBy n s) κ m k l ≡ evalStep (attributeBy n t) κ m k l
+  step-same (Atom lo hi) m k l e = rw (e (omega arith))
+  step-same (Group g c) m k l e = refl
+
+  eval-same : (l : List Node) (k : ℕ) → ((j : ℕ) → k ≤ j → j < number l k → s j ≡ t j)
+      → eval (attributeBy n s) l k ≡ eval (attributeBy n t) l k
+  eval-same [] k h = refl
+  eval-same (x ∷ l) k h =
+      let a = number-range l (after (x .kind) k) in
+      rw (eval-same l (after (x .kind) k) (λ j b c. h j (omega (arith, after-from (x .kind) k)) c))
+      (step-same (x .kind) (x .mark) k (eval (attributeBy n t) l (after (x .kind) k)) (λ b. h k (omega arith) (omega arith)))
+
+-- no number is foreign just if 0 is none of them
+over-known : (p : Names) (m : ℕ) → ((x : ℕ) → (p x ≡ true) ↔ ((1 ≤ x) × (x ≤ m))) → (w : Word) → upto m w ≡ true
+    → over? p w ≡ eqb (count 0 w) 0
+unfolding over? keep only
+over-known p m f [] h = refl
+over-known p m f (x ∷ w) h =
+    let (a, b) = and-eq-true-iff (leb x m) (upto m w) .0 h in
+    by-cases (decLt 0 x)
+    (λ l. rw (f x .1 (l, leb-true x m a), ne-eqb x 0 (λ e. omega arith)) (over-known p m f w b))
+    (λ l. let n : p x ≡ false = by-test (p x) (λ e. absurd (omega (arith, f x .0 e))) (λ e. e) in
+    rw (n, eq-eqb x 0 (omega arith)) (sym (ne-eqb (suc (count 0 w)) 0 (λ e. omega arith))))
+
+-- of a rule that is a model's
+module _ (t : Model) (f : Fits t) (w : Word) where
+  root-model : rootAttribute (ruleOf t) (length w) (seen w) ≡ attributeOf (typeOf t) w
+  root-model =
+      let n = length w in
+      let s = seen w in
+      let e = eval-map typeBy (attributeBy n s) (attribute n s) (attribute-atom n s) (attribute-group n s) (attribute-mark n s) (used (ruleOf t)) 1 in
+      ap (λ l. getD l 0 (emptyAttribute n)) (sym e ∙ ap (map (attribute n s)) (rule-eval typeBy t 1))
+      ∙ attribute-is (typeOf t) (type-conflict-free t f) w
+
+  verdict-model : upto (names (ruleOf t)) w ≡ true → seenVerdict (ruleOf t) (length w) (seen w) ≡ verdict (typeOf t) w
+  unfolding verdict holds? extends?
+  verdict-model h =
+      rw (over-known (symbols (typeOf t)) (atoms t) (type-symbols t f) w (rw (names-model t) at h), root-model)
+      (unfold seen attributeOf in refl)
+
+pub verdict-seen : (r : Rule) → readable r ≡ true → (w : Word) → upto (names r) w ≡ true → (s : ℕ → Seen)
+    → ((k : ℕ) → k ≤ names r → s k ≡ seen w k) → seenVerdict r (length w) s ≡ verdict (ruleType r) w
+verdict-seen r e w h s g =
+    let v = readable-formed r e in
+    let t = v .model in
+    let a = eval-same (length w) s (seen w) (used r) 1 (λ j b c. g j (omega (arith, number-from (used r) 1, names-number (used r)))) in
+    let b : seenVerdict r (length w) (seen w) ≡ verdict (ruleType r) w =
+    rw (v .rule-is, rule-type t) (verdict-model t (v .formed) w (rw (v .rule-is) at h)) in
+    rw (a, g 0 (omega arith)) b

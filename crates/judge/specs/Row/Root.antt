@@ -1,0 +1,170 @@
+-- The second pass over a row: what it knows behind each node, and at its end of the first.
+use mathlib.Core.Path.{_≡_, refl, sym, ap, _∙_}
+use mathlib.Core.Logic.{by-cases}
+use mathlib.Core.Bool.{Bool, cond}
+use mathlib.Core.List.{List, [], _∷_, _++_}
+use Prim.Native.Nat.{ℕ, zero, suc, _+_, _-_, _≤_, _<_, min}
+use native.Mathlib.Nat.{add-comm}
+use native.Mathlib.Decide.{decLt}
+use native.Mathlib.Omega.{arith}
+use lib.Dec.{eqb}
+use borrow.Author.Tests.{eq-eqb, ne-eqb}
+use lib.ListN.{length, take, drop, getD, set, length-set, length-drop, drop-of-length-le}
+use lib.Seq.{take-suc, drop-cons, take-all, getD-drop, length-take-le}
+use Rattle.model.specs.declared.rule.Upper.{Upper}
+use Rattle.model.specs.declared.rule.Mark.{Mark}
+use Rattle.model.specs.declared.rule.Kind.{Kind}
+use Rattle.model.specs.declared.rule.Kind.the-variants.{Atom, Group}
+use Rattle.model.specs.declared.rule.Node.{Node}
+use Rattle.model.specs.declared.rule.Rule.{Rule}
+use Rattle.judge.specs.declared.row.Seen.{Seen}
+use Rattle.judge.specs.declared.row.Attribute.{Attribute}
+use Rattle.fields.specs.Limits.{maxNodes}
+use Rattle.fields.specs.Stack.{drop-back, first-entries, replaced}
+use Rattle.model.specs.Types.{Operator}
+use Rattle.judge.specs.Row.Attribute.{emptyAttribute, atomAttribute, pairAttribute, countedAttribute, markedAttribute, joinedAttributeFrom, joinedAttribute, attributeBy}
+use Rattle.model.specs.Model.{operator}
+use Rattle.model.specs.Model.Eval.{after, needed, evalStep, eval, number, number-next, after-from}
+use Rattle.model.specs.Rule.{atomsIn}
+use Rattle.model.specs.Rule.{ruleWith}
+use Rattle.judge.specs.Reading.Buffer.{Stores, holds-count, holds-at}
+use Rattle.judge.specs.Packed.{nodeIn}
+use Rattle.model.specs.Rule.Laws.{used, used-with}
+use Rattle.model.specs.Rule.Names.{names-number}
+
+-- of the first node of a rule, in a row of n children
+abbrev pub rootAttribute : Rule → ℕ → (ℕ → Seen) → Attribute
+rootAttribute r n s = getD (eval (attributeBy n s) (used r) 1) 0 (emptyAttribute n)
+
+-- of an atom, by what is seen of its name, or of a group, by some first of its members
+unfoldable pub partAttribute : ℕ → Kind → Seen → List Attribute → Attribute
+partAttribute n (Atom lo hi) x l = countedAttribute n lo hi x
+partAttribute n (Group s m) x l = joinedAttribute n (operator s) l
+
+-- a member more, which may be the first
+unfoldable pub grownAttribute : Kind → Bool → Attribute → Attribute → Attribute
+grownAttribute (Atom lo hi) b x y = x
+grownAttribute (Group s m) b x y = cond b y (pairAttribute (operator s) x y)
+
+pub counted-from : (n m : ℕ) (k : Upper) (x : Seen) → ¬ (m ≡ 0) → countedAttribute n m k x ≡ atomAttribute m k x
+counted-from n zero k x h = absurd (h refl)
+counted-from n (suc m) k x h = refl
+
+-- The loop over a group's members.
+joined-more : (o : Operator) (x : Attribute) (l : List Attribute) (y : Attribute)
+    → joinedAttributeFrom o x (l ++ (y ∷ [])) ≡ pairAttribute o (joinedAttributeFrom o x l) y
+joined-more o x [] y = refl
+joined-more o x (z ∷ l) y = joined-more o (pairAttribute o x z) l y
+
+part-more : (n : ℕ) (κ : Kind) (z : Seen) (l : List Attribute) (y : Attribute)
+    → partAttribute n κ z (l ++ (y ∷ [])) ≡ grownAttribute κ (eqb (length l) 0) (partAttribute n κ z l) y
+unfolding partAttribute grownAttribute
+part-more n (Atom lo hi) z l y = refl
+part-more n (Group s m) z [] y = refl
+part-more n (Group s m) z (x ∷ l) y =
+    let e = ne-eqb (suc (length l)) 0 (λ f. omega arith) in rw e (joined-more (operator s) x l y)
+
+pub part-none : (n : ℕ) (κ : Kind) (z : Seen) (stack : List Attribute) (top : ℕ) (r : Attribute) → r ≡ partAttribute n κ z []
+    → r ≡ partAttribute n κ z (take (top - top) (drop top stack))
+part-none n κ z stack top r e = let j : top - top ≡ 0 = omega arith in rw j e
+
+first-test : (top at : ℕ) → top ≤ at → eqb at top ≡ eqb (at - top) 0
+first-test top at h =
+    by-cases (decLt top at)
+    (λ l. ne-eqb at top (λ e. omega arith) ∙ sym (ne-eqb (at - top) 0 (λ e. omega arith)))
+    (λ l. eq-eqb at top (omega arith) ∙ sym (eq-eqb (at - top) 0 (omega arith)))
+
+pub part-turn : (n : ℕ) (κ : Kind) (z : Seen) (stack : List Attribute) (top at : ℕ) (d x r : Attribute) → top ≤ at → at < length stack
+    → r ≡ grownAttribute κ (eqb at top) x (getD stack at d) → x ≡ partAttribute n κ z (take (at - top) (drop top stack))
+    → r ≡ partAttribute n κ z (take (at + 1 - top) (drop top stack))
+part-turn n κ z stack top at d x r h k e f =
+    let l = drop top stack in
+    let j : at + 1 - top ≡ suc (at - top) = omega arith in
+    let p : top + (at - top) ≡ at = omega arith in
+    let q : at - top < length l = rw length-drop (omega arith) in
+    let m : length (take (at - top) l) ≡ at - top = length-take-le (at - top) l (omega arith) in
+    rw (j, take-suc l (at - top) d q, getD-drop top stack (at - top) d, p)
+    (rw (part-more n κ z (take (at - top) l) (getD stack at d), m, ← first-test top at h, ← f) e)
+
+-- The loop over the nodes. A node on the stack of what stands behind it, where k names stand before the node.
+attribute-step : (n : ℕ) (s : ℕ → Seen) (κ : Kind) (m : Mark) (k : ℕ) (l : List Attribute)
+    → markedAttribute n m (partAttribute n κ (s (after κ 0 + k)) (take (needed κ) l)) ∷ drop (needed κ) l
+    ≡ evalStep (attributeBy n s) κ m (k + 1) l
+unfolding partAttribute
+attribute-step n s (Atom lo hi) m k l = rw (add-comm 1 k)
+attribute-step n s (Group g c) m k l = refl
+
+-- behind node i of l: the attributes of the trees from it on, and how many names stand before it
+pub record Evaluated (n : ℕ) (s : ℕ → Seen) (l : List Node) (i : ℕ) (stack : List Attribute) (top name : ℕ) : Type 0 where
+  pub long : length stack ≡ maxNodes
+  pub name-is : name ≡ number (take i l) 0
+  pub stack-is : drop top stack ≡ eval (attributeBy n s) (drop i l) (name + 1)
+
+-- the nodes l are held as numbers
+module _ (words : List ℕ) (len : ℕ) (l : List Node) (h : Stores nodeIn maxNodes words len l) where
+  size-is : length l ≡ len
+  size-is = holds-count nodeIn maxNodes words len l h
+
+  -- the node x that stands before place i
+  module _ (i : ℕ) (x : Node) (a : 0 < i) (b : i ≤ len) (e : x ≡ nodeIn (getD words (i - 1) 0)) where
+    node-is : x ≡ getD l (i - 1) (nodeIn 0)
+    node-is = e ∙ holds-at nodeIn maxNodes words len l h (i - 1) (omega arith)
+
+    -- the names before it
+    module _ (name ones : ℕ) (m : name ≡ number (take i l) 0) (o : ones ≡ after (x .kind) 0) where
+      name-before : name ≡ after (x .kind) 0 + number (take (i - 1) l) 0
+      name-before =
+          let j : i - 1 + 1 ≡ i = omega arith in
+          rw node-is
+          (m ∙ (rw j at (number-next l (i - 1) 0 (nodeIn 0) (omega (arith, size-is))))
+          ∙ after-from (getD l (i - 1) (nodeIn 0) .kind) (number (take (i - 1) l) 0))
+
+      pub name-turn : ones ≤ name
+      name-turn = omega (arith, name-before)
+
+    -- a turn, with what its calls gave
+    module _ (n : ℕ) (s : ℕ → Seen) where
+      pub pass-turn : (stack : List Attribute) (top name members clipped ones : ℕ) (y z : Attribute) → 0 < top → top ≤ maxNodes
+          → members ≡ needed (x .kind) → clipped ≡ min members (maxNodes - top) → ones ≡ after (x .kind) 0
+          → y ≡ partAttribute n (x .kind) (s name) (take (clipped + top - top) (drop top stack))
+          → z ≡ markedAttribute n (x .mark) y
+          → Evaluated n s l i stack top name
+          → Evaluated n s l (i - 1) (set stack (clipped + top - 1) z) (clipped + top - 1) (name - ones)
+      pass-turn stack top name members clipped ones y z p q c r o f g t =
+          let κ = x .kind in
+          let k = number (take (i - 1) l) 0 in
+          let u : clipped + top ≡ min (needed κ) (maxNodes - top) + top = rw (r, c) in
+          let m : name ≡ after κ 0 + k = name-before name ones (t .name-is) o in
+          let v : name - ones ≡ k = omega arith in
+          let w : after κ (k + 1) ≡ name + 1 = omega (arith, after-from κ (k + 1)) in
+          record {
+            long = rw length-set (t .long);
+            name-is = v;
+            stack-is =
+                replaced stack maxNodes top (needed κ) (clipped + top) (t .long) q u z p
+                ∙ rw (v, drop-back l i (nodeIn 0) a (omega (arith, size-is)), ← node-is, w, ← t .stack-is, g, f)
+                (rw (first-entries stack maxNodes top (needed κ) (clipped + top) (t .long) q u, m)
+                (attribute-step n s κ (x .mark) k (drop top stack)));
+          }
+
+  pub pass-none : (n : ℕ) (s : ℕ → Seen) (stack : List Attribute) (name : ℕ) → length stack ≡ maxNodes → name ≡ atomsIn l
+      → Evaluated n s l len stack maxNodes name
+  pass-none n s stack name e f =
+      let j : length l ≤ len = omega (arith, size-is) in
+      record {
+        long = e;
+        name-is = rw (take-all len l j) (f ∙ names-number l);
+        stack-is = rw (drop-of-length-le stack {i = maxNodes} (omega arith), drop-of-length-le l {i = len} j);
+      }
+
+-- the end of the loop
+module _ (n : ℕ) (s : ℕ → Seen) (l : List Node) (i : ℕ) (stack : List Attribute) (top name : ℕ) (e : i ≡ 0)
+    (t : Evaluated n s l i stack top name) where
+  root-is : rootAttribute (ruleWith l) n s ≡ getD (drop top stack) 0 (emptyAttribute n)
+  root-is = rw (used-with l) (sym (ap (λ r. getD r 0 (emptyAttribute n)) (rw (t .name-is, e) at (t .stack-is))))
+
+  pub pass-top : (d : Attribute) → top < maxNodes → getD stack top d ≡ rootAttribute (ruleWith l) n s
+  pass-top d h = let k : top < length stack = omega (arith, t .long) in rw (root-is, drop-cons stack top d k)
+
+  pub pass-empty : maxNodes ≤ top → emptyAttribute n ≡ rootAttribute (ruleWith l) n s
+  pass-empty h = rw (root-is, drop-of-length-le stack {i = top} (omega (arith, t .long)))

@@ -1,0 +1,151 @@
+// What a model text reads into: its rule, and its names as places in the text.
+
+ghost use mathlib.Core.Path.{_≡_};
+ghost use mathlib.Core.List.{[], _∷_, map};
+ghost use Prim.Native.Nat.{_+_, _≤_, _<_};
+ghost use lib.ListN.{length, take};
+ghost use Rattle.model.specs.Rule.{ruleWith};
+ghost use Rattle.judge.specs.Reading.{namesWith, refusal, reading, partsOf};
+ghost use Rattle.judge.specs.Packed.{nodeIn, placeOf};
+ghost use Rattle.model.specs.Rule.{unused};
+ghost use Rattle.model.specs.Syntax.{numberIn};
+use crate::packed::unpacked;
+use crate::reader::Got;
+use crate::reader::read_whole;
+use crate::table::SLOTS;
+use fields::bytes::same_bytes;
+use fields::limits::lesser;
+use model::fault::ModelFault;
+use model::rule::Kind;
+use model::rule::MAX_ATOMS;
+use model::rule::MAX_NODES;
+use model::rule::Mark;
+use model::rule::NameNumber;
+use model::rule::Node;
+use model::rule::Rule;
+use model::rule::Sign;
+
+// Where a name stands in the text.
+pub struct NamePlace {
+    pub start: u16,
+    pub len: u16,
+}
+
+// The names of a model, in the order written. Places from len on hold zeros.
+pub struct Names {
+    pub places: [NamePlace; MAX_ATOMS],
+    pub len: usize,
+}
+
+pub enum Outcome {
+    Read,
+    Refused(ModelFault, usize),
+}
+
+// A refused reading has the rule of `()` and no names.
+pub struct Reading {
+    pub outcome: Outcome,
+    pub rule: Rule,
+    pub names: Names,
+}
+
+fn no_rule() -> Rule
+    ensures { λ r. ⌜ r ≡ ruleWith (unused ∷ []) ⌝ }
+{
+    let node = Node {
+        kind: Kind::Group {
+            sign: Sign::None,
+            members: 0,
+        },
+        mark: Mark::Plain,
+    };
+    Rule {
+        nodes: [node; MAX_NODES],
+        len: 1,
+    }
+}
+
+fn no_names() -> Names
+    ensures { λ r. ⌜ r ≡ namesWith [] ⌝ }
+{
+    let none = NamePlace { start: 0, len: 0 };
+    Names {
+        places: [none; MAX_ATOMS],
+        len: 0,
+    }
+}
+
+fn refused(f: ModelFault, p: usize) -> Reading
+    ensures { λ r. ⌜ r ≡ refusal f p ⌝ }
+{
+    Reading {
+        outcome: Outcome::Refused(f, p),
+        rule: no_rule(),
+        names: no_names(),
+    }
+}
+
+fn rule_of(work: &[u64; MAX_NODES], len: usize) -> Rule
+    requires { ⌜ (len ≤ 128) × (length (now work) ≡ 128) ⌝ }
+    ensures { λ r. ⌜ r ≡ ruleWith (map nodeIn (take len (now (work .entry)))) ⌝ }
+{
+    let mut rule = no_rule();
+    let mut i: usize = 0;
+    while i < len {
+        rule.nodes[i] = unpacked(work[i]);
+        i += 1;
+    }
+    rule.len = len;
+    rule
+}
+
+fn names_of(words: &[u32; MAX_ATOMS], len: usize) -> Names
+    requires { ⌜ (len ≤ 64) × (length (now words) ≡ 64) ⌝ }
+    ensures { λ r. ⌜ r ≡ namesWith (map placeOf (take len (now (words .entry)))) ⌝ }
+{
+    let mut names = no_names();
+    let mut i: usize = 0;
+    while i < len {
+        names.places[i] = NamePlace {
+            start: (words[i] / 65536 % 65536) as u16,
+            len: (words[i] / 256 % 256) as u16,
+        };
+        i += 1;
+    }
+    names.len = len;
+    names
+}
+
+pub fn read_model(text: &[u8]) -> Reading
+    ensures { λ r. ⌜ r ≡ reading (now (text .entry)) ⌝ }
+{
+    let mut work = [0u64; MAX_NODES];
+    let mut names = [0u32; MAX_ATOMS];
+    let mut heads = [0u8; SLOTS];
+    match read_whole(text, &mut work, &mut names, &mut heads) {
+        Got::Past(past) => Reading {
+            outcome: Outcome::Read,
+            rule: rule_of(&work, past.nodes),
+            names: names_of(&names, past.names),
+        },
+        Got::Fault(f, p) => refused(f, p),
+    }
+}
+
+// The number of a name: from 1, of the first place whose part of the text is that name; 0 where there is none.
+pub fn number_of(text: &[u8], names: Names, name: &[u8]) -> NameNumber
+    ensures { λ r. ⌜ r .0 ≡ numberIn (partsOf (now (text .entry)) names) (now (name .entry)) ⌝ }
+{
+    let n = lesser(names.len, MAX_ATOMS);
+    let mut i: usize = 0;
+    while i < n {
+        let place = names.places[i];
+        let start = lesser(place.start as usize, text.len());
+        let end = lesser(place.start as usize + place.len as usize, text.len());
+        if same_bytes(&text[start..end], name) {
+            return NameNumber((i + 1) as u16);
+        }
+        i += 1;
+    }
+    NameNumber(0)
+}
