@@ -9,8 +9,7 @@ use lib.Dec.{T}
 use lib.ListN.{length, take, drop, getD}
 use Rattle.fields.specs.Bytes.{Text}
 use Rattle.model.specs.Syntax.{Syntax, writtenNames, numberIn}
-use Rattle.model.specs.Fault.{nameAt, nameFrom}
-use Rattle.model.specs.Fault.Ties.{places}
+use Rattle.model.specs.Fault.{nameAt, nameFrom, places}
 use Rattle.desk.specs.declared.child.Located.{Located}
 use Rattle.desk.specs.declared.child.Located.the-variants.{InModel, InChildren, ModelRefused, ChildrenRefused}
 use Rattle.judge.specs.Reply.{childrenIn, child, Reply, modelRefused, childrenRefused, good, Replies, reply}

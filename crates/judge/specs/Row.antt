@@ -15,9 +15,12 @@ use Rattle.judge.specs.declared.verdict.Judged.{Judged}
 use Rattle.judge.specs.declared.verdict.Judged.the-variants.{Verdict, Refused}
 use Rattle.model.specs.Word.{Word}
 use Rattle.model.specs.Types.{Ty}
-use Rattle.model.specs.Verdict.{Says}
-use Rattle.model.specs.Rule.{Readable, Means, names}
+use Rattle.model.specs.Verdict.{Says, verdict}
+use Rattle.model.specs.Rule.{Readable, Means, names, ruleType}
 use Rattle.fields.specs.Limits.{maxRow}
+use mathlib.Core.Bool.{Bool, true, cond, _&&_}
+use lib.Dec.{leb}
+use Rattle.model.specs.Check.{readable}
 
 -- document 01's numbers
 abbrev pub judgeNumber : JudgeFault → ℕ
@@ -42,3 +45,13 @@ Judges r w (Refused UnknownName) = Readable r × (length w ≤ maxRow) × (¬ Up
 Judges r w (Refused NoRoom) = ⊥
 Judges r w (Refused NothingToTakeBack) = ⊥
 Judges r w (Verdict v) = (A : Ty) × Means r A × (length w ≤ maxRow) × Upto (names r) w × Says A w v
+
+abbrev pub upto : ℕ → Word → Bool
+upto n [] = true
+upto n (x ∷ w) = leb x n && upto n w
+
+unfoldable pub judged : Rule → Word → Judged
+judged r w =
+    cond (readable r)
+    (cond (leb (length w) maxRow) (cond (upto (names r) w) (Verdict (verdict (ruleType r) w)) (Refused UnknownName)) (Refused LongRow))
+    (Refused Unreadable)

@@ -6,7 +6,7 @@ ghost use lib.Dec.{T};
 ghost use lib.ListN.{length};
 ghost use Rattle.model.specs.declared.rule.Kind.the-variants.{Atom, Group};
 ghost use Rattle.fields.specs.Limits.{maxNodes};
-ghost use Rattle.model.specs.Rule.Laws.{used};
+ghost use Rattle.model.specs.Rule.{used};
 ghost use Rattle.judge.specs.Reading.Buffer.{Stores};
 ghost use Rattle.judge.specs.Packed.{packedWord, nodeIn, plainNode, optionalNode, isSign, signBy, kindBy, markBy};
 use model::rule::Kind;

@@ -13,8 +13,8 @@ use Rattle.sessions.specs.Book.Laws.{keeps-once}
 use Rattle.sessions.specs.Session.{Trail, outcome, asked}
 use Rattle.sessions.specs.Refusal.{Tried, Asks}
 use Rattle.sessions.specs.Refusal.Laws.{outcome-is, asked-is}
-use Rattle.sessions.specs.Session.Calls.{World, plays, replyTo, worldAfter, repliesTo, shown}
-use Rattle.sessions.specs.Session.Theorem.{agrees-with-book}
+use Rattle.sessions.specs.Calls.{World, plays, replyTo, worldAfter, repliesTo, shown}
+use Rattle.sessions.specs.Calls.Theorem.{agrees-with-book}
 
 -- Demand 1, sessions: a call of any session with any trail is refused just as the table says, and asking is else answered by the meaning.
 pub refused-exactly : (s : Session) (t : Trail) (q : Call) (o : Outcome) → (outcome q s t ≡ o) ↔ Tried s t q o

@@ -7,3 +7,4 @@ pub mod Ends
 pub mod Book
 pub mod Refusal
 pub mod Session
+pub mod Calls

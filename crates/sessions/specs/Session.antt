@@ -2,9 +2,6 @@
 -- The methods of src/session.rt promise just this, of any session and any trail.
 pub mod Laws
 pub mod Code
-pub mod Calls
-pub mod Agree
-pub mod Theorem
 use mathlib.Core.Path.{_≡_}
 use mathlib.Core.Bool.{Bool, true, cond, _&&_}
 use mathlib.Core.List.{List, [], _∷_}
@@ -19,10 +16,10 @@ use Rattle.sessions.specs.declared.session.Session.{Session}
 use Rattle.sessions.specs.declared.session.Step.{Step}
 use Rattle.judge.specs.declared.verdict.Judged.{Judged}
 use Rattle.judge.specs.declared.verdict.Judged.the-variants.{Verdict, Refused as RefusedRow}
-use Rattle.model.specs.Verdict.Laws.{verdict}
-use Rattle.model.specs.Rule.{names}
-use Rattle.model.specs.Rule.Decide.{readable, ruleType}
-use Rattle.judge.specs.Row.Laws.{upto}
+use Rattle.model.specs.Verdict.{verdict}
+use Rattle.model.specs.Rule.{names, ruleType}
+use Rattle.model.specs.Check.{readable}
+use Rattle.judge.specs.Row.{upto}
 use Rattle.sessions.specs.Book.{Call, opening, adding, takingBack, asking, room}
 
 -- the places of a trail

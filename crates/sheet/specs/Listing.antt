@@ -7,13 +7,12 @@ use lib.Dec.{leb}
 use lib.ListN.{length, drop, getD}
 use Rattle.model.specs.declared.verdict.Verdict.{Verdict}
 use Rattle.model.specs.declared.verdict.Verdict.the-variants.{Complete as IsComplete, Open as IsOpen, Dead as IsDead}
-use Rattle.fields.specs.Bytes.{Text, bytes}
-use Rattle.fields.specs.Bytes.Numeral.{digits}
+use Rattle.fields.specs.Bytes.{Text, bytes, digits}
 use Rattle.model.specs.Syntax.{writtenNames, numberIn}
 use Rattle.model.specs.Fault.{Answer, refused, accepted}
-use Rattle.model.specs.Fault.Answered.{answer}
+use Rattle.model.specs.Answer.{answer}
 use Rattle.model.specs.Model.{modelOf, typeOf}
-use Rattle.model.specs.Verdict.Laws.{verdict}
+use Rattle.model.specs.Verdict.{verdict}
 use Rattle.fields.specs.Split.{lineFeed, tab, lines, field}
 use Rattle.fields.specs.Children.{cueNumber}
 use Rattle.judge.specs.Named.{rowOf}

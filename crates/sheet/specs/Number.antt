@@ -7,7 +7,7 @@ use lib.Dec.{ltb}
 use lib.ListN.{length, length-append}
 use borrow.Author.Tests.{lt-ltb, le-ltb}
 use Rattle.fields.specs.Tests.{by-test}
-use Rattle.fields.specs.Bytes.Numeral.{decimal, digits}
+use Rattle.fields.specs.Bytes.{decimal, digits}
 
 decimal-room : (r n : ℕ) → n < 10 ^ suc r → decimal (suc (suc r)) n ≡ decimal (suc r) n
 decimal-room zero n h = rw (lt-ltb n 10 (omega arith))

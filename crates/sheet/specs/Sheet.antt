@@ -13,7 +13,7 @@ use Rattle.fields.specs.Limits.{maxFile}
 use Rattle.judge.specs.declared.reading.NamePlace.{NamePlace}
 use Rattle.fields.specs.Bytes.{Text, bytes, sameText}
 use Rattle.model.specs.Fault.{Answer, refused, accepted, modelNumber}
-use Rattle.model.specs.Fault.Answered.{answer}
+use Rattle.model.specs.Answer.{answer}
 use Rattle.judge.specs.Reading.{noPlace, namesWith, reading}
 use Rattle.fields.specs.Split.{lines, behind, fields, field}
 use Rattle.fields.specs.Children.{shortName}

@@ -18,9 +18,9 @@ use Rattle.judge.specs.declared.reading.Outcome.the-variants.{Read, Refused as 
 use Rattle.judge.specs.declared.reading.Reading.{Reading}
 use Rattle.fields.specs.Bytes.{Text}
 use Rattle.model.specs.Syntax.{Syntax, writtenNames, numberIn}
-use Rattle.model.specs.Fault.{modelNumber, Answer, Answers, refused, accepted}
-use Rattle.model.specs.Fault.Answered.{answer, answered, name-inside}
-use Rattle.model.specs.Fault.Ties.{places}
+use Rattle.model.specs.Fault.{modelNumber, Answer, Answers, refused, accepted, places}
+use Rattle.model.specs.Answer.{answer, answered}
+use Rattle.model.specs.Fault.Answered.{name-inside}
 use Rattle.judge.specs.Reading.{noPlace, namesOf, readingBy, reading, partsOf}
 use Rattle.judge.specs.Reading.Laws.{names-are}
 use Rattle.judge.specs.Reading.Search.{name-fits}

@@ -10,8 +10,7 @@ use lib.ListN.{length, getD}
 use Rattle.model.specs.declared.fault.ModelFault.the-variants.{Repeated}
 use Rattle.fields.specs.Bytes.{Text}
 use Rattle.model.specs.Syntax.{Syntax, text, writtenNames, numberIn}
-use Rattle.model.specs.Fault.{nameAt, nameFrom, tally, Answers, accepted}
-use Rattle.model.specs.Fault.Ties.{places}
+use Rattle.model.specs.Fault.{nameAt, nameFrom, tally, Answers, accepted, places}
 use Rattle.model.specs.Accept.Starts.{name-at}
 use Rattle.judge.specs.Reply.{child, Reply}
 use Rattle.judge.specs.Reply.Laws.{replies-exactly}

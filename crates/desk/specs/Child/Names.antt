@@ -7,8 +7,8 @@ use lib.Dec.{T}
 use lib.ListN.{length, getD, length-map, List·getD-append}
 use Rattle.fields.specs.Bytes.{Text}
 use Rattle.model.specs.Syntax.{Syntax, writtenNames}
-use Rattle.model.specs.Fault.{nameAt, nameFrom, Answers, accepted}
-use Rattle.model.specs.Fault.Ties.{places, in-places}
+use Rattle.model.specs.Fault.{nameAt, nameFrom, Answers, accepted, places}
+use Rattle.model.specs.Fault.Ties.{in-places}
 use Rattle.judge.specs.Reading.{namePlace, noPlace, namesOf}
 use Rattle.judge.specs.Reading.Laws.{parts-begin, names-are}
 use Rattle.judge.specs.Reading.Search.{mapped-at, in-list}

@@ -12,12 +12,10 @@ use Rattle.model.specs.declared.rule.Mark.{Mark}
 use Rattle.model.specs.declared.rule.Mark.the-variants.{Plain, Optional}
 use Rattle.judge.specs.declared.row.Seen.{Seen}
 use Rattle.judge.specs.declared.row.Attribute.{Attribute}
-use Rattle.model.specs.Word.{Word, only}
-use Rattle.model.specs.Word.Projection.{count}
-use Rattle.model.specs.Word.Order.{touched}
+use Rattle.model.specs.Word.{Word, only, count, touched}
 use Rattle.model.specs.Word.Span.{firstPlace, lastBehind, first-untouched, behind-untouched, touched-behind, ordered-span, first-either, behind-either}
 use Rattle.model.specs.Types.{Operator, choice, Ty, ε, atom, join, symbols, ConflictFree}
-use Rattle.model.specs.Types.Decide.{under, joined, begun, done, alive}
+use Rattle.model.specs.Membership.{under, joined, begun, done, alive}
 use Rattle.model.specs.Model.{Algebra, operator, joinedFrom, joinedType, typeBy}
 
 abbrev pub emptyAttribute : ℕ → Attribute

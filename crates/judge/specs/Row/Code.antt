@@ -15,17 +15,18 @@ use Rattle.model.specs.declared.verdict.Verdict.{Verdict as Said}
 use Rattle.judge.specs.declared.verdict.Judged.the-variants.{Verdict, Refused}
 use Rattle.fields.specs.Limits.{maxAtoms, maxNodes, maxRow}
 use Rattle.model.specs.Word.{Word}
-use Rattle.model.specs.Verdict.Laws.{verdictOf, verdict}
+use Rattle.model.specs.Verdict.{verdictOf, verdict}
 use Rattle.model.specs.Tree.{atoms, nodes}
 use Rattle.model.specs.Model.Laws.{length-encode}
-use Rattle.model.specs.Rule.{atomsIn, names}
-use Rattle.model.specs.Rule.Laws.{used, used-with, used-is}
+use Rattle.model.specs.Model.{atomsIn}
+use Rattle.model.specs.Rule.{names, ruleWith, ruleType, used}
+use Rattle.model.specs.Rule.Laws.{used-with, used-is}
 use Rattle.model.specs.Rule.Names.{names-model}
-use Rattle.model.specs.Rule.Decide.{readable, ruleType, readable-formed}
-use Rattle.model.specs.Rule.{ruleWith}
+use Rattle.model.specs.Check.{readable}
+use Rattle.model.specs.Check.Exact.{readable-formed}
 use Rattle.judge.specs.Reading.Buffer.{Stores}
 use Rattle.judge.specs.Packed.{nodeIn, ruleIn}
-use Rattle.judge.specs.Row.Laws.{upto, judged}
+use Rattle.judge.specs.Row.{upto, judged}
 use Rattle.judge.specs.Row.Tally.{seenOf, Tallied}
 use Rattle.judge.specs.Row.Root.{rootAttribute}
 use Rattle.judge.specs.Row.Pass.{verdict-seen}

@@ -1,6 +1,5 @@
 -- Every row has one answer, and `judged` computes it.
 use mathlib.Core.Path.{_≡_, refl, sym, ap}
-use mathlib.Core.Bool.{Bool, true, cond, _&&_}
 use mathlib.Core.List.{[], _∷_}
 use Prim.Native.Nat.{ℕ}
 use native.Mathlib.Omega.{arith}
@@ -12,25 +11,16 @@ use Rattle.judge.specs.declared.verdict.Judged.{Judged}
 use Rattle.judge.specs.declared.verdict.Judged.the-variants.{Verdict, Refused}
 use Rattle.fields.specs.Tests.{by-test, Tells, untold, fails, tells-le, tells-and}
 use Rattle.model.specs.Word.{Word}
-use Rattle.model.specs.Verdict.Laws.{verdict, verdict-says, verdict-is}
-use Rattle.model.specs.Rule.{names}
-use Rattle.model.specs.Rule.Decide.{readable, readable-is, ruleType, type-means, means-type, means-conflict-free}
-use Rattle.judge.specs.Row.{Upto, Judges}
+use Rattle.model.specs.Verdict.Laws.{verdict-says, verdict-is}
+use Rattle.model.specs.Rule.{names, ruleType}
+use Rattle.model.specs.Check.{readable}
+use Rattle.model.specs.Check.Exact.{readable-is, type-means, means-type, means-conflict-free}
+use Rattle.judge.specs.Row.{Upto, Judges, judged, upto}
 use Rattle.fields.specs.Limits.{maxRow}
-
-abbrev pub upto : ℕ → Word → Bool
-upto n [] = true
-upto n (x ∷ w) = leb x n && upto n w
 
 pub upto-tells : (n : ℕ) (w : Word) → Tells (upto n w) (Upto n w)
 upto-tells n [] = (λ e. tt, λ h. refl)
 upto-tells n (x ∷ w) = tells-and (leb x n) (upto n w) (tells-le x n) (upto-tells n w)
-
-unfoldable pub judged : Rule → Word → Judged
-judged r w =
-    cond (readable r)
-    (cond (leb (length w) maxRow) (cond (upto (names r) w) (Verdict (verdict (ruleType r) w)) (Refused UnknownName)) (Refused LongRow))
-    (Refused Unreadable)
 
 pub judges : (r : Rule) (w : Word) → Judges r w (judged r w)
 unfolding judged

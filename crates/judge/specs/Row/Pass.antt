@@ -18,21 +18,22 @@ use Rattle.judge.specs.declared.row.Seen.{Seen}
 use Rattle.judge.specs.declared.row.Attribute.{Attribute}
 use Rattle.model.specs.declared.verdict.Verdict.{Verdict}
 use Rattle.fields.specs.Tests.{by-test}
-use Rattle.model.specs.Word.{Word, Names, only}
-use Rattle.model.specs.Word.Projection.{keep, count}
+use Rattle.model.specs.Word.{Word, Names, only, keep, count}
 use Rattle.model.specs.Types.{symbols}
-use Rattle.model.specs.Types.Decide.{over?, holds?, extends?}
-use Rattle.judge.specs.Row.Attribute.{emptyAttribute, attributeBy, attribute, attribute-is, attribute-atom, attribute-group, attribute-mark, seen, attributeOf}
-use Rattle.model.specs.Verdict.Laws.{verdictOf, verdict}
+use Rattle.model.specs.Membership.{over?, holds?, extends?}
+use Rattle.judge.specs.Row.Attribute.{emptyAttribute, attributeBy, attribute, attribute-is, attribute-atom, attribute-group, attribute-mark, seen}
+use Rattle.judge.specs.Row.Attribute.{attributeOf}
+use Rattle.model.specs.Verdict.{verdictOf, verdict}
 use Rattle.model.specs.Tree.{atoms}
-use Rattle.model.specs.Model.{Model, typeBy, typeOf}
-use Rattle.model.specs.Model.Eval.{after, after-from, evalStep, eval, eval-map, number, number-from, number-range}
+use Rattle.model.specs.Model.{Model, typeBy, typeOf, after, evalStep, eval, atomsIn}
+use Rattle.model.specs.Model.Eval.{eval-map, after-is}
 use Rattle.model.specs.Model.Types.{Fits, type-conflict-free, type-symbols}
-use Rattle.model.specs.Rule.{ruleOf, names}
-use Rattle.model.specs.Rule.Laws.{used, rule-eval}
-use Rattle.model.specs.Rule.Names.{names-number, names-model}
-use Rattle.model.specs.Rule.Decide.{readable, readable-formed, ruleType, rule-type}
-use Rattle.judge.specs.Row.Laws.{upto}
+use Rattle.model.specs.Rule.{ruleOf, names, ruleType, used}
+use Rattle.model.specs.Rule.Laws.{rule-eval}
+use Rattle.model.specs.Rule.Names.{names-model}
+use Rattle.model.specs.Check.{readable}
+use Rattle.model.specs.Check.Exact.{readable-formed, rule-type}
+use Rattle.judge.specs.Row.{upto}
 use Rattle.judge.specs.Row.Root.{rootAttribute}
 
 -- by what is seen of each name in a row of n children, of foreign names under 0
@@ -47,12 +48,12 @@ module _ (n : ℕ) (s t : ℕ → Seen) where
   step-same (Atom lo hi) m k l e = rw (e (omega arith))
   step-same (Group g c) m k l e = refl
 
-  eval-same : (l : List Node) (k : ℕ) → ((j : ℕ) → k ≤ j → j < number l k → s j ≡ t j)
+  eval-same : (l : List Node) (k : ℕ) → ((j : ℕ) → k ≤ j → j < k + atomsIn l → s j ≡ t j)
       → eval (attributeBy n s) l k ≡ eval (attributeBy n t) l k
   eval-same [] k h = refl
   eval-same (x ∷ l) k h =
-      let a = number-range l (after (x .kind) k) in
-      rw (eval-same l (after (x .kind) k) (λ j b c. h j (omega (arith, after-from (x .kind) k)) c))
+      let a = after-is (x .kind) k in
+      rw (eval-same l (after (x .kind) k) (λ j b c. h j (omega arith) (omega arith)))
       (step-same (x .kind) (x .mark) k (eval (attributeBy n t) l (after (x .kind) k)) (λ b. h k (omega arith) (omega arith)))
 
 -- no number is foreign just if 0 is none of them
@@ -88,7 +89,7 @@ pub verdict-seen : (r : Rule) → readable r ≡ true → (w : Word) → upto (n
 verdict-seen r e w h s g =
     let v = readable-formed r e in
     let t = v .model in
-    let a = eval-same (length w) s (seen w) (used r) 1 (λ j b c. g j (omega (arith, number-from (used r) 1, names-number (used r)))) in
+    let a = eval-same (length w) s (seen w) (used r) 1 (λ j b c. g j (omega arith)) in
     let b : seenVerdict r (length w) (seen w) ≡ verdict (ruleType r) w =
     rw (v .rule-is, rule-type t) (verdict-model t (v .formed) w (rw (v .rule-is) at h)) in
     rw (a, g 0 (omega arith)) b

@@ -22,15 +22,14 @@ use Rattle.judge.specs.declared.row.Attribute.{Attribute}
 use Rattle.fields.specs.Limits.{maxNodes}
 use Rattle.fields.specs.Stack.{drop-back, first-entries, replaced}
 use Rattle.model.specs.Types.{Operator}
-use Rattle.judge.specs.Row.Attribute.{emptyAttribute, atomAttribute, pairAttribute, countedAttribute, markedAttribute, joinedAttributeFrom, joinedAttribute, attributeBy}
-use Rattle.model.specs.Model.{operator}
-use Rattle.model.specs.Model.Eval.{after, needed, evalStep, eval, number, number-next, after-from}
-use Rattle.model.specs.Rule.{atomsIn}
-use Rattle.model.specs.Rule.{ruleWith}
+use Rattle.judge.specs.Row.Attribute.{emptyAttribute, atomAttribute, pairAttribute, countedAttribute, markedAttribute, joinedAttributeFrom}
+use Rattle.judge.specs.Row.Attribute.{joinedAttribute, attributeBy}
+use Rattle.model.specs.Model.{operator, after, needed, evalStep, eval, atomsIn, isAtom}
+use Rattle.model.specs.Rule.{ruleWith, used}
 use Rattle.judge.specs.Reading.Buffer.{Stores, holds-count, holds-at}
 use Rattle.judge.specs.Packed.{nodeIn}
-use Rattle.model.specs.Rule.Laws.{used, used-with}
-use Rattle.model.specs.Rule.Names.{names-number}
+use Rattle.model.specs.Rule.Laws.{used-with}
+use Rattle.model.specs.Model.Eval.{after-is, atoms-next}
 
 -- of the first node of a rule, in a row of n children
 abbrev pub rootAttribute : Rule → ℕ → (ℕ → Seen) → Attribute
@@ -88,7 +87,7 @@ part-turn n κ z stack top at d x r h k e f =
 
 -- The loop over the nodes. A node on the stack of what stands behind it, where k names stand before the node.
 attribute-step : (n : ℕ) (s : ℕ → Seen) (κ : Kind) (m : Mark) (k : ℕ) (l : List Attribute)
-    → markedAttribute n m (partAttribute n κ (s (after κ 0 + k)) (take (needed κ) l)) ∷ drop (needed κ) l
+    → markedAttribute n m (partAttribute n κ (s (isAtom κ + k)) (take (needed κ) l)) ∷ drop (needed κ) l
     ≡ evalStep (attributeBy n s) κ m (k + 1) l
 unfolding partAttribute
 attribute-step n s (Atom lo hi) m k l = rw (add-comm 1 k)
@@ -97,7 +96,7 @@ attribute-step n s (Group g c) m k l = refl
 -- behind node i of l: the attributes of the trees from it on, and how many names stand before it
 pub record Evaluated (n : ℕ) (s : ℕ → Seen) (l : List Node) (i : ℕ) (stack : List Attribute) (top name : ℕ) : Type 0 where
   pub long : length stack ≡ maxNodes
-  pub name-is : name ≡ number (take i l) 0
+  pub name-is : name ≡ atomsIn (take i l)
   pub stack-is : drop top stack ≡ eval (attributeBy n s) (drop i l) (name + 1)
 
 -- the nodes l are held as numbers
@@ -111,13 +110,12 @@ module _ (words : List ℕ) (len : ℕ) (l : List Node) (h : Stores nodeIn maxNo
     node-is = e ∙ holds-at nodeIn maxNodes words len l h (i - 1) (omega arith)
 
     -- the names before it
-    module _ (name ones : ℕ) (m : name ≡ number (take i l) 0) (o : ones ≡ after (x .kind) 0) where
-      name-before : name ≡ after (x .kind) 0 + number (take (i - 1) l) 0
+    module _ (name ones : ℕ) (m : name ≡ atomsIn (take i l)) (o : ones ≡ isAtom (x .kind)) where
+      name-before : name ≡ isAtom (x .kind) + atomsIn (take (i - 1) l)
       name-before =
           let j : i - 1 + 1 ≡ i = omega arith in
           rw node-is
-          (m ∙ (rw j at (number-next l (i - 1) 0 (nodeIn 0) (omega (arith, size-is))))
-          ∙ after-from (getD l (i - 1) (nodeIn 0) .kind) (number (take (i - 1) l) 0))
+          (m ∙ (rw j at (atoms-next l (i - 1) (nodeIn 0) (omega (arith, size-is)))))
 
       pub name-turn : ones ≤ name
       name-turn = omega (arith, name-before)
@@ -125,18 +123,18 @@ module _ (words : List ℕ) (len : ℕ) (l : List Node) (h : Stores nodeIn maxNo
     -- a turn, with what its calls gave
     module _ (n : ℕ) (s : ℕ → Seen) where
       pub pass-turn : (stack : List Attribute) (top name members clipped ones : ℕ) (y z : Attribute) → 0 < top → top ≤ maxNodes
-          → members ≡ needed (x .kind) → clipped ≡ min members (maxNodes - top) → ones ≡ after (x .kind) 0
+          → members ≡ needed (x .kind) → clipped ≡ min members (maxNodes - top) → ones ≡ isAtom (x .kind)
           → y ≡ partAttribute n (x .kind) (s name) (take (clipped + top - top) (drop top stack))
           → z ≡ markedAttribute n (x .mark) y
           → Evaluated n s l i stack top name
           → Evaluated n s l (i - 1) (set stack (clipped + top - 1) z) (clipped + top - 1) (name - ones)
       pass-turn stack top name members clipped ones y z p q c r o f g t =
           let κ = x .kind in
-          let k = number (take (i - 1) l) 0 in
+          let k = atomsIn (take (i - 1) l) in
           let u : clipped + top ≡ min (needed κ) (maxNodes - top) + top = rw (r, c) in
-          let m : name ≡ after κ 0 + k = name-before name ones (t .name-is) o in
+          let m : name ≡ isAtom κ + k = name-before name ones (t .name-is) o in
           let v : name - ones ≡ k = omega arith in
-          let w : after κ (k + 1) ≡ name + 1 = omega (arith, after-from κ (k + 1)) in
+          let w : after κ (k + 1) ≡ name + 1 = omega (arith, after-is κ (k + 1)) in
           record {
             long = rw length-set (t .long);
             name-is = v;
@@ -153,7 +151,7 @@ module _ (words : List ℕ) (len : ℕ) (l : List Node) (h : Stores nodeIn maxNo
       let j : length l ≤ len = omega (arith, size-is) in
       record {
         long = e;
-        name-is = rw (take-all len l j) (f ∙ names-number l);
+        name-is = rw (take-all len l j) f;
         stack-is = rw (drop-of-length-le stack {i = maxNodes} (omega arith), drop-of-length-le l {i = len} j);
       }
 

@@ -13,13 +13,11 @@ use borrow.Author.Tests.{leb-true, le-leb}
 use Rattle.judge.specs.declared.row.Seen.{Seen}
 use Rattle.fields.specs.Limits.{maxAtoms}
 use Rattle.fields.specs.Tests.{by-test}
-use Rattle.model.specs.Word.{Word, Names, only}
+use Rattle.model.specs.Word.{Word, Names, only, count, keep, touched}
 use Rattle.model.specs.Word.Laws.{only-is, only-self}
-use Rattle.model.specs.Word.Projection.{count, keep}
-use Rattle.model.specs.Word.Order.{touched}
 use Rattle.model.specs.Word.Span.{firstPlace, lastBehind, first-untouched, touched-more, count-more, first-more, behind-more}
 use Rattle.judge.specs.Row.Attribute.{seen}
-use Rattle.judge.specs.Row.Laws.{upto}
+use Rattle.judge.specs.Row.{upto}
 
 -- of a row of n children, none of which is the name
 abbrev pub unseen : ℕ → Seen

@@ -18,8 +18,9 @@ use Rattle.judge.specs.declared.verdict.Judged.the-variants.{Verdict, Refused a
 use Rattle.model.specs.Verdict.Laws.{says-once, verdict-says}
 use Rattle.model.specs.Rule.Laws.{means-once}
 use Rattle.fields.specs.Tests.{by-test, untold}
-use Rattle.model.specs.Rule.{Readable, names}
-use Rattle.model.specs.Rule.Decide.{readable, readable-is, ruleType, type-means, means-conflict-free}
+use Rattle.model.specs.Rule.{Readable, names, ruleType}
+use Rattle.model.specs.Check.{readable}
+use Rattle.model.specs.Check.Exact.{readable-is, type-means, means-conflict-free}
 use Rattle.judge.specs.Row.{judgeNumber}
 use Rattle.sessions.specs.Book.{Call, opening, adding, takingBack, asking, room}
 use Rattle.sessions.specs.Session.{Trail, intact, _then_, checked, outcome, judgedBy, asked}

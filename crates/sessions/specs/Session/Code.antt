@@ -14,10 +14,11 @@ use Rattle.sessions.specs.declared.session.Outcome.the-variants.{Done, R
 use Rattle.sessions.specs.declared.session.Session.{Session}
 use Rattle.sessions.specs.declared.session.Step.{Step}
 use Rattle.judge.specs.declared.verdict.Judged.the-variants.{Verdict, Refused as RefusedRow}
-use Rattle.model.specs.Verdict.Laws.{verdict}
-use Rattle.model.specs.Rule.{names}
-use Rattle.model.specs.Rule.Decide.{readable, ruleType}
-use Rattle.judge.specs.Row.Laws.{judged, upto, upto-tells}
+use Rattle.model.specs.Verdict.{verdict}
+use Rattle.model.specs.Rule.{names, ruleType}
+use Rattle.model.specs.Check.{readable}
+use Rattle.judge.specs.Row.{judged, upto}
+use Rattle.judge.specs.Row.Laws.{upto-tells}
 use Rattle.sessions.specs.Book.{Call, opening, adding, takingBack, room}
 use Rattle.sessions.specs.Session.{Trail, allFree, intact, check, checked, outcome, newSession, newTrail, Does, asked}
 use Rattle.sessions.specs.Session.Laws.{intact-tells, checked-done}

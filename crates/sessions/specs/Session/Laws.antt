@@ -14,7 +14,7 @@ use Rattle.sessions.specs.declared.session.Outcome.{Outcome}
 use Rattle.sessions.specs.declared.session.Outcome.the-variants.{Done, Refused}
 use Rattle.fields.specs.Tests.{Tells, tells-le, tells-and, tells-three}
 use Rattle.model.specs.Rule.{names}
-use Rattle.model.specs.Rule.Decide.{readable}
+use Rattle.model.specs.Check.{readable}
 use Rattle.judge.specs.Row.Laws.{upto-tells}
 use Rattle.sessions.specs.Refusal.{AllFree, Intact}
 use Rattle.sessions.specs.Session.{Trail, free, allFree, intact, check, _then_, checked}

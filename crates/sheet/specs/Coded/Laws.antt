@@ -18,9 +18,9 @@ use Rattle.fields.specs.Bytes.{Text}
 use Rattle.model.specs.Syntax.{numberIn}
 use Rattle.fields.specs.Bytes.Laws.{T-true}
 use Rattle.model.specs.Fault.{Answer, refused, accepted}
-use Rattle.model.specs.Fault.Answered.{answer}
+use Rattle.model.specs.Answer.{answer}
 use Rattle.model.specs.Model.{modelOf, typeOf}
-use Rattle.model.specs.Verdict.Laws.{verdict}
+use Rattle.model.specs.Verdict.{verdict}
 use Rattle.fields.specs.Limits.{maxRow, maxFile}
 use Rattle.judge.specs.Reading.{partAt, partsOf}
 use Rattle.model.specs.Syntax.Number.{number-below}
@@ -29,7 +29,8 @@ use Rattle.fields.specs.declared.fault.CueFault.{CueFault}
 use Rattle.fields.specs.declared.split.Heads.{Heads}
 use Rattle.fields.specs.Split.{lineFeed, tab, split, lines, field, part, partEnd}
 use Rattle.fields.specs.Split.Laws.{stand-start, stand-next, end-bounds, part-rest}
-use Rattle.fields.specs.Heads.{headsOf, fields-three, Three, more-none}
+use Rattle.fields.specs.Heads.{headsOf}
+use Rattle.fields.specs.Heads.Laws.{fields-three, Three, more-none}
 use Rattle.fields.specs.Children.{allNames}
 use Rattle.sheet.specs.declared.line.Said.{Said}
 use Rattle.sheet.specs.declared.line.Said.the-variants.{Complete, Open, Dead, NoSheet}

@@ -19,7 +19,7 @@ use Rattle.fields.specs.declared.fault.CueFault.the-variants.{LongFile, Unended
 use Rattle.fields.specs.declared.split.Heads.{Heads}
 use Rattle.fields.specs.Split.{tab, split, lines, behind, fields, field, part, times}
 use Rattle.fields.specs.Split.Laws.{split-count, part-rest}
-use Rattle.fields.specs.Heads.{Three}
+use Rattle.fields.specs.Heads.Laws.{Three}
 use Rattle.fields.specs.Children.{allNames}
 use Rattle.sheet.specs.declared.cues.CueLine.the-variants.{Number, Bad}
 use Rattle.sheet.specs.declared.cues.CuesRead.the-variants.{Count, Refused}

@@ -7,11 +7,11 @@ use lib.Dec.{ltb}
 use lib.ListN.{length, length-append, length-take, length-drop}
 use borrow.Author.Tests.{ltb-true, ltb-false}
 use Rattle.fields.specs.Tests.{by-test}
-use Rattle.fields.specs.Bytes.{Text}
-use Rattle.fields.specs.Bytes.Numeral.{digits}
+use Rattle.fields.specs.Bytes.{Text, digits}
 use Rattle.fields.specs.declared.split.Heads.{Heads}
 use Rattle.fields.specs.Split.{lineFeed, tab, fields, part}
-use Rattle.fields.specs.Heads.{headsOf, fields-few, fields-three, Three}
+use Rattle.fields.specs.Heads.{headsOf}
+use Rattle.fields.specs.Heads.Laws.{fields-few, fields-three, Three}
 use Rattle.sheet.specs.declared.line.Said.{Said}
 use Rattle.sheet.specs.declared.line.Said.the-variants.{Complete, Open, Dead, NoSheet}
 use Rattle.sheet.specs.Cues.{children}

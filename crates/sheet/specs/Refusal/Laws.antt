@@ -13,8 +13,8 @@ use lib.ListN.{length, take, drop, getD, length-map, List·getD-map}
 use lib.Seq.{take-suc, drop-cons, drop-length, length-take-le, getD-take}
 use borrow.Author.Tests.{leb-true, le-leb, lt-leb, leb-false, eqb-true, eqb-false, eq-eqb, not-true, not-false}
 use Rattle.fields.specs.declared.fault.CueFault.{CueFault}
-use Rattle.fields.specs.declared.fault.CueFault.the-variants.{LongFile as LongList, Unended as UnendedList, BadFields as BadCue}
-use Rattle.fields.specs.declared.fault.CueFault.the-variants.{BadNumber, NotAbove, NoName, ManyChildren, NoChild}
+use Rattle.fields.specs.declared.fault.CueFault.the-variants.{LongFile as LongList, Unended as UnendedList, BadFields as BadCue, BadNumber, NotAbove, NoName}
+use Rattle.fields.specs.declared.fault.CueFault.the-variants.{ManyChildren, NoChild}
 use Rattle.fields.specs.Tests.{by-test, Tells, tells-not, tells-or}
 use Rattle.fields.specs.Bytes.{Text, bytes, isDigit, all, value, sameText}
 use Rattle.fields.specs.Bytes.Laws.{same-text}
@@ -23,7 +23,8 @@ use Rattle.fields.specs.Split.{lines, fields, field}
 use Rattle.fields.specs.Children.{cueNumber, shortName, allNames}
 use Rattle.model.specs.declared.fault.ModelFault.{ModelFault}
 use Rattle.model.specs.Fault.{Answer, Answers, refused, accepted, modelNumber}
-use Rattle.model.specs.Fault.Answered.{answer, answered, answers-once, number-injective, number-over}
+use Rattle.model.specs.Answer.{answer, answered}
+use Rattle.model.specs.Fault.Answered.{answers-once, number-injective, number-over}
 use Rattle.model.specs.Accept.Length.{value-grows}
 use Rattle.judge.specs.Reply.Laws.{cue-injective}
 use Rattle.sheet.specs.declared.sheet.SheetFault.{SheetFault}
@@ -39,8 +40,8 @@ use Rattle.sheet.specs.Cues.{isCueNumber, children, byLine, cueLines, cu
 use Rattle.sheet.specs.Sheet.{maxRules, kind, model, among, modelFault, byFault, sheetLines, sheetOutcome}
 use Rattle.sheet.specs.Listing.{listing, byCues, bySheet, listed}
 use Rattle.sheet.specs.Refusal.{Line, line, Earlier, SheetStands, sheetRank, SheetAnswers, numberOf, CueStands, CuesAnswers, Lists}
-use Rattle.sheet.specs.Refusal.Order.{exactly, tells-no, tells-lt, tells-other, beside, long-tells, feed-tells}
-use Rattle.sheet.specs.Refusal.Order.{Place, Table, first-once, Tried, narrow, try, next-line, walk, whole}
+use Rattle.sheet.specs.Refusal.Order.{exactly, tells-no, tells-lt, tells-other, beside, long-tells, feed-tells, Place, Table, first-once, Tried, narrow}
+use Rattle.sheet.specs.Refusal.Order.{try, next-line, walk, whole}
 
 here : (x : Text) (n : ℕ) → n < length (lines x) → Line x (suc n)
 here x n h = (omega arith, omega arith)

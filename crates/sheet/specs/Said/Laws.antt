@@ -12,11 +12,12 @@ use Rattle.fields.specs.Split.{lines, field}
 use Rattle.model.specs.Syntax.{Syntax, writtenNames, numberIn}
 use Rattle.model.specs.Syntax.Number.{from-found, from-none}
 use Rattle.model.specs.Fault.{Answers, accepted}
-use Rattle.model.specs.Fault.Answered.{answer-is}
+use Rattle.model.specs.Answer.{answer-is}
 use Rattle.model.specs.Accept.Laws.{accepted-counts}
 use Rattle.model.specs.Model.{modelOf, typeOf}
 use Rattle.model.specs.Model.Types.{type-conflict-free}
-use Rattle.model.specs.Verdict.Laws.{verdict, verdict-says, verdict-is}
+use Rattle.model.specs.Verdict.{verdict}
+use Rattle.model.specs.Verdict.Laws.{verdict-says, verdict-is}
 use Rattle.judge.specs.Named.{rowOf}
 use Rattle.judge.specs.Reading.Laws.{number-of-name}
 use Rattle.sheet.specs.declared.line.Said.{Said}

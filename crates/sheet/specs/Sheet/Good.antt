@@ -11,7 +11,7 @@ use Rattle.fields.specs.Tests.{by-test}
 use Rattle.fields.specs.Bytes.{Text, sameText}
 use Rattle.model.specs.Syntax.{Syntax}
 use Rattle.model.specs.Fault.{Answer, Answers, refused, accepted}
-use Rattle.model.specs.Fault.Answered.{answer, answered}
+use Rattle.model.specs.Answer.{answer, answered}
 use Rattle.fields.specs.Split.{lines, behind}
 use Rattle.sheet.specs.declared.sheet.SheetFault.{SheetFault}
 use Rattle.sheet.specs.declared.sheet.SheetFault.the-variants.{LongFile, Unended, ManyRules}

@@ -20,12 +20,13 @@ use Rattle.fields.specs.Bytes.{Text, bytes, sameText}
 use Rattle.fields.specs.Bytes.Laws.{same-text}
 use Rattle.model.specs.Syntax.{numberFrom, numberIn}
 use Rattle.model.specs.Fault.{Answer, refused, accepted}
-use Rattle.model.specs.Fault.Answered.{answer}
+use Rattle.model.specs.Answer.{answer}
 use Rattle.judge.specs.Reading.{noPlace, namesWith, readingBy, reading, partAt, partsOf}
 use Rattle.fields.specs.declared.split.Heads.{Heads}
 use Rattle.fields.specs.Split.{tab, split, lines, behind, fields, field, part}
 use Rattle.fields.specs.Split.Laws.{split-count}
-use Rattle.fields.specs.Heads.{headsOf, fields-three, Three, more-none}
+use Rattle.fields.specs.Heads.{headsOf}
+use Rattle.fields.specs.Heads.Laws.{fields-three, Three, more-none}
 use Rattle.fields.specs.Children.{shortName}
 use Rattle.sheet.specs.declared.sheet.SheetFault.{SheetFault}
 use Rattle.sheet.specs.declared.sheet.SheetFault.the-variants.{LongFile, Unended, BadFields, NoKind, Repeated, Model}
@@ -37,7 +38,8 @@ use Rattle.sheet.specs.declared.sheet.Entry.{Entry}
 use Rattle.sheet.specs.declared.sheet.Sheet.{Sheet}
 use Rattle.sheet.specs.declared.sheet.SheetRead.{SheetRead}
 use Rattle.sheet.specs.Listing.Laws.{enough}
-use Rattle.sheet.specs.Sheet.{maxRules, kind, model, among, modelFault, lineFault, kindPlace, modelPlace, entryOf, noEntry, sheetLines, sheetWith, sheetBy, sheetRead}
+use Rattle.sheet.specs.Sheet.{maxRules, kind, model, among, modelFault, lineFault, kindPlace, modelPlace, entryOf, noEntry, sheetLines, sheetWith}
+use Rattle.sheet.specs.Sheet.{sheetBy, sheetRead}
 
 -- what is wrong with a line, its model left aside
 abbrev pub lineChecked : List Text → Text → Checked

@@ -1,6 +1,6 @@
 -- Piece behind piece.
 use mathlib.Core.Path.{sym, _∙_}
-use Rattle.fields.specs.Heads.{fields-three}
+use Rattle.fields.specs.Heads.Laws.{fields-three}
 use Rattle.sheet.specs.Cues.Laws.{children-count}
 use Rattle.sheet.specs.Listing.Laws.{enough, line-is, line-sum, word-sum}
 use Rattle.sheet.specs.Put.{put-then, put-length}

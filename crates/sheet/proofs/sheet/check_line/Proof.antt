@@ -3,7 +3,7 @@ use mathlib.Core.Path.{sym, ap, _∙_}
 use Rattle.fields.specs.Bytes.{bytes, sameText}
 use Rattle.model.specs.Syntax.{numberIn}
 use Rattle.judge.specs.Reading.{partsOf}
-use Rattle.fields.specs.Heads.{fields-few, fields-three}
+use Rattle.fields.specs.Heads.Laws.{fields-few, fields-three}
 use Rattle.fields.specs.Children.{shortName}
 use Rattle.sheet.specs.Sheet.{kind}
 use Rattle.sheet.specs.Sheet.Laws.{among-none, among-some, just-three, over-three, under-three, checked-fields, checked-word, checked-name, checked-again, checked-good}

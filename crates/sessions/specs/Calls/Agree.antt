@@ -16,13 +16,15 @@ use Rattle.sessions.specs.declared.session.Outcome.the-variants.{Done}
 use Rattle.fields.specs.Tests.{by-test, untold}
 use Rattle.model.specs.Word.{Word}
 use Rattle.model.specs.Verdict.Laws.{verdict-says}
-use Rattle.model.specs.Rule.{Readable, names}
-use Rattle.model.specs.Rule.Decide.{readable, readable-is, ruleType, type-means, means-conflict-free}
+use Rattle.model.specs.Rule.{Readable, names, ruleType}
+use Rattle.model.specs.Check.{readable}
+use Rattle.model.specs.Check.Exact.{readable-is, type-means, means-conflict-free}
 use Rattle.judge.specs.Row.{Upto}
-use Rattle.sessions.specs.Book.{Call, opening, adding, takingBack, asking, nothing, refuses, Book, book, room, Enters, no-model, opens, no-name, no-room, adds, no-children, judges}
+use Rattle.sessions.specs.Book.{Call, opening, adding, takingBack, asking, nothing, refuses, Book, book, room, Enters, no-model, opens, no-name}
+use Rattle.sessions.specs.Book.{no-room, adds, no-children, judges}
 use Rattle.sessions.specs.Book.Laws.{takes-last}
 use Rattle.sessions.specs.Session.{free, intact, checked, outcome}
-use Rattle.sessions.specs.Session.Calls.{World, plays, replyTo, shown}
+use Rattle.sessions.specs.Calls.{World, plays, replyTo, shown}
 use Rattle.sessions.specs.Refusal.{AllFree}
 use Rattle.sessions.specs.Session.Laws.{intact-tells}
 

@@ -1,5 +1,7 @@
 -- Lists of calls on one session and one trail: document 01, "Sessions". Each call gets the session that the last opening, addition or take-back
 -- handed back, refused or not, and the whole trail, which nothing else writes.
+pub mod Agree
+pub mod Theorem
 use mathlib.Core.List.{List, [], _∷_, _++_}
 use Prim.Native.Nat.{ℕ, _-_}
 use lib.ListN.{length, replicate}

@@ -5,8 +5,8 @@ use Prim.Native.Nat.{ℕ, _≤_}
 use lib.ListN.{length}
 use Rattle.model.specs.declared.rule.Rule.{Rule}
 use Rattle.sessions.specs.Book.{Call, opening, nothing, Book, book, room, Keeps, done, next}
-use Rattle.sessions.specs.Session.Calls.{World, plays, replyTo, worldAfter, repliesTo, shown}
-use Rattle.sessions.specs.Session.Agree.{Matches, agrees, done-opened}
+use Rattle.sessions.specs.Calls.{World, plays, replyTo, worldAfter, repliesTo, shown}
+use Rattle.sessions.specs.Calls.Agree.{Matches, agrees, done-opened}
 
 -- a list of calls on the world that shows a book
 keeps : (n : ℕ) (b : Book) (w : World) → Matches n b → w ≡ shown n b → (qs : List Call) →

@@ -1,0 +1,83 @@
+-- The test of a rule that one pass over its nodes can do: document 01, refusal 40. `Check.Exact` has that it holds just where some accepted model text
+-- reads into the rule.
+pub mod Laws
+pub mod Scan
+pub mod Exact
+use mathlib.Core.Bool.{Bool, true, false, _&&_}
+use mathlib.Core.List.{List, [], _∷_}
+use Prim.Native.Nat.{ℕ, _+_, max, min}
+use lib.Dec.{leb, eqb}
+use lib.ListN.{drop, length}
+use Rattle.model.specs.declared.rule.Upper.{Upper}
+use Rattle.model.specs.declared.rule.Upper.the-variants.{Number, Unbounded}
+use Rattle.model.specs.declared.rule.Sign.{Sign}
+use Rattle.model.specs.declared.rule.Sign.the-variants.{None, Sequence, Choice, Interleaving}
+use Rattle.model.specs.declared.rule.Kind.{Kind}
+use Rattle.model.specs.declared.rule.Kind.the-variants.{Atom, Group}
+use Rattle.model.specs.declared.rule.Node.{Node as RuleNode}
+use Rattle.model.specs.declared.rule.Rule.{Rule}
+use Rattle.fields.specs.Limits.{maxCount, maxDepth, maxAtoms, maxNodes}
+use Rattle.model.specs.Tree.{isPlain}
+use Rattle.model.specs.Model.{Algebra, needed, treesIn, eval, isAtom}
+use Rattle.model.specs.Rule.{used, names}
+
+abbrev pub upperFits : ℕ → Upper → Bool
+upperFits m (Number n) = leb m n && (leb 1 n && leb n maxCount)
+upperFits m Unbounded = leb m maxCount
+
+abbrev pub signFits : Sign → ℕ → Bool
+signFits None n = leb n 1
+signFits Sequence n = leb 2 n
+signFits Choice n = leb 2 n
+signFits Interleaving n = leb 2 n
+
+abbrev pub kindFits : Kind → Bool
+kindFits (Atom lo hi) = upperFits lo hi
+kindFits (Group s n) = signFits s n
+
+-- each kind fits, and no group lacks members
+abbrev pub sound : List RuleNode → Bool
+sound [] = true
+sound (x ∷ l) = leb (needed (x .kind)) (treesIn l) && kindFits (x .kind) && sound l
+
+-- the node of `()`: only no sign fits a group of no members
+abbrev pub isUnused : RuleNode → Bool
+isUnused x = eqb (isAtom (x .kind)) 0 && eqb (needed (x .kind)) 0 && kindFits (x .kind) && isPlain (x .mark)
+
+abbrev pub allUnused : List RuleNode → Bool
+allUnused [] = true
+allUnused (x ∷ l) = isUnused x && allUnused l
+
+abbrev pub highest : List ℕ → ℕ
+highest [] = 0
+highest (d ∷ l) = max d (highest l)
+
+abbrev pub deeper : ℕ → ℕ
+deeper d = min (maxDepth + 1) (d + 1)
+
+-- a node, by the greatest depth of its members
+abbrev pub depthOf : Kind → ℕ → ℕ
+depthOf (Atom lo hi) d = 0
+depthOf (Group s n) d = deeper d
+
+abbrev pub depthBy : Algebra ℕ
+depthBy = record { onAtom = λ k lo hi. 0; onGroup = λ k s l. deeper (highest l); onMark = λ m d. d }
+
+-- one tree, and no more is said of it than n
+abbrev pub oneUnder : ℕ → List ℕ → Bool
+oneUnder n [] = false
+oneUnder n (d ∷ []) = leb d n
+oneUnder n (d ∷ e ∷ l) = false
+
+-- What stands before len is the nodes of one tree, and behind it no place is used.
+abbrev pub wellFormed : Rule → Bool
+wellFormed r =
+    leb (r .len) maxNodes
+    && allUnused (drop (r .len) (r .nodes))
+    && sound (used r)
+    && oneUnder maxDepth (eval depthBy (used r) 0)
+    && leb (names r) maxAtoms
+
+-- an array of nodes has 128 places, which no code can test and a rule of the specs may break
+unfoldable pub readable : Rule → Bool
+readable r = eqb (length (r .nodes)) maxNodes && wellFormed r
