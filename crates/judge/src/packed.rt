@@ -43,7 +43,7 @@ pub(crate) fn packed_group(sign: u8, members: u16) -> u64
 
 // The number of the same node with `?`.
 pub(crate) fn packed_optional(word: u64) -> u64
-    ensures { λ r. ⌜ nodeIn r ≡ optionalNode (nodeIn packedWord) ⌝ }
+    ensures { λ r. ⌜ nodeIn r ≡ optionalNode (nodeIn word) ⌝ }
 {
     word / 256 * 256 + 128 + word % 128
 }
@@ -95,7 +95,7 @@ fn mark_of(bit: u64) -> Mark
 }
 
 pub(crate) fn unpacked(word: u64) -> Node
-    ensures { λ r. ⌜ r ≡ nodeIn packedWord ⌝ }
+    ensures { λ r. ⌜ r ≡ nodeIn word ⌝ }
 {
     Node {
         kind: kind_of(

@@ -74,7 +74,7 @@ SheetStands x Repeated n = Line x n × Earlier x n
 -- 10 to 17: the model text of the line is refused so
 SheetStands x (Model f) n = Line x n × ((p : ℕ) × Answers (model (line x n)) (refused f p))
 
--- by numberOf, then the model's own
+-- by number, then the model's own
 abbrev pub sheetRank : SheetFault → ℕ
 sheetRank LongFile = 20
 sheetRank Unended = 21
@@ -89,7 +89,7 @@ abbrev pub SheetAnswers : Text → SheetOutcome → Type 0
 SheetAnswers x Read = NoFault (SheetStands x)
 SheetAnswers x (Refused f n) = First sheetRank (SheetStands x) f n
 
--- the numberOf of a cue line
+-- the number of a cue line
 abbrev pub numberOf : Text → ℕ
 numberOf l = value (field 1 l)
 
@@ -99,9 +99,9 @@ CueStands x LongList n = Long x n
 CueStands x UnendedList n = LacksFeed x n
 -- 32: under three fields, or the first is not `cue`
 CueStands x BadCue n = Line x n × ((length (fields (line x n)) < 3) ⊎ ¬ (field 0 (line x n) ≡ bytes "cue"))
--- 33: the numberOf is not 1 to 5 digits, or begins with 0
+-- 33: the number is not 1 to 5 digits, or begins with 0
 CueStands x BadNumber n = Line x n × (isCueNumber (field 1 (line x n)) ≡ false)
--- 34: the numberOf is not above the line before
+-- 34: the number is not above the line before
 CueStands x NotAbove n = Line x n × ((1 < n) × (numberOf (line x n) ≤ numberOf (line x (n - 1))))
 -- 35: the kind or a child is no name of 1 to 32 characters
 CueStands x NoName n = Line x n × (allNames (field 2 (line x n) ∷ children (line x n)) ≡ false)

@@ -1,4 +1,4 @@
--- The writtenNames of a model stand at the places where writtenNames begin in its text.
+-- The names of a model stand at the places where names begin in its text.
 use mathlib.Core.Path.{_≡_, sym, ap, _∙_}
 use mathlib.Core.List.{[], map}
 use Prim.Native.Nat.{ℕ, _<_}

@@ -1,4 +1,4 @@
--- What the second pass over a row computes of a type, from what the firstPlace has seen of each name: its span, whether its part of the row is held,
+-- What the second pass over a row computes of a type, from what the first has seen of each name: its span, whether its part of the row is held,
 -- and whether that can be extended. `attributeBy` is the same over a model.
 use mathlib.Core.Path.{_≡_, refl}
 use mathlib.Core.Bool.{true, false, _&&_}

@@ -1,4 +1,4 @@
--- What the firstPlace pass over a row knows of each name: of the whole row at its end, of the children passed at each turn.
+-- What the first pass over a row knows of each name: of the whole row at its end, of the children passed at each turn.
 use mathlib.Core.Path.{_≡_, refl, sym, ap, _∙_}
 use mathlib.Core.Bool.{true, cond, and-eq-true-iff, true≢false, false≢true}
 use mathlib.Core.List.{List, [], _∷_, _++_}
@@ -44,11 +44,11 @@ module _ (count firstPlace lastBehind : ℕ) (c : count < 65536) (f : firstPlace
   unfolding seenOf count-is first-is behind-is
   unpack-seen = rw (count-is, first-is, behind-is)
 
--- the name stands at place i too, lastBehind all its places so far
+-- the name stands at place i too, behind all its places so far
 abbrev pub noting : Seen → ℕ → Seen
 noting s i = record { count = s .count + 1; first = min (s .first) i; behind = i + 1 }
 
--- of the firstPlace children w of a row of n
+-- of the first children w of a row of n
 unfoldable pub seenIn : ℕ → Word → ℕ → Seen
 seenIn n w a = record { count = count a w; first = cond (touched (only a) w) (firstPlace (only a) w) n; behind = lastBehind (only a) w }
 
@@ -88,7 +88,7 @@ upto-more m n (x ∷ w) h e =
     let (a, b) = and-eq-true-iff (leb x m) (upto m w) .0 e in
     and-eq-true-iff (leb x n) (upto n w) .1 (le-leb x n (omega (arith, leb-true x m a)), upto-more m n w h b)
 
--- what is known of the firstPlace children w of a row of n: of each name up to m what is seen
+-- what is known of the first children w of a row of n: of each name up to m what is seen
 pub record Seeing (m n : ℕ) (w : Word) (s : List ℕ) : Type 0 where
   pub room : m < length s
   pub seen-is : (k : ℕ) → k ≤ m → seenOf (getD s k 0) ≡ seenIn n w k
