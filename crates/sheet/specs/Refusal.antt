@@ -11,8 +11,8 @@ use lib.ListN.{length, getD}
 use Rattle.fields.specs.Bytes.{Text, bytes, value}
 use Rattle.fields.specs.Limits.{maxRow, maxFile}
 use Rattle.fields.specs.declared.fault.CueFault.{CueFault}
-use Rattle.fields.specs.declared.fault.CueFault.the-variants.{LongFile as LongList, Unended as UnendedList, BadFields as BadCue}
-use Rattle.fields.specs.declared.fault.CueFault.the-variants.{BadNumber, NotAbove, NoName, ManyChildren, NoChild}
+use Rattle.fields.specs.declared.fault.CueFault.the-variants.{LongFile as LongList, Unended as UnendedList, BadFields as BadCue, BadNumber, NotAbove, NoName}
+use Rattle.fields.specs.declared.fault.CueFault.the-variants.{ManyChildren, NoChild}
 use Rattle.fields.specs.Split.{lines, behind, fields, field}
 use Rattle.fields.specs.Children.{cueNumber, shortName, allNames}
 use Rattle.model.specs.Fault.{Answers, refused, modelNumber}
@@ -27,18 +27,7 @@ use Rattle.sheet.specs.declared.listing.Listed.the-variants.{Written, Sh
 use Rattle.sheet.specs.Cues.{isCueNumber, children}
 use Rattle.sheet.specs.Sheet.{maxRules, kind, model}
 use Rattle.sheet.specs.Listing.{listing}
-
--- no fault stands at any line
-abbrev pub NoFault : {F : Type 0} → (F → ℕ → Type 0) → Type 0
-NoFault {F} Stands = (g : F) (m : ℕ) → ¬ Stands g m
-
--- lines in order, on one line by rank
-abbrev pub Before : {F : Type 0} → (F → ℕ) → F → ℕ → F → ℕ → Type 0
-Before rank f n g m = (n < m) ⊎ ((n ≡ m) × (rank f ≤ rank g))
-
--- f stands at line n, and before every fault that stands
-abbrev pub First : {F : Type 0} → (F → ℕ) → (F → ℕ → Type 0) → F → ℕ → Type 0
-First {F} rank Stands f n = Stands f n × ((g : F) (m : ℕ) → Stands g m → Before rank f n g m)
+use Rattle.fields.specs.Least.{NoFault, First}
 
 -- the text has a line n, and the line
 abbrev pub Line : Text → ℕ → Type 0

@@ -40,8 +40,8 @@ use Rattle.sheet.specs.Cues.{isCueNumber, children, byLine, cueLines, cu
 use Rattle.sheet.specs.Sheet.{maxRules, kind, model, among, modelFault, byFault, sheetLines, sheetOutcome}
 use Rattle.sheet.specs.Listing.{listing, byCues, bySheet, listed}
 use Rattle.sheet.specs.Refusal.{Line, line, Earlier, SheetStands, sheetRank, SheetAnswers, numberOf, CueStands, CuesAnswers, Lists}
-use Rattle.sheet.specs.Refusal.Order.{exactly, tells-no, tells-lt, tells-other, beside, long-tells, feed-tells, Place, Table, first-once, Tried, narrow}
-use Rattle.sheet.specs.Refusal.Order.{try, next-line, walk, whole}
+use Rattle.fields.specs.Least.Laws.{exactly, first-once, Cleared, narrow, try}
+use Rattle.sheet.specs.Refusal.Order.{tells-no, tells-lt, tells-other, beside, long-tells, feed-tells, Place, FileTable, next-line, walk, whole}
 
 here : (x : Text) (n : ℕ) → n < length (lines x) → Line x (suc n)
 here x n h = (omega arith, omega arith)
@@ -107,8 +107,8 @@ sheet-place x NoKind n h = inr (h .0, omega arith)
 sheet-place x Repeated n h = inr (h .0, omega arith)
 sheet-place x (Model f) n h = inr (h .0, omega (arith, number-over f))
 
-abbrev ofSheet : (x : Text) → Table x SheetFault
-ofSheet x = record { rank = sheetRank; Stands = SheetStands x; base = 20; one = rank-injective; place = sheet-place x }
+abbrev ofSheet : (x : Text) → FileTable x SheetFault
+ofSheet x = record { faults = record { rank = sheetRank; Stands = SheetStands x; one = rank-injective }; base = 20; place = sheet-place x }
 
 module _ (x : Text) where
   abbrev kinds : ℕ → List Text
@@ -118,7 +118,7 @@ module _ (x : Text) where
     abbrev this : Text
     this = line x (suc n)
 
-    many-tells : Tried (ofSheet x) (suc n) 22 → Tells (leb maxRules n) (SheetStands x ManyRules (suc n))
+    many-tells : Cleared (ofSheet x .faults) (suc n) 22 → Tells (leb maxRules n) (SheetStands x ManyRules (suc n))
     many-tells t = (λ e. (here x n h, go (leb-true maxRules n e) (decLt maxRules n)), λ k. le-leb maxRules n (omega (arith, k .1)))
       where
         late : maxRules < n → ¬ ((suc n < 65) ⊎ ((suc n ≡ 65) × (22 ≤ 22)))
@@ -158,9 +158,9 @@ module _ (x : Text) where
         let (i, (p, a)) = subst (λ g. SheetStands x g (suc n)) e s in
         (f, p, e, a)
 
-    model-answers : (o : SheetOutcome) → (Tried (ofSheet x) (suc (suc n)) 22 → SheetAnswers x o) → Tried (ofSheet x) (suc n) 26
+    model-answers : (o : SheetOutcome) → (Cleared (ofSheet x .faults) (suc (suc n)) 22 → SheetAnswers x o) → Cleared (ofSheet x .faults) (suc n) 26
         → (a : Answer) → Answers (model this) a → SheetAnswers x (byFault (modelFault a) o (λ f. Refused f (suc n)))
-    model-answers o next t (refused f p) a = ((here x n h, (p, a)), narrow (ofSheet x) (suc n) 26 (20 + modelNumber f) only t)
+    model-answers o next t (refused f p) a = ((here x n h, (p, a)), narrow (ofSheet x .faults) (suc n) 26 (20 + modelNumber f) only t)
       where
         only : (g : SheetFault) → SheetStands x g (suc n) → 26 ≤ sheetRank g → 20 + modelNumber f ≤ sheetRank g
         only g s k =
@@ -179,18 +179,18 @@ module _ (x : Text) where
   abbrev sheetFrom : ℕ → SheetOutcome
   sheetFrom n = sheetLines n (kinds n) (drop n (lines x))
 
-  sheet-step : (n : ℕ) → n < length (lines x) → (Tried (ofSheet x) (suc (suc n)) 22 → SheetAnswers x (sheetFrom (suc n)))
-      → Tried (ofSheet x) (suc n) 22 → SheetAnswers x (sheetFrom n)
+  sheet-step : (n : ℕ) → n < length (lines x) → (Cleared (ofSheet x .faults) (suc (suc n)) 22 → SheetAnswers x (sheetFrom (suc n)))
+      → Cleared (ofSheet x .faults) (suc n) 22 → SheetAnswers x (sheetFrom n)
   sheet-step n h next t =
       let l = line x (suc n) in
       let o = sheetLines (suc n) (kinds n ++ (kind l ∷ [])) (drop (suc n) (lines x)) in
       let P : Option SheetFault → Type 0 = λ m. SheetAnswers x (byFault m o (λ f. Refused f (suc n))) in
       let more : kinds (suc n) ≡ kinds n ++ (kind l ∷ []) = ap (map kind) (take-suc (lines x) n [] h) ∙ map-append kind (take n (lines x)) (l ∷ []) in
       rw (drop-cons (lines x) n [] h) (
-      try (ofSheet x) (SheetAnswers x) ManyRules (suc n) (leb maxRules n) _ _ (many-tells n h t) (λ k. k)
-      (λ _. try (ofSheet x) P BadFields (suc n) _ _ _ (rule-tells n h) (λ k. k)
-      (λ _. try (ofSheet x) P NoKind (suc n) _ _ _ (beside _ (here x n h) (tells-not (shortName (kind l)))) (λ k. k)
-      (λ _. try (ofSheet x) P Repeated (suc n) _ _ _ (beside _ (here x n h) (kinds-tell n h)) (λ k. k)
+      try (ofSheet x .faults) (SheetAnswers x) ManyRules (suc n) (leb maxRules n) _ _ (many-tells n h t) (λ k. k)
+      (λ _. try (ofSheet x .faults) P BadFields (suc n) _ _ _ (rule-tells n h) (λ k. k)
+      (λ _. try (ofSheet x .faults) P NoKind (suc n) _ _ _ (beside _ (here x n h) (tells-not (shortName (kind l)))) (λ k. k)
+      (λ _. try (ofSheet x .faults) P Repeated (suc n) _ _ _ (beside _ (here x n h) (kinds-tell n h)) (λ k. k)
       (λ _ k. model-answers n h o (rw more at next) k (answer (model l)) (answered (model l)))))) t)
 
   sheet-answers : SheetAnswers x (sheetOutcome x)
@@ -202,7 +202,7 @@ module _ (x : Text) where
   sheet-once Read Read h k = refl
   sheet-once Read (Refused g m) h k = absurd (h g m (k .0))
   sheet-once (Refused f n) Read h k = absurd (k f n (h .0))
-  sheet-once (Refused f n) (Refused g m) h k = let (e, d) = first-once (ofSheet x) f g n m h k in ap₂ Refused e d
+  sheet-once (Refused f n) (Refused g m) h k = let (e, d) = first-once sheetRank rank-injective f g n m h k in ap₂ Refused e d
 
   pub sheet-is : (o : SheetOutcome) → (sheetOutcome x ≡ o) ↔ SheetAnswers x o
   sheet-is = exactly (SheetAnswers x) sheet-once (sheetOutcome x) sheet-answers
@@ -218,8 +218,8 @@ cue-known x NoName n h = (inr (h .0, omega arith), omega arith)
 cue-known x ManyChildren n h = (inr (h .0, omega arith), omega arith)
 cue-known x NoChild n h = absurd h
 
-abbrev ofCues : (x : Text) → Table x CueFault
-ofCues x = record { rank = cueNumber; Stands = CueStands x; base = 30; one = cue-injective; place = λ f n h. cue-known x f n h .0 }
+abbrev ofCues : (x : Text) → FileTable x CueFault
+ofCues x = record { faults = record { rank = cueNumber; Stands = CueStands x; one = cue-injective }; base = 30; place = λ f n h. cue-known x f n h .0 }
 
 number-positive : (y : Text) → isCueNumber y ≡ true → 1 ≤ value y
 number-positive [] e = absurd (false≢true e)
@@ -244,18 +244,18 @@ module _ (x : Text) where
   abbrev cuesFrom : ℕ → CuesRead
   cuesFrom n = cueLines n (numberOf (line x n)) (drop n (lines x))
 
-  cues-step : (n : ℕ) → n < length (lines x) → (Tried (ofCues x) (suc (suc n)) 32 → CuesAnswers x (cuesFrom (suc n)))
-      → Tried (ofCues x) (suc n) 32 → CuesAnswers x (cuesFrom n)
+  cues-step : (n : ℕ) → n < length (lines x) → (Cleared (ofCues x .faults) (suc (suc n)) 32 → CuesAnswers x (cuesFrom (suc n)))
+      → Cleared (ofCues x .faults) (suc n) 32 → CuesAnswers x (cuesFrom n)
   cues-step n h next t =
       let l = line x (suc n) in
       let word = tells-or _ _ (tells-lt (length (fields l)) 3) (tells-other (field 0 l) (bytes "cue")) in
       let P : CueLine → Type 0 = λ c. CuesAnswers x (byLine c (λ q. cueLines (suc n) q (drop (suc n) (lines x))) (λ f. RefusedList f (suc n))) in
       rw (drop-cons (lines x) n [] h) (
-      try (ofCues x) P BadCue (suc n) _ _ _ (beside _ (here x n h) word) (λ k. k)
-      (λ _. try (ofCues x) P BadNumber (suc n) _ _ _ (beside _ (here x n h) (tells-not (isCueNumber (field 1 l)))) (λ k. k)
-      (λ e. try (ofCues x) P NotAbove (suc n) _ _ _ (beside _ (here x n h) (above-tells n l (number-positive (field 1 l) (not-false _ e)))) (λ k. k)
-      (λ _. try (ofCues x) P NoName (suc n) _ _ _ (beside _ (here x n h) (tells-not (allNames (field 2 l ∷ children l)))) (λ k. k)
-      (λ _. try (ofCues x) P ManyChildren (suc n) _ _ _ (beside _ (here x n h) (tells-lt maxRow (length (children l)))) (λ k. k)
+      try (ofCues x .faults) P BadCue (suc n) _ _ _ (beside _ (here x n h) word) (λ k. k)
+      (λ _. try (ofCues x .faults) P BadNumber (suc n) _ _ _ (beside _ (here x n h) (tells-not (isCueNumber (field 1 l)))) (λ k. k)
+      (λ e. try (ofCues x .faults) P NotAbove (suc n) _ _ _ (beside _ (here x n h) (above-tells n l (number-positive (field 1 l) (not-false _ e)))) (λ k. k)
+      (λ _. try (ofCues x .faults) P NoName (suc n) _ _ _ (beside _ (here x n h) (tells-not (allNames (field 2 l ∷ children l)))) (λ k. k)
+      (λ _. try (ofCues x .faults) P ManyChildren (suc n) _ _ _ (beside _ (here x n h) (tells-lt maxRow (length (children l)))) (λ k. k)
       (λ _ k. next (next-line (ofCues x) (suc n) 37 (λ g s i. omega (arith, i, cue-known x g (suc n) s .1)) k)))))) t)
 
   cues-answers : CuesAnswers x (cuesRead x)
@@ -267,7 +267,7 @@ module _ (x : Text) where
   cues-once (Count n) (Count m) h k = ap Count (h .1 ∙ sym (k .1))
   cues-once (Count n) (RefusedList g m) h k = absurd (h .0 g m (k .0))
   cues-once (RefusedList f n) (Count m) h k = absurd (k .0 f n (h .0))
-  cues-once (RefusedList f n) (RefusedList g m) h k = let (e, d) = first-once (ofCues x) f g n m h k in ap₂ RefusedList e d
+  cues-once (RefusedList f n) (RefusedList g m) h k = let (e, d) = first-once cueNumber cue-injective f g n m h k in ap₂ RefusedList e d
 
   pub cues-is : (r : CuesRead) → (cuesRead x ≡ r) ↔ CuesAnswers x r
   cues-is = exactly (CuesAnswers x) cues-once (cuesRead x) cues-answers
