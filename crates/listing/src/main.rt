@@ -1,6 +1,7 @@
 // Prints the listing of cues.txt by sheet.txt, both in the folder that it is run in, or the one line of a refusal.
 
 use fields::fault::cue_number;
+use fields::limits::MAX_FILE;
 use libc::STDOUT_FILENO;
 use sheet::listing::Listed;
 use sheet::listing::list;
@@ -40,13 +41,18 @@ fn with_both(sheet: &[u8], cues: &[u8]) {
     }
 }
 
-// Did reading stop at the file's end? A folder opens and cannot be read: that is 60 too, not an empty file.
+// Does a further read give nothing? A failed one, as of a folder, and one that gives bytes are no end.
 fn at_end(fd: i32) -> bool {
     let mut more = [0u8; 1];
-    0 <= libc::read(fd, &mut more)
+    libc::read(fd, &mut more) == 0
 }
 
-// A file of more than 65,535 bytes fills the buffer, and is seen as too long.
+// Are the n bytes that `read_full` gave the whole file? It stops at a failed read as it does at the end, so the end is asked for. More than
+// MAX_FILE bytes are taken as they are: they are refused as too many, whatever follows.
+fn is_whole(fd: i32, n: usize) -> bool {
+    MAX_FILE < n || at_end(fd)
+}
+
 fn with_sheet(sheet: &[u8]) {
     let fd = os::open_read(b"cues.txt");
     if fd < 0 {
@@ -55,7 +61,7 @@ fn with_sheet(sheet: &[u8]) {
     }
     let mut cues = io::large_buffer();
     let n = io::read_full(fd, &mut cues);
-    let whole = at_end(fd);
+    let whole = is_whole(fd, n);
     libc::close(fd);
     if whole {
         with_both(sheet, &cues[..n]);
@@ -72,7 +78,7 @@ fn main() {
     }
     let mut sheet = io::large_buffer();
     let n = io::read_full(fd, &mut sheet);
-    let whole = at_end(fd);
+    let whole = is_whole(fd, n);
     libc::close(fd);
     if whole {
         with_sheet(&sheet[..n]);
