@@ -12,7 +12,7 @@ use Rattle.judge.specs.declared.fault.JudgeFault.{JudgeFault}
 use Rattle.judge.specs.declared.fault.JudgeFault.the-variants.{Unreadable, LongRow, BadTrail, UnknownName, NoRoom, NothingToTakeBack}
 use Rattle.model.specs.declared.rule.Rule.{Rule}
 use Rattle.judge.specs.declared.verdict.Judged.{Judged}
-use Rattle.judge.specs.declared.verdict.Judged.the-variants.{Verdict, Refused}
+use Rattle.judge.specs.declared.verdict.Judged.the-variants.{Verdict as Said, Refused}
 use Rattle.model.specs.Word.{Word}
 use Rattle.model.specs.Types.{Ty}
 use Rattle.model.specs.Verdict.{Says, verdict}
@@ -21,6 +21,7 @@ use Rattle.fields.specs.Limits.{maxRow}
 use mathlib.Core.Bool.{Bool, true, cond, _&&_}
 use lib.Dec.{leb}
 use Rattle.model.specs.Check.{readable}
+use Rattle.model.specs.declared.verdict.Verdict.{Verdict}
 
 -- document 01's numbers
 abbrev pub judgeNumber : JudgeFault → ℕ
@@ -36,16 +37,17 @@ abbrev pub Upto : ℕ → Word → Type 0
 Upto n [] = Unit {0}
 Upto n (x ∷ w) = (x ≤ n) × Upto n w
 
--- a is the answer to the row w by the rule r (`Row.Laws.judges-once`: there is one, and only one)
-abbrev pub Judges : Rule → Word → Judged → Type 0
-Judges r w (Refused Unreadable) = ¬ Readable r
-Judges r w (Refused LongRow) = Readable r × (maxRow < length w)
-Judges r w (Refused BadTrail) = ⊥
-Judges r w (Refused UnknownName) = Readable r × (length w ≤ maxRow) × (¬ Upto (names r) w)
-Judges r w (Refused NoRoom) = ⊥
-Judges r w (Refused NothingToTakeBack) = ⊥
-Judges r w (Verdict v) = (A : Ty) × Means r A × (length w ≤ maxRow) × Upto (names r) w × Says A w v
+-- the answer to the row w by the rule r (`Ends.judged-exactly`: there is one, and only one)
+pub data Judges (r : Rule) (w : Word) : Judged → Type 0 where
+  -- 40
+  unreadable : ¬ Readable r → Judges r w (Refused Unreadable)
+  -- 41
+  long-row : Readable r → maxRow < length w → Judges r w (Refused LongRow)
+  -- 43
+  unknown-name : Readable r → length w ≤ maxRow → ¬ Upto (names r) w → Judges r w (Refused UnknownName)
+  judges : {A : Ty} {v : Verdict} → Means r A → length w ≤ maxRow → Upto (names r) w → Says A w v → Judges r w (Said v)
 
+-- the same as a function
 abbrev pub upto : ℕ → Word → Bool
 upto n [] = true
 upto n (x ∷ w) = leb x n && upto n w
@@ -53,5 +55,5 @@ upto n (x ∷ w) = leb x n && upto n w
 unfoldable pub judged : Rule → Word → Judged
 judged r w =
     cond (readable r)
-    (cond (leb (length w) maxRow) (cond (upto (names r) w) (Verdict (verdict (ruleType r) w)) (Refused UnknownName)) (Refused LongRow))
+    (cond (leb (length w) maxRow) (cond (upto (names r) w) (Said (verdict (ruleType r) w)) (Refused UnknownName)) (Refused LongRow))
     (Refused Unreadable)

@@ -1,10 +1,10 @@
 // Runs what document 01 gives to try and is not proved, and the examples of document 001: a line for each, with the text or the model and the row,
 // and the answer.
 
-use judge::row::judge_row;
 use judge::reading::Outcome;
 use judge::reading::number_of;
 use judge::reading::read_model;
+use judge::row::judge_row;
 use judge::verdict::Judged;
 use model::fault::model_number;
 use model::verdict::Verdict;

@@ -27,10 +27,10 @@ use fields::limits::MAX_FILE;
 use fields::split::LINE_FEED;
 use fields::split::first_fields;
 use fields::split::part_end;
-use judge::reply::judge_children;
 use judge::reading::NamePlace;
 use judge::reading::Names;
 use judge::reading::number_of;
+use judge::reply::judge_children;
 use judge::verdict::ChildrenJudged;
 use model::verdict::Verdict;
 

@@ -5,48 +5,55 @@ use Prim.Native.Nat.{ℕ}
 use native.Mathlib.Omega.{arith}
 use lib.Dec.{leb}
 use lib.ListN.{length}
-use Rattle.judge.specs.declared.fault.JudgeFault.the-variants.{Unreadable, LongRow, BadTrail, UnknownName, NoRoom, NothingToTakeBack}
 use Rattle.model.specs.declared.rule.Rule.{Rule}
 use Rattle.judge.specs.declared.verdict.Judged.{Judged}
-use Rattle.judge.specs.declared.verdict.Judged.the-variants.{Verdict, Refused}
+use Rattle.judge.specs.declared.verdict.Judged.the-variants.{Verdict as Said}
 use Rattle.fields.specs.Tests.{by-test, Tells, untold, fails, tells-le, tells-and}
 use Rattle.model.specs.Word.{Word}
 use Rattle.model.specs.Verdict.Laws.{verdict-says, verdict-is}
-use Rattle.model.specs.Rule.{names, ruleType}
+use Rattle.model.specs.Rule.{names, ruleType, Means}
 use Rattle.model.specs.Check.{readable}
 use Rattle.model.specs.Check.Exact.{readable-is, type-means, means-type, means-conflict-free}
-use Rattle.judge.specs.Row.{Upto, Judges, judged, upto}
+use Rattle.judge.specs.Row.{Upto, Judges, judged, upto, unreadable, long-row, unknown-name, judges}
 use Rattle.fields.specs.Limits.{maxRow}
+use Rattle.model.specs.declared.verdict.Verdict.{Verdict}
+use Rattle.model.specs.Types.{Ty}
+use Rattle.model.specs.Verdict.{Says}
+use Rattle.model.specs.Rule.Laws.{means-once}
 
 pub upto-tells : (n : ℕ) (w : Word) → Tells (upto n w) (Upto n w)
 upto-tells n [] = (λ e. tt, λ h. refl)
 upto-tells n (x ∷ w) = tells-and (leb x n) (upto n w) (tells-le x n) (upto-tells n w)
 
-pub judges : (r : Rule) (w : Word) → Judges r w (judged r w)
+pub judged-judges : (r : Rule) (w : Word) → Judges r w (judged r w)
 unfolding judged
-judges r w =
+judged-judges r w =
     by-test (readable r)
     (λ a. let i = readable-is r .0 a in
     by-test (leb (length w) maxRow)
     (λ b. let j = tells-le (length w) maxRow .0 b in
     by-test (upto (names r) w)
     (λ c. let m = type-means i in
-    rw (a, b, c) (ruleType r, m, j, upto-tells (names r) w .0 c, verdict-says (ruleType r) (means-conflict-free m) w))
-    (λ c. rw (a, b, c) (i, j, untold (upto (names r) w) (upto-tells (names r) w) c)))
-    (λ b. let n = untold (leb (length w) maxRow) (tells-le (length w) maxRow) b in rw (a, b) (i, omega arith)))
-    (λ a. rw a (untold (readable r) (readable-is r) a))
+    rw (a, b, c) (judges m j (upto-tells (names r) w .0 c) (verdict-says (ruleType r) (means-conflict-free m) w)))
+    (λ c. rw (a, b, c) (unknown-name i j (untold (upto (names r) w) (upto-tells (names r) w) c))))
+    (λ b. let n = untold (leb (length w) maxRow) (tells-le (length w) maxRow) b in rw (a, b) (long-row i (omega arith))))
+    (λ a. rw a (unreadable (untold (readable r) (readable-is r) a)))
 
 -- there is no second one
-pub judged-is : (r : Rule) (w : Word) (a : Judged) → Judges r w a → a ≡ judged r w
+pub judged-is : (r : Rule) (w : Word) {a : Judged} → Judges r w a → a ≡ judged r w
 unfolding judged
-judged-is r w (Refused Unreadable) h = rw (fails (readable r) (readable-is r) h)
-judged-is r w (Refused LongRow) h =
-    rw (readable-is r .1 (h .0), fails (leb (length w) maxRow) (tells-le (length w) maxRow) (λ l. omega arith))
-judged-is r w (Refused BadTrail) h = absurd h
-judged-is r w (Refused UnknownName) h =
-    rw (readable-is r .1 (h .0), tells-le (length w) maxRow .1 (h .1), fails (upto (names r) w) (upto-tells (names r) w) (h .2))
-judged-is r w (Refused NoRoom) h = absurd h
-judged-is r w (Refused NothingToTakeBack) h = absurd h
-judged-is r w (Verdict v) (A, m, l, u, s) =
+judged-is r w (unreadable h) = rw (fails (readable r) (readable-is r) h)
+judged-is r w (long-row i h) =
+    rw (readable-is r .1 i, fails (leb (length w) maxRow) (tells-le (length w) maxRow) (λ l. omega arith))
+judged-is r w (unknown-name i l h) =
+    rw (readable-is r .1 i, tells-le (length w) maxRow .1 l, fails (upto (names r) w) (upto-tells (names r) w) h)
+judged-is r w (judges {A} {v} m l u s) =
     rw (readable-is r .1 (m .text, m .reads), tells-le (length w) maxRow .1 l, upto-tells (names r) w .1 u)
-    (ap Verdict (sym (verdict-is (ruleType r) (rw (means-type m) at (means-conflict-free m)) w v .1 (rw (means-type m) at s))))
+    (ap Said (sym (verdict-is (ruleType r) (rw (means-type m) at (means-conflict-free m)) w v .1 (rw (means-type m) at s))))
+
+-- the verdict on a row that is not refused
+pub judged-says : (r : Rule) (w : Word) (v : Verdict) {A : Ty} → Means r A → judged r w ≡ Said v → Says A w v
+judged-says r w v {A} m e = go (rw e at (judged-judges r w))
+  where
+    go : Judges r w (Said v) → Says A w v
+    go (judges n l u s) = rw (means-once m n) s
