@@ -2,18 +2,14 @@
 pub mod Names
 pub mod Laws
 pub mod Code
-use mathlib.Core.Path.{_≡_}
-use mathlib.Core.List.{List, [], _∷_}
+use mathlib.Core.{Path._≡_, List.List, List.[], List._∷_}
 use Prim.Native.Nat.{ℕ, zero, suc, _+_, _-_}
-use lib.Dec.{T}
-use lib.ListN.{length, take, drop, getD}
+use lib.{Dec.T, ListN.length, ListN.take, ListN.drop, ListN.getD}
 use Rattle.fields.specs.Bytes.{Text}
-use Rattle.model.specs.Syntax.{Syntax, writtenNames, numberIn}
-use Rattle.model.specs.Fault.{nameAt, nameFrom, places}
-use Rattle.desk.specs.declared.child.Located.{Located}
+use Rattle.model.specs.{Syntax.Syntax, Syntax.writtenNames, Syntax.numberIn, Fault.nameAt, Fault.nameFrom, Fault.places}
+use Rattle.desk.specs.{declared.child.Located.Located, Desk.replyNumber}
 use Rattle.desk.specs.declared.child.Located.the-variants.{InModel, InChildren, ModelRefused, ChildrenRefused}
 use Rattle.judge.specs.Reply.{childrenIn, child, Reply, modelRefused, childrenRefused, good, Replies, reply}
-use Rattle.desk.specs.Desk.{replyNumber}
 
 -- a part of one of the two texts: its first place and its length
 pub data Part : Type 0 where

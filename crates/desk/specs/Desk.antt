@@ -1,11 +1,9 @@
 -- The number that `desk_judge` hands to C: document 01, "Desk and layers".
 pub mod Laws
 use Prim.Native.Nat.{ℕ}
-use Rattle.fields.specs.Bytes.{Text}
-use Rattle.fields.specs.Children.{cueNumber}
-use Rattle.model.specs.declared.verdict.Verdict.{Verdict}
+use Rattle.fields.specs.{Bytes.Text, Children.cueNumber}
+use Rattle.model.specs.{declared.verdict.Verdict.Verdict, Fault.modelNumber}
 use Rattle.model.specs.declared.verdict.Verdict.the-variants.{Complete, Open, Dead}
-use Rattle.model.specs.Fault.{modelNumber}
 use Rattle.judge.specs.Reply.{Reply, modelRefused, childrenRefused, good, childrenReply}
 
 -- document 01's numbers

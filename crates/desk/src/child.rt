@@ -1,10 +1,9 @@
 // Child look-up: the part of a text where a child's name stands.
 
 ghost use mathlib.Core.Path.{_≡_};
-ghost use Prim.Native.Nat.{_+_, _-_, _≤_, _<_};
+ghost use Prim.Native.Nat.{_+_, _-_, _≤_};
 ghost use lib.ListN.{length};
-ghost use Rattle.fields.specs.Limits.{maxFile};
-ghost use Rattle.fields.specs.Split.{tab, split};
+ghost use Rattle.fields.specs.{Limits.maxFile, Split.tab, Split.split};
 ghost use Rattle.desk.specs.Child.{startIn, found, located, childPart, childRefusal, textOf, startOf, bytesOf};
 ghost use Rattle.desk.specs.Child.Code.{ChildReached, askedOf, locatedIn, locatedRead};
 use fields::children::Children;

@@ -1,8 +1,7 @@
 -- Which refusal a table answers: of the faults that stand, the first by place, and at one place by rank, which is most often the refusal's number.
 -- A place is a byte of a text or a line of a file. Each crate says of its table when a fault stands and at which place; what is first is said here.
 pub mod Laws
-use mathlib.Core.Path.{_≡_}
-use mathlib.Core.Logic.{_⊎_}
+use mathlib.Core.{Path._≡_, Logic._⊎_}
 use Prim.Native.Nat.{ℕ, _≤_, _<_}
 
 -- no fault stands at any place

@@ -5,23 +5,15 @@ pub mod Tally
 pub mod Root
 pub mod Pass
 pub mod Code
-use mathlib.Core.List.{[], _∷_}
+use mathlib.Core.{List.[], List._∷_, Bool.Bool, Bool.true, Bool.cond, Bool._&&_}
 use Prim.Native.Nat.{ℕ, _≤_, _<_}
-use lib.ListN.{length}
-use Rattle.judge.specs.declared.fault.JudgeFault.{JudgeFault}
+use lib.{ListN.length, Dec.leb}
+use Rattle.judge.specs.{declared.fault.JudgeFault.JudgeFault, declared.verdict.Judged.Judged}
 use Rattle.judge.specs.declared.fault.JudgeFault.the-variants.{Unreadable, LongRow, BadTrail, UnknownName, NoRoom, NothingToTakeBack}
-use Rattle.model.specs.declared.rule.Rule.{Rule}
-use Rattle.judge.specs.declared.verdict.Judged.{Judged}
 use Rattle.judge.specs.declared.verdict.Judged.the-variants.{Verdict as Said, Refused}
-use Rattle.model.specs.Word.{Word}
-use Rattle.model.specs.Types.{Ty}
-use Rattle.model.specs.Verdict.{Says, verdict}
-use Rattle.model.specs.Rule.{Readable, Means, names, ruleType}
+use Rattle.model.specs.{declared.rule.Rule.Rule, Word.Word, Types.Ty, Verdict.Says, Verdict.verdict, Rule.Readable, Rule.Means, Rule.names, Rule.ruleType}
+use Rattle.model.specs.{Check.readable, declared.verdict.Verdict.Verdict}
 use Rattle.fields.specs.Limits.{maxRow}
-use mathlib.Core.Bool.{Bool, true, cond, _&&_}
-use lib.Dec.{leb}
-use Rattle.model.specs.Check.{readable}
-use Rattle.model.specs.declared.verdict.Verdict.{Verdict}
 
 -- document 01's numbers
 abbrev pub judgeNumber : JudgeFault → ℕ

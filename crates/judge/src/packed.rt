@@ -1,12 +1,11 @@
 // Nodes as numbers, one each: so the reader and the judge of rows hold them, in an array that is lent.
 
 ghost use mathlib.Core.Path.{_≡_};
-ghost use Prim.Native.Nat.{_+_, _*_, _≤_};
-ghost use lib.Dec.{T};
-ghost use lib.ListN.{length};
+ghost use Prim.Native.Nat.{_≤_};
+ghost use lib.{Dec.T, ListN.length};
 ghost use Rattle.model.specs.declared.rule.Kind.the-variants.{Atom, Group};
-ghost use Rattle.fields.specs.Limits.{maxNodes};
 ghost use Rattle.model.specs.Rule.{used};
+ghost use Rattle.fields.specs.Limits.{maxNodes};
 ghost use Rattle.judge.specs.Reading.Buffer.{Stores};
 ghost use Rattle.judge.specs.Packed.{packedWord, nodeIn, plainNode, optionalNode, isSign, signBy, kindBy, markBy};
 use model::rule::Kind;

@@ -1,14 +1,11 @@
 // What a model text reads into: its rule, and its names as places in the text.
 
-ghost use mathlib.Core.Path.{_≡_};
-ghost use mathlib.Core.List.{[], _∷_, map};
-ghost use Prim.Native.Nat.{_+_, _≤_, _<_};
+ghost use mathlib.Core.{Path._≡_, List.[], List._∷_, List.map};
+ghost use Prim.Native.Nat.{_≤_};
 ghost use lib.ListN.{length, take};
-ghost use Rattle.model.specs.Rule.{ruleWith};
+ghost use Rattle.model.specs.{Rule.ruleWith, Rule.unused, Syntax.numberIn};
 ghost use Rattle.judge.specs.Reading.{namesWith, refusal, reading, partsOf};
 ghost use Rattle.judge.specs.Packed.{nodeIn, placeOf};
-ghost use Rattle.model.specs.Rule.{unused};
-ghost use Rattle.model.specs.Syntax.{numberIn};
 use crate::packed::unpacked;
 use crate::reader::Got;
 use crate::reader::read_whole;

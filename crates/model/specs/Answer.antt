@@ -1,8 +1,7 @@
 -- The one answer to a text: every text has one (`answered`), and only one (`answer-is`).
 use mathlib.Core.Path.{_≡_}
 use Rattle.fields.specs.Bytes.{Text}
-use Rattle.model.specs.Fault.{Answer, Answers}
-use Rattle.model.specs.Fault.Answered.{answers-once, an-answer}
+use Rattle.model.specs.{Fault.Answer, Fault.Answers, Fault.Answered.answers-once, Fault.Answered.an-answer}
 
 -- the answer to a text
 pub answer : Text → Answer

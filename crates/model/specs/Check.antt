@@ -3,23 +3,16 @@
 pub mod Laws
 pub mod Scan
 pub mod Exact
-use mathlib.Core.Bool.{Bool, true, false, _&&_}
-use mathlib.Core.List.{List, [], _∷_}
+use mathlib.Core.{Bool.Bool, Bool.true, Bool.false, Bool._&&_, List.List, List.[], List._∷_}
 use Prim.Native.Nat.{ℕ, _+_, max, min}
-use lib.Dec.{leb, eqb}
-use lib.ListN.{drop, length}
-use Rattle.model.specs.declared.rule.Upper.{Upper}
+use lib.{Dec.leb, Dec.eqb, ListN.drop, ListN.length}
+use Rattle.model.specs.{declared.rule.Upper.Upper, declared.rule.Sign.Sign, declared.rule.Kind.Kind, declared.rule.Node.Node as RuleNode}
+use Rattle.model.specs.{declared.rule.Rule.Rule, Tree.isPlain, Rule.used, Rule.names}
 use Rattle.model.specs.declared.rule.Upper.the-variants.{Number, Unbounded}
-use Rattle.model.specs.declared.rule.Sign.{Sign}
 use Rattle.model.specs.declared.rule.Sign.the-variants.{None, Sequence, Choice, Interleaving}
-use Rattle.model.specs.declared.rule.Kind.{Kind}
 use Rattle.model.specs.declared.rule.Kind.the-variants.{Atom, Group}
-use Rattle.model.specs.declared.rule.Node.{Node as RuleNode}
-use Rattle.model.specs.declared.rule.Rule.{Rule}
-use Rattle.fields.specs.Limits.{maxCount, maxDepth, maxAtoms, maxNodes}
-use Rattle.model.specs.Tree.{isPlain}
 use Rattle.model.specs.Model.{Algebra, needed, treesIn, eval, isAtom}
-use Rattle.model.specs.Rule.{used, names}
+use Rattle.fields.specs.Limits.{maxCount, maxDepth, maxAtoms, maxNodes}
 
 abbrev pub upperFits : ℕ → Upper → Bool
 upperFits m (Number n) = leb m n && (leb 1 n && leb n maxCount)

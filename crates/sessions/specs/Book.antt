@@ -1,18 +1,12 @@
 -- The book that a list of calls agrees with: document 01, "Sessions". It is fed the trail's length and, for each call, which one it is and the rule
 -- or name number that it is given; never a session, an answer or a place of the trail. `Session.Theorem` says that sessions agree with it.
 pub mod Laws
-use mathlib.Core.Path.{_≡_}
-use mathlib.Core.List.{List, [], _∷_, _++_}
+use mathlib.Core.{Path._≡_, List.List, List.[], List._∷_, List._++_}
 use Prim.Native.Nat.{ℕ, _≤_, _<_, min}
 use lib.ListN.{length}
 use Rattle.judge.specs.declared.fault.JudgeFault.{JudgeFault}
 use Rattle.judge.specs.declared.fault.JudgeFault.the-variants.{Unreadable, UnknownName, NoRoom, NothingToTakeBack}
-use Rattle.model.specs.declared.rule.Rule.{Rule}
-use Rattle.model.specs.declared.verdict.Verdict.{Verdict}
-use Rattle.model.specs.Word.{Word}
-use Rattle.model.specs.Types.{Ty}
-use Rattle.model.specs.Verdict.{Says}
-use Rattle.model.specs.Rule.{Readable, Means, names}
+use Rattle.model.specs.{declared.rule.Rule.Rule, declared.verdict.Verdict.Verdict, Word.Word, Types.Ty, Verdict.Says, Rule.Readable, Rule.Means, Rule.names}
 use Rattle.fields.specs.Limits.{maxRow}
 
 pub data Call : Type 0 where

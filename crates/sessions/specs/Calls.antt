@@ -5,13 +5,12 @@ pub mod Theorem
 use mathlib.Core.List.{List, [], _∷_, _++_}
 use Prim.Native.Nat.{ℕ, _-_}
 use lib.ListN.{length, replicate}
-use Rattle.sessions.specs.declared.session.Outcome.{Outcome}
+use Rattle.sessions.specs.{declared.session.Outcome.Outcome, declared.session.Session.Session}
 use Rattle.sessions.specs.declared.session.Outcome.the-variants.{Done, Refused}
-use Rattle.sessions.specs.declared.session.Session.{Session}
-use Rattle.judge.specs.declared.verdict.Judged.{Judged}
-use Rattle.judge.specs.declared.verdict.Judged.the-variants.{Verdict, Refused as RefusedRow}
 use Rattle.sessions.specs.Book.{Call, opening, adding, takingBack, asking, CallReply, says, refuses, nothing, Book}
 use Rattle.sessions.specs.Session.{Trail, free, callStep, trailAfter, asked}
+use Rattle.judge.specs.declared.verdict.Judged.{Judged}
+use Rattle.judge.specs.declared.verdict.Judged.the-variants.{Verdict, Refused as RefusedRow}
 
 pub record World : Type 0 where
   pub session : Session

@@ -1,20 +1,13 @@
 -- The ends: what is proved of every session, trail and list of calls. Each proof is a citation.
-use mathlib.Core.Path.{_≡_}
-use mathlib.Core.Logic.{_↔_}
-use mathlib.Core.List.{List, []}
+use mathlib.Core.{Path._≡_, Logic._↔_, List.List, List.[]}
 use Prim.Native.Nat.{ℕ, _≤_}
 use lib.ListN.{length}
 use Rattle.model.specs.declared.rule.Rule.{Rule}
-use Rattle.sessions.specs.declared.session.Outcome.{Outcome}
-use Rattle.sessions.specs.declared.session.Session.{Session}
-use Rattle.judge.specs.declared.verdict.Judged.{Judged}
+use Rattle.sessions.specs.{declared.session.Outcome.Outcome, declared.session.Session.Session, Book.Laws.keeps-once, Session.Trail, Session.outcome}
+use Rattle.sessions.specs.{Session.asked, Refusal.Tried, Refusal.Asks, Refusal.Laws.outcome-is, Refusal.Laws.asked-is, Calls.Theorem.agrees-with-book}
 use Rattle.sessions.specs.Book.{Call, opening, CallReply, nothing, Book, book, room, Keeps}
-use Rattle.sessions.specs.Book.Laws.{keeps-once}
-use Rattle.sessions.specs.Session.{Trail, outcome, asked}
-use Rattle.sessions.specs.Refusal.{Tried, Asks}
-use Rattle.sessions.specs.Refusal.Laws.{outcome-is, asked-is}
 use Rattle.sessions.specs.Calls.{World, plays, replyTo, worldAfter, repliesTo, shown}
-use Rattle.sessions.specs.Calls.Theorem.{agrees-with-book}
+use Rattle.judge.specs.declared.verdict.Judged.{Judged}
 
 -- Demand 1, sessions: a call of any session with any trail is refused just as the table says, and asking is else answered by the meaning.
 pub refused-exactly : (s : Session) (t : Trail) (q : Call) (o : Outcome) → (outcome q s t ≡ o) ↔ Tried s t q o

@@ -1,23 +1,15 @@
 -- The table of document 01 for the calls of a session: when each refusal stands, and which one a call is answered.
 pub mod Laws
-use mathlib.Core.Path.{_≡_}
-use mathlib.Core.List.{[], _∷_}
+use mathlib.Core.{Path._≡_, List.[], List._∷_}
 use Prim.Native.Nat.{ℕ, _≤_, _<_}
 use lib.ListN.{length, take, drop}
-use Rattle.model.specs.declared.rule.Rule.{Rule}
-use Rattle.model.specs.Types.{Ty}
-use Rattle.model.specs.Verdict.{Says}
-use Rattle.model.specs.Rule.{Readable, Means, names}
-use Rattle.judge.specs.declared.fault.JudgeFault.{JudgeFault}
+use Rattle.model.specs.{declared.rule.Rule.Rule, Types.Ty, Verdict.Says, Rule.Readable, Rule.Means, Rule.names}
+use Rattle.judge.specs.{declared.fault.JudgeFault.JudgeFault, declared.verdict.Judged.Judged, Row.Upto, Row.judgeNumber}
 use Rattle.judge.specs.declared.fault.JudgeFault.the-variants.{Unreadable, BadTrail, UnknownName, NoRoom, NothingToTakeBack}
-use Rattle.judge.specs.declared.verdict.Judged.{Judged}
 use Rattle.judge.specs.declared.verdict.Judged.the-variants.{Verdict, Refused as RefusedRow}
-use Rattle.judge.specs.Row.{Upto, judgeNumber}
-use Rattle.sessions.specs.declared.session.Outcome.{Outcome}
+use Rattle.sessions.specs.{declared.session.Outcome.Outcome, declared.session.Session.Session, Session.Trail, Session.free}
 use Rattle.sessions.specs.declared.session.Outcome.the-variants.{Done, Refused}
-use Rattle.sessions.specs.declared.session.Session.{Session}
 use Rattle.sessions.specs.Book.{Call, opening, adding, takingBack, asking, room}
-use Rattle.sessions.specs.Session.{Trail, free}
 
 -- every place is free
 abbrev pub AllFree : Trail → Type 0

@@ -2,25 +2,17 @@
 -- The methods of src/session.rt promise just this, of any session and any trail.
 pub mod Laws
 pub mod Code
-use mathlib.Core.Path.{_≡_}
-use mathlib.Core.Bool.{Bool, true, cond, _&&_}
-use mathlib.Core.List.{List, [], _∷_}
+use mathlib.Core.{Path._≡_, Bool.Bool, Bool.true, Bool.cond, Bool._&&_, List.List, List.[], List._∷_}
 use Prim.Native.Nat.{ℕ, _+_, _-_}
 use lib.Dec.{leb, ltb, eqb}
 use lib.ListN.{length, take, drop, set, replicate}
-use Rattle.judge.specs.declared.fault.JudgeFault.{JudgeFault}
+use Rattle.judge.specs.{declared.fault.JudgeFault.JudgeFault, declared.verdict.Judged.Judged, Row.upto}
 use Rattle.judge.specs.declared.fault.JudgeFault.the-variants.{Unreadable, BadTrail, UnknownName, NoRoom, NothingToTakeBack}
-use Rattle.sessions.specs.declared.session.Outcome.{Outcome}
-use Rattle.sessions.specs.declared.session.Outcome.the-variants.{Done, Refused}
-use Rattle.sessions.specs.declared.session.Session.{Session}
-use Rattle.sessions.specs.declared.session.Step.{Step}
-use Rattle.judge.specs.declared.verdict.Judged.{Judged}
 use Rattle.judge.specs.declared.verdict.Judged.the-variants.{Verdict, Refused as RefusedRow}
-use Rattle.model.specs.Verdict.{verdict}
-use Rattle.model.specs.Rule.{names, ruleType}
-use Rattle.model.specs.Check.{readable}
-use Rattle.judge.specs.Row.{upto}
+use Rattle.sessions.specs.{declared.session.Outcome.Outcome, declared.session.Session.Session, declared.session.Step.Step}
+use Rattle.sessions.specs.declared.session.Outcome.the-variants.{Done, Refused}
 use Rattle.sessions.specs.Book.{Call, opening, adding, takingBack, asking, room}
+use Rattle.model.specs.{Verdict.verdict, Rule.names, Rule.ruleType, Check.readable}
 
 -- the places of a trail
 abbrev pub Trail : Type 0

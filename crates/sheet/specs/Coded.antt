@@ -1,24 +1,13 @@
 -- A listing whose verdicts are kept as bytes, and what the parts of a listing's making know of each other.
 pub mod Laws
-use mathlib.Core.Path.{_≡_}
-use mathlib.Core.Bool.{cond}
-use mathlib.Core.List.{List, [], _∷_, _++_}
+use mathlib.Core.{Path._≡_, Bool.cond, List.List, List.[], List._∷_, List._++_}
 use Prim.Native.Nat.{ℕ, suc, _+_, _≤_, _<_}
-use lib.Dec.{T, eqb}
-use lib.ListN.{length, getD}
-use Rattle.fields.specs.Limits.{maxFile}
-use Rattle.fields.specs.Bytes.{Text}
-use Rattle.judge.specs.declared.reading.NamePlace.{NamePlace}
-use Rattle.judge.specs.declared.verdict.ChildrenJudged.{ChildrenJudged}
+use lib.{Dec.T, Dec.eqb, ListN.length, ListN.getD}
+use Rattle.fields.specs.{Limits.maxFile, Bytes.Text, Split.lines, Split.behind, Split.part, Split.Laws.Stand, Children.allNames}
+use Rattle.judge.specs.{declared.reading.NamePlace.NamePlace, declared.verdict.ChildrenJudged.ChildrenJudged}
 use Rattle.judge.specs.declared.verdict.ChildrenJudged.the-variants.{Verdict, ModelRefused, ChildrenRefused}
-use Rattle.fields.specs.Split.{lines, behind, part}
-use Rattle.fields.specs.Split.Laws.{Stand}
-use Rattle.fields.specs.Children.{allNames}
-use Rattle.sheet.specs.declared.line.Said.{Said}
+use Rattle.sheet.specs.{declared.line.Said.Said, Cues.children, Put.Fits, Listing.wordOf, Listing.listingLine, Listing.said}
 use Rattle.sheet.specs.declared.line.Said.the-variants.{Complete, Open, Dead, NoSheet}
-use Rattle.sheet.specs.Cues.{children}
-use Rattle.sheet.specs.Put.{Fits}
-use Rattle.sheet.specs.Listing.{wordOf, listingLine, said}
 
 -- by what `judge_children` answers
 abbrev pub saidFrom : ChildrenJudged → Said

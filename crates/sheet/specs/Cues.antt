@@ -1,21 +1,15 @@
 -- A cue list: document 01, "Files" and refusals 30 to 36. Size and last line come first, then the lines in order, in each the rest by number.
 pub mod Laws
 pub mod Good
-use mathlib.Core.Bool.{Bool, cond, not, _&&_, _||_}
-use mathlib.Core.List.{List, [], _∷_}
-use Prim.Native.Nat.{ℕ, suc}
-use Prim.Native.Char.{code}
-use lib.Dec.{leb, ltb, eqb}
-use lib.ListN.{length, drop, getD}
+use mathlib.Core.{Bool.Bool, Bool.cond, Bool.not, Bool._&&_, Bool._||_, List.List, List.[], List._∷_}
+use Prim.Native.{Nat.ℕ, Nat.suc, Char.code}
+use lib.{Dec.leb, Dec.ltb, Dec.eqb, ListN.length, ListN.drop, ListN.getD}
+use Rattle.fields.specs.{Limits.maxRow, Limits.maxFile, declared.fault.CueFault.CueFault, Split.lines, Split.behind, Split.fields, Split.field}
+use Rattle.fields.specs.{Children.allNames}
 use Rattle.fields.specs.Bytes.{Text, bytes, isDigit, all, value, sameText}
-use Rattle.fields.specs.Limits.{maxRow, maxFile}
-use Rattle.fields.specs.declared.fault.CueFault.{CueFault}
 use Rattle.fields.specs.declared.fault.CueFault.the-variants.{LongFile, Unended, BadFields, BadNumber, NotAbove, NoName, ManyChildren}
-use Rattle.fields.specs.Split.{lines, behind, fields, field}
-use Rattle.fields.specs.Children.{allNames}
-use Rattle.sheet.specs.declared.cues.CueLine.{CueLine}
+use Rattle.sheet.specs.{declared.cues.CueLine.CueLine, declared.cues.CuesRead.CuesRead}
 use Rattle.sheet.specs.declared.cues.CueLine.the-variants.{Number, Bad}
-use Rattle.sheet.specs.declared.cues.CuesRead.{CuesRead}
 use Rattle.sheet.specs.declared.cues.CuesRead.the-variants.{Count, Refused}
 
 -- 1 to 5 digits, the first not 0

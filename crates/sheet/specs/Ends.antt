@@ -1,22 +1,12 @@
 -- The ends: when sheet, cue list and listing are refused, by the table; what a listing says of each cue, by the meaning of the models. Each proof is
 -- a citation.
-use mathlib.Core.Path.{_≡_}
-use mathlib.Core.Logic.{_↔_}
+use mathlib.Core.{Path._≡_, Logic._↔_}
 use Prim.Native.Nat.{ℕ}
-use Rattle.fields.specs.Bytes.{Text}
-use Rattle.fields.specs.Split.{lines}
-use Rattle.sheet.specs.declared.line.Said.{Said}
-use Rattle.sheet.specs.declared.sheet.SheetOutcome.{SheetOutcome}
-use Rattle.sheet.specs.declared.sheet.SheetOutcome.the-variants.{Read}
-use Rattle.sheet.specs.declared.cues.CuesRead.{CuesRead}
-use Rattle.sheet.specs.declared.listing.Listed.{Listed}
-use Rattle.sheet.specs.Cues.{cuesRead}
-use Rattle.sheet.specs.Sheet.{sheetOutcome}
-use Rattle.sheet.specs.Listing.{said, listed}
-use Rattle.sheet.specs.Refusal.{SheetAnswers, CuesAnswers, Lists}
+use Rattle.fields.specs.{Bytes.Text, Split.lines}
+use Rattle.sheet.specs.{declared.line.Said.Said, declared.sheet.SheetOutcome.SheetOutcome, declared.sheet.SheetOutcome.the-variants.Read}
+use Rattle.sheet.specs.{declared.cues.CuesRead.CuesRead, declared.listing.Listed.Listed, Cues.cuesRead, Sheet.sheetOutcome, Listing.said}
+use Rattle.sheet.specs.{Listing.listed, Refusal.SheetAnswers, Refusal.CuesAnswers, Refusal.Lists, Said.CueSaid, Said.Laws.cue-is}
 use Rattle.sheet.specs.Refusal.Laws.{sheet-is, cues-is, listed-is}
-use Rattle.sheet.specs.Said.{CueSaid}
-use Rattle.sheet.specs.Said.Laws.{cue-is}
 
 -- Demand 1, sheet: it is refused with the first fault of the table that stands, and read where none does.
 pub sheet-exactly : (x : Text) (o : SheetOutcome) → (sheetOutcome x ≡ o) ↔ SheetAnswers x o

@@ -1,30 +1,19 @@
 -- A listing, a line for each cue in order: document 01, "Files".
 pub mod Laws
-use mathlib.Core.Bool.{cond}
-use mathlib.Core.List.{List, [], _∷_, _++_, map}
+use mathlib.Core.{Bool.cond, List.List, List.[], List._∷_, List._++_, List.map}
 use Prim.Native.Nat.{ℕ, zero, suc}
-use lib.Dec.{leb}
-use lib.ListN.{length, drop, getD}
-use Rattle.model.specs.declared.verdict.Verdict.{Verdict}
+use lib.{Dec.leb, ListN.length, ListN.drop, ListN.getD}
+use Rattle.model.specs.{declared.verdict.Verdict.Verdict, Syntax.writtenNames, Syntax.numberIn, Fault.Answer, Fault.refused, Fault.accepted, Answer.answer}
+use Rattle.model.specs.{Model.modelOf, Model.typeOf, Verdict.verdict}
 use Rattle.model.specs.declared.verdict.Verdict.the-variants.{Complete as IsComplete, Open as IsOpen, Dead as IsDead}
-use Rattle.fields.specs.Bytes.{Text, bytes, digits}
-use Rattle.model.specs.Syntax.{writtenNames, numberIn}
-use Rattle.model.specs.Fault.{Answer, refused, accepted}
-use Rattle.model.specs.Answer.{answer}
-use Rattle.model.specs.Model.{modelOf, typeOf}
-use Rattle.model.specs.Verdict.{verdict}
-use Rattle.fields.specs.Split.{lineFeed, tab, lines, field}
-use Rattle.fields.specs.Children.{cueNumber}
+use Rattle.fields.specs.{Bytes.Text, Bytes.bytes, Bytes.digits, Split.lineFeed, Split.tab, Split.lines, Split.field, Children.cueNumber}
 use Rattle.judge.specs.Named.{rowOf}
-use Rattle.sheet.specs.declared.line.Said.{Said}
+use Rattle.sheet.specs.{declared.line.Said.Said, declared.cues.CuesRead.CuesRead, declared.sheet.SheetOutcome.SheetOutcome}
+use Rattle.sheet.specs.{declared.listing.Listed.Listed, Cues.children, Cues.cuesRead}
 use Rattle.sheet.specs.declared.line.Said.the-variants.{Complete, Open, Dead, NoSheet}
-use Rattle.sheet.specs.declared.cues.CuesRead.{CuesRead}
 use Rattle.sheet.specs.declared.cues.CuesRead.the-variants.{Count, Refused}
-use Rattle.sheet.specs.declared.sheet.SheetOutcome.{SheetOutcome}
 use Rattle.sheet.specs.declared.sheet.SheetOutcome.the-variants.{Read, Refused as SheetIsRefused}
-use Rattle.sheet.specs.declared.listing.Listed.{Listed}
 use Rattle.sheet.specs.declared.listing.Listed.the-variants.{Written, SheetRefused, CueRefused, TooLong}
-use Rattle.sheet.specs.Cues.{children, cuesRead}
 use Rattle.sheet.specs.Sheet.{kind, model, sheetNumber, sheetOutcome}
 
 abbrev pub word : Said → Text

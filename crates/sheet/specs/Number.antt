@@ -1,13 +1,10 @@
 -- The digits of a number, one digit more at a time, and how many there are.
-use mathlib.Core.Path.{_≡_, ap, _∙_}
-use mathlib.Core.List.{[], _∷_, _++_}
+use mathlib.Core.{Path._≡_, Path.ap, Path._∙_, List.[], List._∷_, List._++_}
 use Prim.Native.Nat.{ℕ, zero, suc, _+_, _/_, _%_, _^_, _≤_, _<_}
 use native.Mathlib.Omega.{arith}
-use lib.Dec.{ltb}
-use lib.ListN.{length, length-append}
+use lib.{Dec.ltb, ListN.length, ListN.length-append}
 use borrow.Author.Tests.{lt-ltb, le-ltb}
-use Rattle.fields.specs.Tests.{by-test}
-use Rattle.fields.specs.Bytes.{decimal, digits}
+use Rattle.fields.specs.{Tests.by-test, Bytes.decimal, Bytes.digits}
 
 decimal-room : (r n : ℕ) → n < 10 ^ suc r → decimal (suc (suc r)) n ≡ decimal (suc r) n
 decimal-room zero n h = rw (lt-ltb n 10 (omega arith))

@@ -1,14 +1,10 @@
 -- Bytes written into a buffer at a place, the others as they were.
-use mathlib.Core.Path.{_≡_, ap, sym, _∙_}
-use mathlib.Core.List.{[], _∷_, _++_, append-assoc}
+use mathlib.Core.{Path._≡_, Path.ap, Path.sym, Path._∙_, List.[], List._∷_, List._++_, List.append-assoc}
 use Prim.Native.Nat.{ℕ, _+_, _≤_, _<_}
-use native.Mathlib.Omega.{arith}
-use native.Mathlib.Numerals.{add-one}
+use native.Mathlib.{Omega.arith, Numerals.add-one}
 use lib.ListN.{length, take, drop, set, length-append, length-take, length-drop}
 use lib.Seq.{take-at, drop-at, drop-drop, set-split, paste, take-length}
-use Rattle.fields.specs.Bytes.{Text}
-use Rattle.fields.specs.Limits.{maxRow, maxFile}
-use Rattle.fields.specs.Split.{fields}
+use Rattle.fields.specs.{Bytes.Text, Limits.maxRow, Limits.maxFile, Split.fields}
 use Rattle.sheet.specs.Cues.{children}
 
 -- a line that is a cue's: it has its three fields, and no more children than the limit

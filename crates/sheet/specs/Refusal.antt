@@ -2,32 +2,20 @@
 -- Lines count from 1; what is wrong with the whole file stands at 0. Each fault looks at the text alone, not at whether another stands before it.
 pub mod Order
 pub mod Laws
-use mathlib.Core.Path.{_≡_}
-use mathlib.Core.Logic.{_⊎_}
-use mathlib.Core.Bool.{false}
-use mathlib.Core.List.{[], _∷_}
+use mathlib.Core.{Path._≡_, Logic._⊎_, Bool.false, List.[], List._∷_}
 use Prim.Native.Nat.{ℕ, zero, suc, _+_, _-_, _≤_, _<_}
 use lib.ListN.{length, getD}
-use Rattle.fields.specs.Bytes.{Text, bytes, value}
-use Rattle.fields.specs.Limits.{maxRow, maxFile}
-use Rattle.fields.specs.declared.fault.CueFault.{CueFault}
+use Rattle.fields.specs.{Bytes.Text, Bytes.bytes, Bytes.value, Limits.maxRow, Limits.maxFile, declared.fault.CueFault.CueFault, Split.lines, Split.behind}
+use Rattle.fields.specs.{Split.fields, Split.field, Children.cueNumber, Children.shortName, Children.allNames, Least.NoFault, Least.First}
 use Rattle.fields.specs.declared.fault.CueFault.the-variants.{LongFile as LongList, Unended as UnendedList, BadFields as BadCue, BadNumber, NotAbove, NoName}
 use Rattle.fields.specs.declared.fault.CueFault.the-variants.{ManyChildren, NoChild}
-use Rattle.fields.specs.Split.{lines, behind, fields, field}
-use Rattle.fields.specs.Children.{cueNumber, shortName, allNames}
 use Rattle.model.specs.Fault.{Answers, refused, modelNumber}
-use Rattle.sheet.specs.declared.sheet.SheetFault.{SheetFault}
+use Rattle.sheet.specs.{declared.sheet.SheetFault.SheetFault, declared.sheet.SheetOutcome.SheetOutcome, declared.cues.CuesRead.CuesRead}
+use Rattle.sheet.specs.{declared.listing.Listed.Listed, Cues.isCueNumber, Cues.children, Sheet.maxRules, Sheet.kind, Sheet.model, Listing.listing}
 use Rattle.sheet.specs.declared.sheet.SheetFault.the-variants.{LongFile, Unended, ManyRules, BadFields, NoKind, Repeated, Model}
-use Rattle.sheet.specs.declared.sheet.SheetOutcome.{SheetOutcome}
 use Rattle.sheet.specs.declared.sheet.SheetOutcome.the-variants.{Read, Refused}
-use Rattle.sheet.specs.declared.cues.CuesRead.{CuesRead}
 use Rattle.sheet.specs.declared.cues.CuesRead.the-variants.{Count, Refused as RefusedList}
-use Rattle.sheet.specs.declared.listing.Listed.{Listed}
 use Rattle.sheet.specs.declared.listing.Listed.the-variants.{Written, SheetRefused, CueRefused, TooLong}
-use Rattle.sheet.specs.Cues.{isCueNumber, children}
-use Rattle.sheet.specs.Sheet.{maxRules, kind, model}
-use Rattle.sheet.specs.Listing.{listing}
-use Rattle.fields.specs.Least.{NoFault, First}
 
 -- the text has a line n, and the line
 abbrev pub Line : Text → ℕ → Type 0

@@ -1,22 +1,13 @@
 -- What is said of a cue line by the lines of a sheet, by the meaning of the models.
 pub mod Laws
-use mathlib.Core.Path.{_≡_}
-use mathlib.Core.List.{List, []}
+use mathlib.Core.{Path._≡_, List.List, List.[]}
 use Prim.Native.Nat.{ℕ, _<_}
 use lib.ListN.{length, getD}
-use Rattle.fields.specs.Bytes.{Text}
-use Rattle.fields.specs.Split.{field}
-use Rattle.model.specs.declared.verdict.Verdict.{Verdict}
-use Rattle.model.specs.Syntax.{Syntax, writtenNames}
-use Rattle.model.specs.Fault.{Answers, accepted}
-use Rattle.model.specs.Model.{modelOf, typeOf}
-use Rattle.model.specs.Verdict.{Says}
+use Rattle.fields.specs.{Bytes.Text, Split.field}
+use Rattle.model.specs.{declared.verdict.Verdict.Verdict, Syntax.Syntax, Syntax.writtenNames, Fault.Answers, Fault.accepted, Model.modelOf, Model.typeOf}
+use Rattle.model.specs.{Verdict.Says}
 use Rattle.judge.specs.Named.{rowOf}
-use Rattle.sheet.specs.declared.line.Said.{Said}
-use Rattle.sheet.specs.declared.line.Said.the-variants.{NoSheet}
-use Rattle.sheet.specs.Cues.{children}
-use Rattle.sheet.specs.Sheet.{kind, model}
-use Rattle.sheet.specs.Listing.{wordOf}
+use Rattle.sheet.specs.{declared.line.Said.Said, declared.line.Said.the-variants.NoSheet, Cues.children, Sheet.kind, Sheet.model, Listing.wordOf}
 
 pub data CueSaid (ls : List Text) (l : Text) : Said → Type 0 where
   -- no line of the sheet has its kind

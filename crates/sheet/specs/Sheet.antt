@@ -3,27 +3,18 @@
 pub mod Laws
 pub mod Walk
 pub mod Good
-use mathlib.Core.Bool.{Bool, false, cond, not, _||_}
-use mathlib.Core.Option.{Option, none, some}
-use mathlib.Core.List.{List, [], _∷_, _++_, map}
+use mathlib.Core.{Bool.Bool, Bool.false, Bool.cond, Bool.not, Bool._||_, Option.Option, Option.none, Option.some, List.List, List.[], List._∷_, List._++_}
+use mathlib.Core.{List.map}
 use Prim.Native.Nat.{ℕ, suc, _+_, _-_}
-use lib.Dec.{leb, ltb, eqb}
-use lib.ListN.{length, replicate}
-use Rattle.fields.specs.Limits.{maxFile}
-use Rattle.judge.specs.declared.reading.NamePlace.{NamePlace}
-use Rattle.fields.specs.Bytes.{Text, bytes, sameText}
+use lib.{Dec.leb, Dec.ltb, Dec.eqb, ListN.length, ListN.replicate}
+use Rattle.fields.specs.{Limits.maxFile, Bytes.Text, Bytes.bytes, Bytes.sameText, Split.lines, Split.behind, Split.fields, Split.field, Children.shortName}
+use Rattle.judge.specs.{declared.reading.NamePlace.NamePlace, Reading.noPlace, Reading.namesWith, Reading.reading}
 use Rattle.model.specs.Fault.{Answer, refused, accepted, modelNumber}
 use Rattle.model.specs.Answer.{answer}
-use Rattle.judge.specs.Reading.{noPlace, namesWith, reading}
-use Rattle.fields.specs.Split.{lines, behind, fields, field}
-use Rattle.fields.specs.Children.{shortName}
-use Rattle.sheet.specs.declared.sheet.SheetFault.{SheetFault}
+use Rattle.sheet.specs.{declared.sheet.SheetFault.SheetFault, declared.sheet.SheetOutcome.SheetOutcome, declared.sheet.Entry.Entry}
+use Rattle.sheet.specs.{declared.sheet.Sheet.Sheet, declared.sheet.SheetRead.SheetRead}
 use Rattle.sheet.specs.declared.sheet.SheetFault.the-variants.{LongFile, Unended, ManyRules, BadFields, NoKind, Repeated, Model}
-use Rattle.sheet.specs.declared.sheet.SheetOutcome.{SheetOutcome}
 use Rattle.sheet.specs.declared.sheet.SheetOutcome.the-variants.{Read, Refused}
-use Rattle.sheet.specs.declared.sheet.Entry.{Entry}
-use Rattle.sheet.specs.declared.sheet.Sheet.{Sheet}
-use Rattle.sheet.specs.declared.sheet.SheetRead.{SheetRead}
 
 abbrev pub maxRules : ℕ
 maxRules = 64

@@ -1,18 +1,14 @@
 // The listing.
 
-ghost use mathlib.Core.Path.{_≡_};
-ghost use mathlib.Core.Bool.{cond};
+ghost use mathlib.Core.{Path._≡_, Bool.cond};
 ghost use Prim.Native.Nat.{_-_, _≤_};
-ghost use lib.Dec.{eqb};
-ghost use lib.ListN.{length};
+ghost use lib.{Dec.eqb, ListN.length};
 ghost use Rattle.model.specs.Syntax.{numberIn};
 ghost use Rattle.judge.specs.Reading.{partAt, partsOf};
 ghost use Rattle.fields.specs.Split.{lines, field};
-ghost use Rattle.sheet.specs.Cues.{children};
+ghost use Rattle.sheet.specs.{Cues.children, Sheet.Walk.Loaded, Put.Put, Put.Fits};
 ghost use Rattle.sheet.specs.Listing.{saidOf, listing, listed, bufferAfter};
 ghost use Rattle.sheet.specs.Coded.{saidFrom, codeOf, decoded, CueReady, GoodCues, Coded, listingCoded};
-ghost use Rattle.sheet.specs.Sheet.Walk.{Loaded};
-ghost use Rattle.sheet.specs.Put.{Put, Fits};
 use crate::cues::CuesRead;
 use crate::cues::read_cues;
 use crate::line::Said;

@@ -1,18 +1,13 @@
 // The sheet.
 
-ghost use mathlib.Core.Path.{_≡_};
-ghost use mathlib.Core.List.{[]};
+ghost use mathlib.Core.{Path._≡_, List.[]};
 ghost use Prim.Native.Nat.{_-_, _+_, _≤_};
 ghost use lib.ListN.{length};
-ghost use Rattle.fields.specs.Limits.{maxFile};
+ghost use Rattle.fields.specs.{Limits.maxFile, Split.lines, Split.behind, Heads.headsOf};
 ghost use Rattle.judge.specs.Reading.{noPlace, namesWith, partsOf};
-ghost use Rattle.fields.specs.Split.{lines, behind};
-ghost use Rattle.fields.specs.Heads.{headsOf};
-ghost use Rattle.sheet.specs.declared.sheet.SheetOutcome.the-variants.{Refused};
-ghost use Rattle.sheet.specs.declared.sheet.Checked.the-variants.{Bad};
+ghost use Rattle.sheet.specs.{declared.sheet.SheetOutcome.the-variants.Refused, declared.sheet.Checked.the-variants.Bad, Sheet.Walk.LoadedBy};
+ghost use Rattle.sheet.specs.{Sheet.Laws.lineChecked, Sheet.Laws.LineIs};
 ghost use Rattle.sheet.specs.Sheet.{noEntry, sheetWith, sheetLines, sheetBy, sheetRead};
-ghost use Rattle.sheet.specs.Sheet.Walk.{LoadedBy};
-ghost use Rattle.sheet.specs.Sheet.Laws.{lineChecked, LineIs};
 use fields::bytes::same_bytes;
 use fields::children::is_name;
 use fields::limits::MAX_FILE;

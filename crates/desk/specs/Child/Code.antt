@@ -1,45 +1,29 @@
 -- What the code finds on the way to a child.
+use mathlib.Core.{Logic.inl, Logic.inr, Logic.by-cases, Bool.true, Bool.false, Bool.cond, Bool._&&_}
 use mathlib.Core.Path.{_≡_, refl, sym, ap, subst, _∙_}
-use mathlib.Core.Logic.{inl, inr, by-cases}
-use mathlib.Core.Bool.{true, false, cond, _&&_}
 use mathlib.Core.List.{List, [], _∷_, head-eq-of-cons-eq, tail-eq-of-cons-eq}
 use Prim.Native.Nat.{ℕ, zero, suc, _+_, _-_, _≤_, _<_}
-use native.Mathlib.Decide.{decLt}
-use native.Mathlib.Numerals.{add-one}
-use native.Mathlib.Omega.{arith}
-use lib.Dec.{leb, ltb}
+use native.Mathlib.{Decide.decLt, Numerals.add-one, Omega.arith}
+use lib.{Dec.leb, Dec.ltb, Seq.drop-cons}
 use lib.ListN.{length, take, drop, getD, length-drop, length-take, length-append}
-use lib.Seq.{drop-cons}
 use borrow.Author.Tests.{leb-true, lt-leb, le-ltb, lt-ltb, ltb-true, ltb-false}
-use Rattle.fields.specs.Tests.{by-test}
-use Rattle.model.specs.declared.fault.ModelFault.{ModelFault}
-use Rattle.judge.specs.declared.reading.Names.{Names}
-use Rattle.judge.specs.declared.reading.Outcome.the-variants.{Read, Refused as Unread}
-use Rattle.judge.specs.declared.reading.Reading.{Reading}
-use Rattle.fields.specs.Bytes.{Text}
-use Rattle.model.specs.Syntax.{Syntax, writtenNames, numberIn}
-use Rattle.model.specs.Fault.{modelNumber, Answer, Answers, refused, accepted, places}
-use Rattle.model.specs.Answer.{answer, answered}
-use Rattle.model.specs.Fault.Answered.{name-inside}
-use Rattle.judge.specs.Reading.{noPlace, namesOf, readingBy, reading, partsOf}
-use Rattle.judge.specs.Reading.Laws.{names-are}
-use Rattle.judge.specs.Reading.Search.{name-fits}
-use Rattle.fields.specs.Limits.{maxRow, maxFile}
-use Rattle.fields.specs.declared.fault.CueFault.{CueFault}
+use Rattle.fields.specs.{Tests.by-test, Bytes.Text, Limits.maxRow, Limits.maxFile, declared.fault.CueFault.CueFault, declared.children.Children.Children}
+use Rattle.fields.specs.{Children.cueNumber, Children.allNames, Children.childrenOf}
 use Rattle.fields.specs.declared.fault.CueFault.the-variants.{LongFile, NoName, ManyChildren, NoChild}
-use Rattle.fields.specs.declared.children.Children.{Children}
 use Rattle.fields.specs.declared.children.Children.the-variants.{Count, Refused}
 use Rattle.fields.specs.Split.{tab, split, part, partEnd, more}
 use Rattle.fields.specs.Split.Laws.{rejoined, joined-split, part-at, end-within}
-use Rattle.fields.specs.Children.{cueNumber, allNames, childrenOf}
-use Rattle.desk.specs.declared.child.Located.{Located}
-use Rattle.desk.specs.declared.child.Located.the-variants.{InModel, InChildren, ModelRefused, ChildrenRefused}
+use Rattle.model.specs.{declared.fault.ModelFault.ModelFault, Syntax.Syntax, Syntax.writtenNames, Syntax.numberIn, Answer.answer, Answer.answered}
+use Rattle.model.specs.{Fault.Answered.name-inside}
+use Rattle.model.specs.Fault.{modelNumber, Answer, Answers, refused, accepted, places}
+use Rattle.judge.specs.{declared.reading.Names.Names, declared.reading.Reading.Reading, Reading.Laws.names-are, Reading.Search.name-fits}
+use Rattle.judge.specs.{Reply.Children.Laws.children-some, Reply.Judged.childrenGive}
+use Rattle.judge.specs.declared.reading.Outcome.the-variants.{Read, Refused as Unread}
+use Rattle.judge.specs.Reading.{noPlace, namesOf, readingBy, reading, partsOf}
 use Rattle.judge.specs.Reply.{childrenIn, child, Reply, modelRefused, childrenRefused, good, childrenBy}
-use Rattle.judge.specs.Reply.Children.Laws.{children-some}
-use Rattle.judge.specs.Reply.Judged.{childrenGive}
-use Rattle.desk.specs.Desk.{replyNumber}
-use Rattle.desk.specs.Child.Names.{names-many, place-in}
-use Rattle.desk.specs.Child.Laws.{name-here, finds-exactly}
+use Rattle.desk.specs.{declared.child.Located.Located, Desk.replyNumber, Child.Names.names-many, Child.Names.place-in, Child.Laws.name-here}
+use Rattle.desk.specs.{Child.Laws.finds-exactly}
+use Rattle.desk.specs.declared.child.Located.the-variants.{InModel, InChildren, ModelRefused, ChildrenRefused}
 use Rattle.desk.specs.Child.{Part, ofModel, ofChildren, childName, startIn, Finds, partBy, partIn, found, childRefusal, partOf, childPart, located}
 
 -- what the code finds of the children

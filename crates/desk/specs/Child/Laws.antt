@@ -1,20 +1,14 @@
 -- Every child asked for has one reply, and `found` computes it.
+use mathlib.Core.{Logic._↔_, Logic.by-cases, List.[]}
 use mathlib.Core.Path.{_≡_, refl, sym, ap, subst, _∙_}
-use mathlib.Core.Logic.{_↔_, by-cases}
-use mathlib.Core.List.{[]}
 use Prim.Native.Nat.{ℕ, zero, suc, _-_, _<_}
-use native.Mathlib.Decide.{decLt}
-use native.Mathlib.Omega.{arith}
-use lib.Dec.{T}
-use lib.ListN.{length, getD}
-use Rattle.model.specs.declared.fault.ModelFault.the-variants.{Repeated}
-use Rattle.fields.specs.Bytes.{Text}
+use native.Mathlib.{Decide.decLt, Omega.arith}
+use lib.{Dec.T, ListN.length, ListN.getD}
+use Rattle.model.specs.{declared.fault.ModelFault.the-variants.Repeated, Accept.Starts.name-at, Syntax.Number.from-found, Syntax.Number.from-none}
 use Rattle.model.specs.Syntax.{Syntax, text, writtenNames, numberIn}
 use Rattle.model.specs.Fault.{nameAt, nameFrom, tally, Answers, accepted, places}
-use Rattle.model.specs.Accept.Starts.{name-at}
-use Rattle.judge.specs.Reply.{child, Reply}
-use Rattle.judge.specs.Reply.Laws.{replies-exactly}
-use Rattle.model.specs.Syntax.Number.{from-found, from-none}
+use Rattle.fields.specs.Bytes.{Text}
+use Rattle.judge.specs.{Reply.child, Reply.Reply, Reply.Laws.replies-exactly}
 use Rattle.desk.specs.Child.Names.{begins-at, name-is}
 use Rattle.desk.specs.Child.{Part, ofModel, ofChildren, childName, PartStands, Finds, partBy, partIn, found}
 

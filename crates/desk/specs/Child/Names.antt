@@ -1,17 +1,14 @@
 -- The names of a model stand at the places where names begin in its text.
-use mathlib.Core.Path.{_≡_, sym, ap, _∙_}
-use mathlib.Core.List.{[], map}
+use mathlib.Core.{Path._≡_, Path.sym, Path.ap, Path._∙_, List.[], List.map}
 use Prim.Native.Nat.{ℕ, _<_}
 use native.Mathlib.Omega.{arith}
 use lib.Dec.{T}
 use lib.ListN.{length, getD, length-map, List·getD-append}
 use Rattle.fields.specs.Bytes.{Text}
-use Rattle.model.specs.Syntax.{Syntax, writtenNames}
+use Rattle.model.specs.{Syntax.Syntax, Syntax.writtenNames, Fault.Ties.in-places}
 use Rattle.model.specs.Fault.{nameAt, nameFrom, Answers, accepted, places}
-use Rattle.model.specs.Fault.Ties.{in-places}
-use Rattle.judge.specs.Reading.{namePlace, noPlace, namesOf}
-use Rattle.judge.specs.Reading.Laws.{parts-begin, names-are}
-use Rattle.judge.specs.Reading.Search.{mapped-at, in-list}
+use Rattle.judge.specs.{Reading.namePlace, Reading.noPlace, Reading.namesOf, Reading.Laws.parts-begin, Reading.Laws.names-are, Reading.Search.mapped-at}
+use Rattle.judge.specs.{Reading.Search.in-list}
 
 pub place-in : (x : Text) (i : ℕ) → i < length (places x (length x)) → getD (namesOf x .places) i noPlace ≡ namePlace x (getD (places x (length x)) i 0)
 place-in x i h =

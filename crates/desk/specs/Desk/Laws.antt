@@ -1,21 +1,15 @@
 -- A reply is known by its number.
-use mathlib.Core.Path.{_≡_, refl, sym, ap, _∙_}
-use mathlib.Core.Logic.{_↔_}
+use mathlib.Core.{Path._≡_, Path.refl, Path.sym, Path.ap, Path._∙_, Logic._↔_}
 use Prim.Native.Nat.{ℕ, _≤_, _<_}
 use native.Mathlib.Omega.{arith}
-use Rattle.fields.specs.declared.fault.CueFault.{CueFault}
+use Rattle.fields.specs.{declared.fault.CueFault.CueFault, Bytes.Text, Children.cueNumber}
 use Rattle.fields.specs.declared.fault.CueFault.the-variants.{LongFile, Unended, BadFields, BadNumber, NotAbove, NoName, ManyChildren, NoChild}
-use Rattle.fields.specs.Bytes.{Text}
-use Rattle.fields.specs.Children.{cueNumber}
-use Rattle.model.specs.declared.fault.ModelFault.{ModelFault}
-use Rattle.model.specs.declared.verdict.Verdict.{Verdict}
+use Rattle.model.specs.{declared.fault.ModelFault.ModelFault, declared.verdict.Verdict.Verdict, Fault.modelNumber}
 use Rattle.model.specs.declared.verdict.Verdict.the-variants.{Complete, Open, Dead}
-use Rattle.model.specs.Fault.{modelNumber}
 use Rattle.model.specs.Fault.Answered.{number-injective, number-over, number-under}
-use Rattle.judge.specs.declared.verdict.ChildrenJudged.{ChildrenJudged}
+use Rattle.judge.specs.{declared.verdict.ChildrenJudged.ChildrenJudged, Reply.Laws.cue-injective, Reply.Laws.judges-exactly}
 use Rattle.judge.specs.declared.verdict.ChildrenJudged.the-variants.{Verdict as Said, ModelRefused, ChildrenRefused}
 use Rattle.judge.specs.Reply.{Reply, modelRefused, childrenRefused, good, ChildrenJudges, childrenReply, judgedOf}
-use Rattle.judge.specs.Reply.Laws.{cue-injective, judges-exactly}
 use Rattle.desk.specs.Desk.{replyNumber, verdictNumber, deskAnswer}
 
 -- those of the model text are below 18, those of the children text from 30 on, verdicts below 3

@@ -1,19 +1,12 @@
 -- The first three fields of a line, by where each ends.
-use mathlib.Core.Path.{_≡_, ap, sym, _∙_}
-use mathlib.Core.Bool.{true, false}
-use mathlib.Core.List.{[], _∷_}
+use mathlib.Core.{Path._≡_, Path.ap, Path.sym, Path._∙_, Bool.true, Bool.false, List.[], List._∷_}
 use Prim.Native.Nat.{ℕ, suc, _+_, _≤_, _<_}
-use native.Mathlib.Omega.{arith}
-use native.Mathlib.Numerals.{add-one}
-use lib.Dec.{ltb}
-use lib.ListN.{length, drop, getD}
+use native.Mathlib.{Omega.arith, Numerals.add-one}
+use lib.{Dec.ltb, ListN.length, ListN.drop, ListN.getD}
 use borrow.Author.Tests.{ltb-true, ltb-false, lt-ltb, le-ltb}
-use Rattle.fields.specs.Tests.{by-test}
-use Rattle.fields.specs.Bytes.{Text}
-use Rattle.fields.specs.declared.split.Heads.{Heads}
+use Rattle.fields.specs.{Tests.by-test, Bytes.Text, declared.split.Heads.Heads, Split.Laws.part-at, Split.Laws.end-bounds, Heads.fieldBehind}
+use Rattle.fields.specs.{Heads.headsOf}
 use Rattle.fields.specs.Split.{tab, split, fields, field, part, partEnd, more}
-use Rattle.fields.specs.Split.Laws.{part-at, end-bounds}
-use Rattle.fields.specs.Heads.{fieldBehind, headsOf}
 
 module _ (l : Text) where
   -- the fields behind a tab: one, and those behind it

@@ -1,12 +1,8 @@
 -- One fault is first at most, so the one that is found is the answer. And how a table is gone through, test by test.
-use mathlib.Core.Path.{_≡_, refl}
-use mathlib.Core.Logic.{_↔_, _⊎_, inl, inr}
-use mathlib.Core.Bool.{Bool, true, false, cond}
+use mathlib.Core.{Path._≡_, Path.refl, Logic._↔_, Logic._⊎_, Logic.inl, Logic.inr, Bool.Bool, Bool.true, Bool.false, Bool.cond}
 use Prim.Native.Nat.{ℕ, suc, _≤_, _<_}
-use native.Mathlib.Decide.{ℕ-discrete}
-use native.Mathlib.Omega.{arith}
-use Rattle.fields.specs.Tests.{Tells, untold}
-use Rattle.fields.specs.Least.{Before, First, Least}
+use native.Mathlib.{Decide.ℕ-discrete, Omega.arith}
+use Rattle.fields.specs.{Tests.Tells, Tests.untold, Least.Before, Least.First, Least.Least}
 
 -- an answer of which there is at most one
 pub exactly : {O : Type 0} (P : O → Type 0) → ((a b : O) → P a → P b → a ≡ b) → (o : O) → P o → (a : O) → (o ≡ a) ↔ P a

@@ -1,22 +1,15 @@
 -- What the second pass over a row computes of a type, from what the first has seen of each name: its span, whether its part of the row is held,
 -- and whether that can be extended. `attributeBy` is the same over a model.
-use mathlib.Core.Path.{_≡_, refl}
-use mathlib.Core.Bool.{true, false, _&&_}
-use mathlib.Core.List.{List, [], _∷_, map}
+use mathlib.Core.{Path._≡_, Path.refl, Bool.true, Bool.false, Bool._&&_, List.List, List.[], List._∷_, List.map}
 use Prim.Native.Nat.{ℕ, zero, suc, min, max}
-use lib.Dec.{leb, ltb}
-use lib.ListN.{length}
-use Rattle.model.specs.declared.rule.Upper.{Upper}
-use Rattle.model.specs.declared.rule.Sign.{Sign}
-use Rattle.model.specs.declared.rule.Mark.{Mark}
+use lib.{Dec.leb, Dec.ltb, ListN.length}
+use Rattle.model.specs.{declared.rule.Upper.Upper, declared.rule.Sign.Sign, declared.rule.Mark.Mark, Word.Word, Word.only, Word.count, Word.touched}
 use Rattle.model.specs.declared.rule.Mark.the-variants.{Plain, Optional}
-use Rattle.judge.specs.declared.row.Seen.{Seen}
-use Rattle.judge.specs.declared.row.Attribute.{Attribute}
-use Rattle.model.specs.Word.{Word, only, count, touched}
 use Rattle.model.specs.Word.Span.{firstPlace, lastBehind, first-untouched, behind-untouched, touched-behind, ordered-span, first-either, behind-either}
 use Rattle.model.specs.Types.{Operator, choice, Ty, ε, atom, join, symbols, ConflictFree}
 use Rattle.model.specs.Membership.{under, joined, begun, done, alive}
 use Rattle.model.specs.Model.{Algebra, operator, joinedFrom, joinedType, typeBy}
+use Rattle.judge.specs.{declared.row.Seen.Seen, declared.row.Attribute.Attribute}
 
 abbrev pub emptyAttribute : ℕ → Attribute
 emptyAttribute n = record { first = n; behind = 0; done = true; alive = true }

@@ -1,35 +1,17 @@
 -- What `judge_row` answers, with what its calls gave, is `judged`.
-use mathlib.Core.Path.{_≡_, sym, ap, _∙_}
-use mathlib.Core.Bool.{Bool, true, false, _&&_}
-use mathlib.Core.List.{List, map}
+use mathlib.Core.{Path._≡_, Path.sym, Path.ap, Path._∙_, Bool.Bool, Bool.true, Bool.false, Bool._&&_, List.List, List.map}
 use Prim.Native.Nat.{ℕ, _≤_, _<_}
 use native.Mathlib.Omega.{arith}
 use borrow.Author.Tests.{le-leb, lt-leb}
-use lib.Dec.{eqb}
-use lib.ListN.{length, take, getD}
+use lib.{Dec.eqb, ListN.length, ListN.take, ListN.getD}
+use Rattle.judge.specs.{declared.row.Attribute.Attribute, Reading.Buffer.Stores, Packed.nodeIn, Packed.ruleIn, Row.upto, Row.judged, Row.Tally.seenOf}
+use Rattle.judge.specs.{Row.Tally.Tallied, Row.Root.rootAttribute, Row.Pass.verdict-seen}
 use Rattle.judge.specs.declared.fault.JudgeFault.the-variants.{Unreadable, LongRow, UnknownName}
-use Rattle.model.specs.declared.rule.Rule.{Rule}
-use Rattle.model.specs.declared.rule.Node.{Node}
-use Rattle.judge.specs.declared.row.Attribute.{Attribute}
-use Rattle.model.specs.declared.verdict.Verdict.{Verdict as Said}
 use Rattle.judge.specs.declared.verdict.Judged.the-variants.{Verdict, Refused}
+use Rattle.model.specs.{declared.rule.Rule.Rule, declared.rule.Node.Node, declared.verdict.Verdict.Verdict as Said, Word.Word, Verdict.verdictOf}
+use Rattle.model.specs.{Verdict.verdict, Tree.atoms, Tree.nodes, Model.Laws.length-encode, Model.atomsIn, Rule.names, Rule.ruleWith, Rule.ruleType, Rule.used}
+use Rattle.model.specs.{Rule.Laws.used-with, Rule.Laws.used-is, Rule.Names.names-model, Check.readable, Check.Exact.readable-formed}
 use Rattle.fields.specs.Limits.{maxAtoms, maxNodes, maxRow}
-use Rattle.model.specs.Word.{Word}
-use Rattle.model.specs.Verdict.{verdictOf, verdict}
-use Rattle.model.specs.Tree.{atoms, nodes}
-use Rattle.model.specs.Model.Laws.{length-encode}
-use Rattle.model.specs.Model.{atomsIn}
-use Rattle.model.specs.Rule.{names, ruleWith, ruleType, used}
-use Rattle.model.specs.Rule.Laws.{used-with, used-is}
-use Rattle.model.specs.Rule.Names.{names-model}
-use Rattle.model.specs.Check.{readable}
-use Rattle.model.specs.Check.Exact.{readable-formed}
-use Rattle.judge.specs.Reading.Buffer.{Stores}
-use Rattle.judge.specs.Packed.{nodeIn, ruleIn}
-use Rattle.judge.specs.Row.{upto, judged}
-use Rattle.judge.specs.Row.Tally.{seenOf, Tallied}
-use Rattle.judge.specs.Row.Root.{rootAttribute}
-use Rattle.judge.specs.Row.Pass.{verdict-seen}
 
 -- the limits that the passes ask for
 pub readable-within : (r : Rule) → readable r ≡ true → (r .len ≤ maxNodes) × (names r ≤ maxAtoms)

@@ -1,25 +1,15 @@
 -- Every row has one answer, and `judged` computes it.
-use mathlib.Core.Path.{_≡_, refl, sym, ap}
-use mathlib.Core.List.{[], _∷_}
+use mathlib.Core.{Path._≡_, Path.refl, Path.sym, Path.ap, List.[], List._∷_}
 use Prim.Native.Nat.{ℕ}
 use native.Mathlib.Omega.{arith}
-use lib.Dec.{leb}
-use lib.ListN.{length}
-use Rattle.model.specs.declared.rule.Rule.{Rule}
-use Rattle.judge.specs.declared.verdict.Judged.{Judged}
-use Rattle.judge.specs.declared.verdict.Judged.the-variants.{Verdict as Said}
-use Rattle.fields.specs.Tests.{by-test, Tells, untold, fails, tells-le, tells-and}
-use Rattle.model.specs.Word.{Word}
-use Rattle.model.specs.Verdict.Laws.{verdict-says, verdict-is}
-use Rattle.model.specs.Rule.{names, ruleType, Means}
-use Rattle.model.specs.Check.{readable}
+use lib.{Dec.leb, ListN.length}
+use Rattle.model.specs.{declared.rule.Rule.Rule, Word.Word, Verdict.Laws.verdict-says, Verdict.Laws.verdict-is, Rule.names, Rule.ruleType, Rule.Means}
+use Rattle.model.specs.{Check.readable, declared.verdict.Verdict.Verdict, Types.Ty, Verdict.Says, Rule.Laws.means-once}
 use Rattle.model.specs.Check.Exact.{readable-is, type-means, means-type, means-conflict-free}
+use Rattle.judge.specs.{declared.verdict.Judged.Judged, declared.verdict.Judged.the-variants.Verdict as Said}
 use Rattle.judge.specs.Row.{Upto, Judges, judged, upto, unreadable, long-row, unknown-name, judges}
+use Rattle.fields.specs.Tests.{by-test, Tells, untold, fails, tells-le, tells-and}
 use Rattle.fields.specs.Limits.{maxRow}
-use Rattle.model.specs.declared.verdict.Verdict.{Verdict}
-use Rattle.model.specs.Types.{Ty}
-use Rattle.model.specs.Verdict.{Says}
-use Rattle.model.specs.Rule.Laws.{means-once}
 
 pub upto-tells : (n : ℕ) (w : Word) → Tells (upto n w) (Upto n w)
 upto-tells n [] = (λ e. tt, λ h. refl)

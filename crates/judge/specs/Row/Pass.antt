@@ -1,40 +1,21 @@
 -- From what the two passes over a row know to the verdict on it.
-use mathlib.Core.Path.{_≡_, refl, sym, ap, _∙_}
-use mathlib.Core.Logic.{_↔_, by-cases}
-use mathlib.Core.Bool.{true, false, _&&_, and-eq-true-iff}
-use mathlib.Core.List.{List, [], _∷_, map}
+use mathlib.Core.{Path._≡_, Path.refl, Path.sym, Path.ap, Path._∙_, Logic._↔_, Logic.by-cases, Bool.true, Bool.false, Bool._&&_, Bool.and-eq-true-iff}
+use mathlib.Core.{List.List, List.[], List._∷_, List.map}
 use Prim.Native.Nat.{ℕ, _+_, suc, _≤_, _<_}
-use native.Mathlib.Decide.{decLt}
-use native.Mathlib.Omega.{arith}
-use lib.Dec.{eqb, leb}
+use native.Mathlib.{Decide.decLt, Omega.arith}
+use lib.{Dec.eqb, Dec.leb, ListN.length, ListN.getD}
 use borrow.Author.Tests.{eq-eqb, ne-eqb, leb-true}
-use lib.ListN.{length, getD}
-use Rattle.model.specs.declared.rule.Kind.{Kind}
+use Rattle.model.specs.{declared.rule.Kind.Kind, declared.rule.Mark.Mark, declared.rule.Node.Node, declared.rule.Rule.Rule, declared.verdict.Verdict.Verdict}
+use Rattle.model.specs.{Word.Word, Word.Names, Word.only, Word.keep, Word.count, Types.symbols, Membership.over?, Membership.holds?, Membership.extends?}
+use Rattle.model.specs.{Verdict.verdictOf, Verdict.verdict, Tree.atoms, Model.Eval.eval-map, Model.Eval.after-is, Rule.ruleOf, Rule.names, Rule.ruleType}
+use Rattle.model.specs.{Rule.used, Rule.Laws.rule-eval, Rule.Names.names-model, Check.readable, Check.Exact.readable-formed, Check.Exact.rule-type}
 use Rattle.model.specs.declared.rule.Kind.the-variants.{Atom, Group}
-use Rattle.model.specs.declared.rule.Mark.{Mark}
-use Rattle.model.specs.declared.rule.Node.{Node}
-use Rattle.model.specs.declared.rule.Rule.{Rule}
-use Rattle.judge.specs.declared.row.Seen.{Seen}
-use Rattle.judge.specs.declared.row.Attribute.{Attribute}
-use Rattle.model.specs.declared.verdict.Verdict.{Verdict}
-use Rattle.fields.specs.Tests.{by-test}
-use Rattle.model.specs.Word.{Word, Names, only, keep, count}
-use Rattle.model.specs.Types.{symbols}
-use Rattle.model.specs.Membership.{over?, holds?, extends?}
+use Rattle.model.specs.Model.{Model, typeBy, typeOf, after, evalStep, eval, atomsIn}
+use Rattle.model.specs.Model.Types.{Fits, type-conflict-free, type-symbols}
+use Rattle.judge.specs.{declared.row.Seen.Seen, declared.row.Attribute.Attribute, Row.upto, Row.Root.rootAttribute}
 use Rattle.judge.specs.Row.Attribute.{emptyAttribute, attributeBy, attribute, attribute-is, attribute-atom, attribute-group, attribute-mark, seen}
 use Rattle.judge.specs.Row.Attribute.{attributeOf}
-use Rattle.model.specs.Verdict.{verdictOf, verdict}
-use Rattle.model.specs.Tree.{atoms}
-use Rattle.model.specs.Model.{Model, typeBy, typeOf, after, evalStep, eval, atomsIn}
-use Rattle.model.specs.Model.Eval.{eval-map, after-is}
-use Rattle.model.specs.Model.Types.{Fits, type-conflict-free, type-symbols}
-use Rattle.model.specs.Rule.{ruleOf, names, ruleType, used}
-use Rattle.model.specs.Rule.Laws.{rule-eval}
-use Rattle.model.specs.Rule.Names.{names-model}
-use Rattle.model.specs.Check.{readable}
-use Rattle.model.specs.Check.Exact.{readable-formed, rule-type}
-use Rattle.judge.specs.Row.{upto}
-use Rattle.judge.specs.Row.Root.{rootAttribute}
+use Rattle.fields.specs.Tests.{by-test}
 
 -- by what is seen of each name in a row of n children, of foreign names under 0
 abbrev pub seenVerdict : Rule → ℕ → (ℕ → Seen) → Verdict

@@ -1,35 +1,20 @@
 -- The second pass over a row: what it knows behind each node, and at its end of the first.
-use mathlib.Core.Path.{_≡_, refl, sym, ap, _∙_}
-use mathlib.Core.Logic.{by-cases}
-use mathlib.Core.Bool.{Bool, cond}
-use mathlib.Core.List.{List, [], _∷_, _++_}
+use mathlib.Core.{Path._≡_, Path.refl, Path.sym, Path.ap, Path._∙_, Logic.by-cases, Bool.Bool, Bool.cond, List.List, List.[], List._∷_, List._++_}
 use Prim.Native.Nat.{ℕ, zero, suc, _+_, _-_, _≤_, _<_, min}
-use native.Mathlib.Nat.{add-comm}
-use native.Mathlib.Decide.{decLt}
-use native.Mathlib.Omega.{arith}
+use native.Mathlib.{Nat.add-comm, Decide.decLt, Omega.arith}
 use lib.Dec.{eqb}
-use borrow.Author.Tests.{eq-eqb, ne-eqb}
 use lib.ListN.{length, take, drop, getD, set, length-set, length-drop, drop-of-length-le}
 use lib.Seq.{take-suc, drop-cons, take-all, getD-drop, length-take-le}
-use Rattle.model.specs.declared.rule.Upper.{Upper}
-use Rattle.model.specs.declared.rule.Mark.{Mark}
-use Rattle.model.specs.declared.rule.Kind.{Kind}
+use borrow.Author.Tests.{eq-eqb, ne-eqb}
+use Rattle.model.specs.{declared.rule.Upper.Upper, declared.rule.Mark.Mark, declared.rule.Kind.Kind, declared.rule.Node.Node, declared.rule.Rule.Rule}
+use Rattle.model.specs.{Types.Operator, Rule.ruleWith, Rule.used, Rule.Laws.used-with, Model.Eval.after-is, Model.Eval.atoms-next}
 use Rattle.model.specs.declared.rule.Kind.the-variants.{Atom, Group}
-use Rattle.model.specs.declared.rule.Node.{Node}
-use Rattle.model.specs.declared.rule.Rule.{Rule}
-use Rattle.judge.specs.declared.row.Seen.{Seen}
-use Rattle.judge.specs.declared.row.Attribute.{Attribute}
-use Rattle.fields.specs.Limits.{maxNodes}
-use Rattle.fields.specs.Stack.{drop-back, first-entries, replaced}
-use Rattle.model.specs.Types.{Operator}
+use Rattle.model.specs.Model.{operator, after, needed, evalStep, eval, atomsIn, isAtom}
+use Rattle.judge.specs.{declared.row.Seen.Seen, declared.row.Attribute.Attribute, Packed.nodeIn}
 use Rattle.judge.specs.Row.Attribute.{emptyAttribute, atomAttribute, pairAttribute, countedAttribute, markedAttribute, joinedAttributeFrom}
 use Rattle.judge.specs.Row.Attribute.{joinedAttribute, attributeBy}
-use Rattle.model.specs.Model.{operator, after, needed, evalStep, eval, atomsIn, isAtom}
-use Rattle.model.specs.Rule.{ruleWith, used}
 use Rattle.judge.specs.Reading.Buffer.{Stores, holds-count, holds-at}
-use Rattle.judge.specs.Packed.{nodeIn}
-use Rattle.model.specs.Rule.Laws.{used-with}
-use Rattle.model.specs.Model.Eval.{after-is, atoms-next}
+use Rattle.fields.specs.{Limits.maxNodes, Stack.drop-back, Stack.first-entries, Stack.replaced}
 
 -- of the first node of a rule, in a row of n children
 abbrev pub rootAttribute : Rule → ℕ → (ℕ → Seen) → Attribute

@@ -1,23 +1,17 @@
 -- What the first pass over a row knows of each name: of the whole row at its end, of the children passed at each turn.
-use mathlib.Core.Path.{_≡_, refl, sym, ap, _∙_}
+use mathlib.Core.{Path._≡_, Path.refl, Path.sym, Path.ap, Path._∙_, List.List, List.[], List._∷_, List._++_}
 use mathlib.Core.Bool.{true, cond, and-eq-true-iff, true≢false, false≢true}
-use mathlib.Core.List.{List, [], _∷_, _++_}
 use Prim.Native.Nat.{ℕ, zero, suc, _+_, _*_, _/_, _%_, _≤_, _<_, min}
-use native.Mathlib.Numerals.{add-one}
-use native.Mathlib.Nat.{min-eq-left, min-eq-right}
-use native.Mathlib.Omega.{arith}
+use native.Mathlib.{Numerals.add-one, Nat.min-eq-left, Nat.min-eq-right, Omega.arith}
 use lib.Dec.{leb}
 use lib.ListN.{length, take, getD, set, replicate, getD-replicate, length-replicate, length-set, length-take}
 use lib.Seq.{take-suc, getD-set-same, getD-set-other, length-take-le}
 use borrow.Author.Tests.{leb-true, le-leb}
-use Rattle.judge.specs.declared.row.Seen.{Seen}
-use Rattle.fields.specs.Limits.{maxAtoms}
-use Rattle.fields.specs.Tests.{by-test}
+use Rattle.judge.specs.{declared.row.Seen.Seen, Row.Attribute.seen, Row.upto}
+use Rattle.fields.specs.{Limits.maxAtoms, Tests.by-test}
 use Rattle.model.specs.Word.{Word, Names, only, count, keep, touched}
 use Rattle.model.specs.Word.Laws.{only-is, only-self}
 use Rattle.model.specs.Word.Span.{firstPlace, lastBehind, first-untouched, touched-more, count-more, first-more, behind-more}
-use Rattle.judge.specs.Row.Attribute.{seen}
-use Rattle.judge.specs.Row.{upto}
 
 -- of a row of n children, none of which is the name
 abbrev pub unseen : ℕ → Seen

@@ -1,15 +1,11 @@
 -- The book is a function of what it is fed: it gives one reply to each call, and there is one book after it.
-use mathlib.Core.Path.{_≡_, refl, sym, ap, _∙_}
-use mathlib.Core.List.{List, [], _∷_, _++_}
+use mathlib.Core.{Path._≡_, Path.refl, Path.sym, Path.ap, Path._∙_, List.List, List.[], List._∷_, List._++_}
 use Prim.Native.Nat.{ℕ}
 use native.Mathlib.Omega.{arith}
 use lib.ListN.{length, length-append}
-use Rattle.model.specs.declared.rule.Rule.{Rule}
-use Rattle.model.specs.Word.{Word}
-use Rattle.model.specs.Verdict.Laws.{says-once}
-use Rattle.model.specs.Rule.{names}
-use Rattle.model.specs.Rule.Laws.{means-once}
-use Rattle.sessions.specs.Book.{Call, takingBack, CallReply, says, nothing, Book, book, Enters, no-model, opens, no-name, no-room, adds, no-children, takes, judges, Keeps, done, next}
+use Rattle.model.specs.{declared.rule.Rule.Rule, Word.Word, Verdict.Laws.says-once, Rule.names, Rule.Laws.means-once}
+use Rattle.sessions.specs.Book.{Call, takingBack, CallReply, says, nothing, Book, book, Enters, no-model, opens, no-name, no-room, adds, no-children}
+use Rattle.sessions.specs.Book.{takes, judges, Keeps, done, next}
 
 -- no word that ends in x is empty
 pub ends-not-empty : (w : Word) (x : ℕ) → ¬ w ++ (x ∷ []) ≡ []

@@ -1,32 +1,19 @@
 -- Each call does what the book does.
-use mathlib.Core.Path.{_≡_, refl, ap, _∙_}
-use mathlib.Core.Logic.{_↔_}
-use mathlib.Core.Bool.{true}
-use mathlib.Core.List.{[], _∷_, _++_, append-assoc}
+use mathlib.Core.{Path._≡_, Path.refl, Path.ap, Path._∙_, Logic._↔_, Bool.true, List.[], List._∷_, List._++_, List.append-assoc}
 use Prim.Native.Nat.{ℕ, zero, suc, _+_, _-_, _≤_, _<_}
-use native.Mathlib.Nat.{sub-zero}
-use native.Mathlib.Omega.{arith}
-use lib.Dec.{leb, ltb}
+use native.Mathlib.{Nat.sub-zero, Omega.arith}
+use lib.{Dec.leb, Dec.ltb, Seq.take-at, Seq.drop-at, Seq.set-at}
 use lib.ListN.{length, set, replicate, length-append, length-replicate}
-use lib.Seq.{take-at, drop-at, set-at}
 use borrow.Author.Tests.{leb-true, leb-false, ltb-true, ltb-false}
-use Rattle.judge.specs.declared.fault.JudgeFault.the-variants.{Unreadable}
-use Rattle.model.specs.declared.rule.Rule.{Rule}
-use Rattle.sessions.specs.declared.session.Outcome.the-variants.{Done}
-use Rattle.fields.specs.Tests.{by-test, untold}
-use Rattle.model.specs.Word.{Word}
-use Rattle.model.specs.Verdict.Laws.{verdict-says}
-use Rattle.model.specs.Rule.{Readable, names, ruleType}
-use Rattle.model.specs.Check.{readable}
+use Rattle.judge.specs.{declared.fault.JudgeFault.the-variants.Unreadable, Row.Upto}
+use Rattle.model.specs.{declared.rule.Rule.Rule, Word.Word, Verdict.Laws.verdict-says, Rule.Readable, Rule.names, Rule.ruleType, Check.readable}
 use Rattle.model.specs.Check.Exact.{readable-is, type-means, means-conflict-free}
-use Rattle.judge.specs.Row.{Upto}
+use Rattle.sessions.specs.{declared.session.Outcome.the-variants.Done, Book.Laws.takes-last, Calls.World, Calls.plays, Calls.replyTo, Calls.shown}
+use Rattle.sessions.specs.{Refusal.AllFree, Session.Laws.intact-tells}
 use Rattle.sessions.specs.Book.{Call, opening, adding, takingBack, asking, nothing, refuses, Book, book, room, Enters, no-model, opens, no-name}
 use Rattle.sessions.specs.Book.{no-room, adds, no-children, judges}
-use Rattle.sessions.specs.Book.Laws.{takes-last}
 use Rattle.sessions.specs.Session.{free, intact, checked, outcome}
-use Rattle.sessions.specs.Calls.{World, plays, replyTo, shown}
-use Rattle.sessions.specs.Refusal.{AllFree}
-use Rattle.sessions.specs.Session.Laws.{intact-tells}
+use Rattle.fields.specs.Tests.{by-test, untold}
 
 replicate-free : (n : ℕ) → AllFree (replicate n free)
 replicate-free zero = tt

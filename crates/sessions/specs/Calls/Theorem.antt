@@ -1,6 +1,5 @@
 -- Demand 3: every list of calls that follows an opening not refused agrees with the book.
-use mathlib.Core.Path.{_≡_}
-use mathlib.Core.List.{List, [], _∷_}
+use mathlib.Core.{Path._≡_, List.List, List.[], List._∷_}
 use Prim.Native.Nat.{ℕ, _≤_}
 use lib.ListN.{length}
 use Rattle.model.specs.declared.rule.Rule.{Rule}

@@ -1,31 +1,21 @@
 -- A call is refused exactly as the table says.
-use mathlib.Core.Path.{_≡_, refl, sym, ap, _∙_}
-use mathlib.Core.Logic.{_↔_}
-use mathlib.Core.Bool.{cond}
+use mathlib.Core.{Path._≡_, Path.refl, Path.sym, Path.ap, Path._∙_, Logic._↔_, Bool.cond}
 use Prim.Native.Nat.{ℕ, _≤_, _<_}
 use native.Mathlib.Omega.{arith}
-use lib.Dec.{leb, ltb, eqb}
-use lib.ListN.{length, take}
+use lib.{Dec.leb, Dec.ltb, Dec.eqb, ListN.length, ListN.take}
 use borrow.Author.Tests.{leb-true, leb-false, ltb-true, ltb-false}
-use Rattle.judge.specs.declared.fault.JudgeFault.{JudgeFault}
+use Rattle.judge.specs.{declared.fault.JudgeFault.JudgeFault, declared.verdict.Judged.Judged, Row.judgeNumber}
 use Rattle.judge.specs.declared.fault.JudgeFault.the-variants.{Unreadable, LongRow, BadTrail, UnknownName, NoRoom, NothingToTakeBack}
-use Rattle.model.specs.declared.rule.Rule.{Rule}
-use Rattle.sessions.specs.declared.session.Outcome.{Outcome}
-use Rattle.sessions.specs.declared.session.Outcome.the-variants.{Done, Refused}
-use Rattle.sessions.specs.declared.session.Session.{Session}
-use Rattle.judge.specs.declared.verdict.Judged.{Judged}
 use Rattle.judge.specs.declared.verdict.Judged.the-variants.{Verdict, Refused as RefusedRow}
-use Rattle.model.specs.Verdict.Laws.{says-once, verdict-says}
-use Rattle.model.specs.Rule.Laws.{means-once}
-use Rattle.fields.specs.Tests.{by-test, untold}
-use Rattle.model.specs.Rule.{Readable, names, ruleType}
-use Rattle.model.specs.Check.{readable}
+use Rattle.model.specs.{declared.rule.Rule.Rule, Verdict.Laws.says-once, Verdict.Laws.verdict-says, Rule.Laws.means-once, Rule.Readable, Rule.names}
+use Rattle.model.specs.{Rule.ruleType, Check.readable}
 use Rattle.model.specs.Check.Exact.{readable-is, type-means, means-conflict-free}
-use Rattle.judge.specs.Row.{judgeNumber}
+use Rattle.sessions.specs.{declared.session.Outcome.Outcome, declared.session.Session.Session, Session.Laws.intact-tells, Session.Laws.checked-done}
+use Rattle.sessions.specs.declared.session.Outcome.the-variants.{Done, Refused}
 use Rattle.sessions.specs.Book.{Call, opening, adding, takingBack, asking, room}
 use Rattle.sessions.specs.Session.{Trail, intact, _then_, checked, outcome, judgedBy, asked}
-use Rattle.sessions.specs.Session.Laws.{intact-tells, checked-done}
 use Rattle.sessions.specs.Refusal.{Intact, Later, CallStands, no-rule, no-model, bad-trail, no-name, no-room, no-children, Tried, Asks}
+use Rattle.fields.specs.Tests.{by-test, untold}
 
 then-no-more : (o : Outcome) → (o then Done) ≡ o
 then-no-more Done = refl

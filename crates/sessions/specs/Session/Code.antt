@@ -1,29 +1,19 @@
 -- How the answers of the methods come from what their calls give.
-use mathlib.Core.Path.{_≡_, refl, ap}
-use mathlib.Core.Bool.{Bool, true, false, _&&_}
+use mathlib.Core.{Path._≡_, Path.refl, Path.ap, Bool.Bool, Bool.true, Bool.false, Bool._&&_}
 use Prim.Native.Nat.{ℕ, _-_, _≤_, _<_}
-use native.Mathlib.Nat.{sub-zero}
-use native.Mathlib.Omega.{arith}
+use native.Mathlib.{Nat.sub-zero, Omega.arith}
 use lib.ListN.{length, take, drop, length-take, length-drop}
 use lib.Seq.{take-all}
 use borrow.Author.Tests.{le-leb, lt-ltb, le-ltb, lt-leb}
-use Rattle.judge.specs.declared.fault.JudgeFault.{JudgeFault}
+use Rattle.judge.specs.{declared.fault.JudgeFault.JudgeFault, Row.judged, Row.upto, Row.Laws.upto-tells}
 use Rattle.judge.specs.declared.fault.JudgeFault.the-variants.{Unreadable, BadTrail, UnknownName, NoRoom, NothingToTakeBack}
-use Rattle.model.specs.declared.rule.Rule.{Rule}
-use Rattle.sessions.specs.declared.session.Outcome.the-variants.{Done, Refused}
-use Rattle.sessions.specs.declared.session.Session.{Session}
-use Rattle.sessions.specs.declared.session.Step.{Step}
 use Rattle.judge.specs.declared.verdict.Judged.the-variants.{Verdict, Refused as RefusedRow}
-use Rattle.model.specs.Verdict.{verdict}
-use Rattle.model.specs.Rule.{names, ruleType}
-use Rattle.model.specs.Check.{readable}
-use Rattle.judge.specs.Row.{judged, upto}
-use Rattle.judge.specs.Row.Laws.{upto-tells}
+use Rattle.model.specs.{declared.rule.Rule.Rule, Verdict.verdict, Rule.names, Rule.ruleType, Check.readable}
+use Rattle.sessions.specs.{declared.session.Session.Session, declared.session.Step.Step, Session.Laws.intact-tells, Session.Laws.checked-done}
+use Rattle.sessions.specs.declared.session.Outcome.the-variants.{Done, Refused}
 use Rattle.sessions.specs.Book.{Call, opening, adding, takingBack, room}
 use Rattle.sessions.specs.Session.{Trail, allFree, intact, check, checked, outcome, newSession, newTrail, Does, asked}
-use Rattle.sessions.specs.Session.Laws.{intact-tells, checked-done}
-use Rattle.fields.specs.Limits.{maxRow}
-use Rattle.fields.specs.Tests.{by-test}
+use Rattle.fields.specs.{Limits.maxRow, Tests.by-test}
 
 -- with the tests of the two parts, `[0..k]` and from k to the end
 pub intact-holds : (k m : ℕ) (t : Trail) (a b : Bool) → k ≤ room (length t)

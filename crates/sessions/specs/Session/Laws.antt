@@ -1,23 +1,16 @@
 -- What the tests of a session tell, and that each call does what the book does.
-use mathlib.Core.Path.{_≡_, refl}
-use mathlib.Core.Bool.{Bool, true, false}
-use mathlib.Core.List.{[], _∷_}
+use mathlib.Core.{Path._≡_, Path.refl, Bool.Bool, Bool.true, Bool.false, List.[], List._∷_}
 use Prim.Native.Nat.{ℕ}
 use native.Mathlib.Omega.{arith}
-use lib.Dec.{eqb}
-use lib.ListN.{take, drop}
+use lib.{Dec.eqb, ListN.take, ListN.drop}
 use borrow.Author.Tests.{eq-eqb, eqb-true}
+use Rattle.judge.specs.{declared.fault.JudgeFault.JudgeFault, Row.Laws.upto-tells}
 use Rattle.judge.specs.declared.fault.JudgeFault.the-variants.{Unreadable, BadTrail}
-use Rattle.judge.specs.declared.fault.JudgeFault.{JudgeFault}
-use Rattle.sessions.specs.declared.session.Session.{Session}
-use Rattle.sessions.specs.declared.session.Outcome.{Outcome}
+use Rattle.sessions.specs.{declared.session.Session.Session, declared.session.Outcome.Outcome, Refusal.AllFree, Refusal.Intact}
 use Rattle.sessions.specs.declared.session.Outcome.the-variants.{Done, Refused}
-use Rattle.fields.specs.Tests.{Tells, tells-le, tells-and, tells-three}
-use Rattle.model.specs.Rule.{names}
-use Rattle.model.specs.Check.{readable}
-use Rattle.judge.specs.Row.Laws.{upto-tells}
-use Rattle.sessions.specs.Refusal.{AllFree, Intact}
 use Rattle.sessions.specs.Session.{Trail, free, allFree, intact, check, _then_, checked}
+use Rattle.fields.specs.Tests.{Tells, tells-le, tells-and, tells-three}
+use Rattle.model.specs.{Rule.names, Check.readable}
 
 pub all-free-tells : (t : Trail) → Tells (allFree t) (AllFree t)
 all-free-tells [] = (λ e. tt, λ h. refl)

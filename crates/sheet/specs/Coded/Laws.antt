@@ -1,55 +1,32 @@
 -- How a listing is made: what is said of a cue, the verdicts as bytes, and the lines one behind the other.
-use mathlib.Core.Path.{_≡_, refl, ap, ap₂, sym, _∙_}
-use mathlib.Core.Logic.{by-cases}
-use mathlib.Core.Bool.{Bool, true, false, cond}
+use mathlib.Core.{Path._≡_, Path.refl, Path.ap, Path.ap₂, Path.sym, Path._∙_, Logic.by-cases, Bool.Bool, Bool.true, Bool.false, Bool.cond}
 use mathlib.Core.List.{List, [], _∷_, _++_, map, append-assoc, append-nil}
 use Prim.Native.Nat.{ℕ, suc, _+_, _-_, _≤_, _<_}
-use native.Mathlib.Decide.{decLt}
-use native.Mathlib.Omega.{arith}
-use native.Mathlib.Numerals.{add-one}
+use native.Mathlib.{Decide.decLt, Omega.arith, Numerals.add-one}
 use lib.Dec.{eqb, leb}
 use lib.ListN.{length, take, drop, getD, set, length-append, length-map, length-take, length-drop, drop-of-length-le}
 use lib.Seq.{take-at, drop-at, take-all, take-add, drop-cons, drop-drop, drop-length, take-length, getD-set-same, getD-set-other}
 use borrow.Author.Tests.{eqb-true, eqb-false, leb-true, le-leb, lt-leb, le-ltb, lt-ltb}
-use Rattle.fields.specs.Tests.{by-test}
-use Rattle.judge.specs.declared.reading.NamePlace.{NamePlace}
-use Rattle.judge.specs.declared.reading.Names.{Names}
-use Rattle.fields.specs.Bytes.{Text}
-use Rattle.model.specs.Syntax.{numberIn}
-use Rattle.fields.specs.Bytes.Laws.{T-true}
-use Rattle.model.specs.Fault.{Answer, refused, accepted}
-use Rattle.model.specs.Answer.{answer}
-use Rattle.model.specs.Model.{modelOf, typeOf}
-use Rattle.model.specs.Verdict.{verdict}
-use Rattle.fields.specs.Limits.{maxRow, maxFile}
-use Rattle.judge.specs.Reading.{partAt, partsOf}
-use Rattle.model.specs.Syntax.Number.{number-below}
-use Rattle.judge.specs.Reply.{childrenIn, row, replyBy, rowIn, childrenReply, judgedOf}
-use Rattle.fields.specs.declared.fault.CueFault.{CueFault}
-use Rattle.fields.specs.declared.split.Heads.{Heads}
+use borrow.Rule.Slice.PartMut.{putMid}
+use Rattle.fields.specs.{Tests.by-test, Bytes.Text, Bytes.Laws.T-true, Limits.maxRow, Limits.maxFile, declared.fault.CueFault.CueFault}
+use Rattle.fields.specs.{declared.split.Heads.Heads, Heads.headsOf, Children.allNames, Bytes.Numeral.digits-length}
 use Rattle.fields.specs.Split.{lineFeed, tab, split, lines, field, part, partEnd}
 use Rattle.fields.specs.Split.Laws.{stand-start, stand-next, end-bounds, part-rest}
-use Rattle.fields.specs.Heads.{headsOf}
 use Rattle.fields.specs.Heads.Laws.{fields-three, Three, more-none}
-use Rattle.fields.specs.Children.{allNames}
-use Rattle.sheet.specs.declared.line.Said.{Said}
+use Rattle.judge.specs.{declared.reading.NamePlace.NamePlace, declared.reading.Names.Names, Reading.partAt, Reading.partsOf}
+use Rattle.judge.specs.Reply.{childrenIn, row, replyBy, rowIn, childrenReply, judgedOf}
+use Rattle.model.specs.{Syntax.numberIn, Fault.Answer, Fault.refused, Fault.accepted, Answer.answer, Model.modelOf, Model.typeOf, Verdict.verdict}
+use Rattle.model.specs.{Syntax.Number.number-below}
+use Rattle.sheet.specs.{declared.line.Said.Said, declared.sheet.Entry.Entry, declared.sheet.Sheet.Sheet, Cues.children, Cues.cuesRead}
+use Rattle.sheet.specs.{Sheet.Walk.Loaded, declared.sheet.SheetFault.SheetFault, declared.sheet.SheetOutcome.SheetOutcome}
+use Rattle.sheet.specs.{declared.cues.CuesRead.CuesRead, Put.Put, Put.Fits}
 use Rattle.sheet.specs.declared.line.Said.the-variants.{Complete, Open, Dead, NoSheet}
-use Rattle.sheet.specs.declared.sheet.Entry.{Entry}
-use Rattle.sheet.specs.declared.sheet.Sheet.{Sheet}
-use Rattle.sheet.specs.Cues.{children, cuesRead}
 use Rattle.sheet.specs.Sheet.{kind, model, sheetOutcome, sheetBy, sheetRead}
-use Rattle.sheet.specs.Sheet.Walk.{Loaded}
-use Rattle.sheet.specs.declared.sheet.SheetFault.{SheetFault}
-use Rattle.sheet.specs.declared.sheet.SheetOutcome.{SheetOutcome}
 use Rattle.sheet.specs.declared.sheet.SheetOutcome.the-variants.{Read, Refused as SheetIsRefused}
-use Rattle.sheet.specs.declared.cues.CuesRead.{CuesRead}
 use Rattle.sheet.specs.declared.cues.CuesRead.the-variants.{Count as CuesCount, Refused as CuesRefused}
 use Rattle.sheet.specs.declared.listing.Listed.the-variants.{Written, SheetRefused, CueRefused, TooLong}
 use Rattle.sheet.specs.Listing.{listingLine, listingBy, saidBy, saidOf, said, listing, listed, bySheet, byCues, bufferAfter}
-use Rattle.sheet.specs.Put.{Put, Fits}
 use Rattle.sheet.specs.Listing.Laws.{enough, cue-three, line-length, word-short}
-use Rattle.fields.specs.Bytes.Numeral.{digits-length}
-use borrow.Rule.Slice.PartMut.{putMid}
 use Rattle.sheet.specs.Coded.{saidFrom, codeOf, decoded, listingCoded, CueReady, GoodCues, AtLine, Cue, Coded}
 
 -- of children that are good, the judge's answer says what the model says

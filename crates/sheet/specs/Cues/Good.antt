@@ -1,26 +1,18 @@
 -- What is known of the lines of a cue list that was read.
-use mathlib.Core.Path.{_≡_, refl}
+use mathlib.Core.{Path._≡_, Path.refl, List.List, List.[], List._∷_}
 use mathlib.Core.Bool.{Bool, true, false, not, _&&_, _||_}
-use mathlib.Core.List.{List, [], _∷_}
 use Prim.Native.Nat.{ℕ, zero, suc, _≤_, _<_}
 use native.Mathlib.Omega.{arith}
-use lib.Dec.{T, leb, ltb, eqb}
-use lib.ListN.{length, getD}
+use lib.{Dec.T, Dec.leb, Dec.ltb, Dec.eqb, ListN.length, ListN.getD}
 use borrow.Author.Tests.{ltb-false}
-use Rattle.fields.specs.Tests.{by-test}
-use Rattle.fields.specs.Bytes.{Text, bytes, value, sameText}
-use Rattle.fields.specs.Bytes.Laws.{same-text}
-use Rattle.fields.specs.Limits.{maxRow, maxFile}
-use Rattle.fields.specs.declared.fault.CueFault.{CueFault}
+use Rattle.fields.specs.{Tests.by-test, Bytes.Text, Bytes.bytes, Bytes.value, Bytes.sameText, Bytes.Laws.same-text, Limits.maxRow, Limits.maxFile}
+use Rattle.fields.specs.{declared.fault.CueFault.CueFault, Split.Laws.parted, Children.shortName, Children.allNames}
 use Rattle.fields.specs.declared.fault.CueFault.the-variants.{BadFields, BadNumber, NotAbove, NoName, ManyChildren}
 use Rattle.fields.specs.Split.{split, butLast, lines, behind, fields, field}
-use Rattle.fields.specs.Split.Laws.{parted}
-use Rattle.fields.specs.Children.{shortName, allNames}
-use Rattle.sheet.specs.declared.cues.CueLine.{CueLine}
+use Rattle.sheet.specs.{declared.cues.CueLine.CueLine, Coded.GoodCues}
 use Rattle.sheet.specs.declared.cues.CueLine.the-variants.{Number, Bad}
 use Rattle.sheet.specs.declared.cues.CuesRead.the-variants.{Count, Refused}
 use Rattle.sheet.specs.Cues.{isCueNumber, children, cueLine, byLine, cueLines, cuesRead}
-use Rattle.sheet.specs.Coded.{GoodCues}
 
 pub record LineGood (l : Text) : Type 0 where
   pub enough : 3 ≤ length (fields l)

@@ -1,26 +1,15 @@
 -- How the numbers and the lines of a cue list are read.
-use mathlib.Core.Path.{_≡_, ap, sym, _∙_}
+use mathlib.Core.{Path._≡_, Path.ap, Path.sym, Path._∙_, List.List, List.[], List._∷_}
 use mathlib.Core.Bool.{true, false, _&&_, _||_, and-false, true≢false, false≢true}
-use mathlib.Core.List.{List, [], _∷_}
 use Prim.Native.Nat.{ℕ, zero, suc, _+_, _*_, _-_, _≤_, _<_}
-use native.Mathlib.Omega.{arith}
-use native.Mathlib.Numerals.{add-one}
-use lib.Dec.{leb, ltb, eqb}
-use lib.ListN.{length, take, drop, getD}
-use lib.Seq.{take-suc, drop-cons, drop-length}
+use native.Mathlib.{Omega.arith, Numerals.add-one}
+use lib.{Dec.leb, Dec.ltb, Dec.eqb, ListN.length, ListN.take, ListN.drop, ListN.getD, Seq.take-suc, Seq.drop-cons, Seq.drop-length}
 use borrow.Author.Tests.{eqb-true, eqb-false, eq-eqb, ne-eqb, ltb-true, ltb-false, lt-ltb, le-ltb, le-leb, lt-leb, leb-true}
-use Rattle.fields.specs.Tests.{by-test}
-use Rattle.fields.specs.Stack.{drop-back}
+use Rattle.fields.specs.{Tests.by-test, Stack.drop-back, Bytes.Laws.value-snoc, Limits.maxRow, Limits.maxFile, declared.fault.CueFault.CueFault}
+use Rattle.fields.specs.{declared.split.Heads.Heads, Split.Laws.split-count, Split.Laws.part-rest, Heads.Laws.Three, Children.allNames}
 use Rattle.fields.specs.Bytes.{Text, bytes, isDigit, all, value, sameText}
-use Rattle.fields.specs.Bytes.Laws.{value-snoc}
-use Rattle.fields.specs.Limits.{maxRow, maxFile}
-use Rattle.fields.specs.declared.fault.CueFault.{CueFault}
 use Rattle.fields.specs.declared.fault.CueFault.the-variants.{LongFile, Unended, BadFields, BadNumber, NotAbove, NoName, ManyChildren}
-use Rattle.fields.specs.declared.split.Heads.{Heads}
 use Rattle.fields.specs.Split.{tab, split, lines, behind, fields, field, part, times}
-use Rattle.fields.specs.Split.Laws.{split-count, part-rest}
-use Rattle.fields.specs.Heads.Laws.{Three}
-use Rattle.fields.specs.Children.{allNames}
 use Rattle.sheet.specs.declared.cues.CueLine.the-variants.{Number, Bad}
 use Rattle.sheet.specs.declared.cues.CuesRead.the-variants.{Count, Refused}
 use Rattle.sheet.specs.Cues.{isCueNumber, children, cueLine, cueLines, cuesRead}

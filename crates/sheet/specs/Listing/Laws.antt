@@ -1,21 +1,15 @@
 -- Laws of a listing's lines: their pieces, as a writer puts them.
-use mathlib.Core.Path.{_≡_, ap}
-use mathlib.Core.List.{[], _∷_, _++_, append-assoc}
+use mathlib.Core.{Path._≡_, Path.ap, List.[], List._∷_, List._++_, List.append-assoc}
 use Prim.Native.Nat.{ℕ, _+_, _-_, _≤_, _<_}
 use native.Mathlib.Omega.{arith}
 use lib.Dec.{ltb}
 use lib.ListN.{length, length-append, length-take, length-drop}
 use borrow.Author.Tests.{ltb-true, ltb-false}
-use Rattle.fields.specs.Tests.{by-test}
-use Rattle.fields.specs.Bytes.{Text, digits}
-use Rattle.fields.specs.declared.split.Heads.{Heads}
-use Rattle.fields.specs.Split.{lineFeed, tab, fields, part}
-use Rattle.fields.specs.Heads.{headsOf}
+use Rattle.fields.specs.{Tests.by-test, Bytes.Text, Bytes.digits, declared.split.Heads.Heads, Split.lineFeed, Split.tab, Split.fields, Split.part}
+use Rattle.fields.specs.{Heads.headsOf}
 use Rattle.fields.specs.Heads.Laws.{fields-few, fields-three, Three}
-use Rattle.sheet.specs.declared.line.Said.{Said}
+use Rattle.sheet.specs.{declared.line.Said.Said, Cues.children, Listing.word, Listing.listingLine}
 use Rattle.sheet.specs.declared.line.Said.the-variants.{Complete, Open, Dead, NoSheet}
-use Rattle.sheet.specs.Cues.{children}
-use Rattle.sheet.specs.Listing.{word, listingLine}
 
 module _ (l : Text) (h : Heads) where
   pub enough : h ≡ headsOf l → 3 ≤ length (fields l) → h .second < length l

@@ -1,46 +1,36 @@
 -- A sheet, a cue list and a listing are refused exactly as the table says.
+use mathlib.Core.{Logic._↔_, Logic._⊎_, Logic.inl, Logic.inr, Option.Option}
 use mathlib.Core.Path.{_≡_, refl, sym, ap, ap₂, subst, _∙_}
-use mathlib.Core.Logic.{_↔_, _⊎_, inl, inr}
 use mathlib.Core.Bool.{true, cond, not, _&&_, _||_, and-eq-true-iff, false≢true}
-use mathlib.Core.Option.{Option}
 use mathlib.Core.List.{List, [], _∷_, _++_, map, map-append}
 use Prim.Native.Nat.{ℕ, zero, suc, _+_, _-_, _≤_, _<_}
 use Prim.Native.Char.{code}
-use native.Mathlib.Decide.{decLt}
-use native.Mathlib.Omega.{arith}
+use native.Mathlib.{Decide.decLt, Omega.arith}
 use lib.Dec.{leb, eqb}
 use lib.ListN.{length, take, drop, getD, length-map, List·getD-map}
 use lib.Seq.{take-suc, drop-cons, drop-length, length-take-le, getD-take}
 use borrow.Author.Tests.{leb-true, le-leb, lt-leb, leb-false, eqb-true, eqb-false, eq-eqb, not-true, not-false}
-use Rattle.fields.specs.declared.fault.CueFault.{CueFault}
+use Rattle.fields.specs.{declared.fault.CueFault.CueFault, Bytes.Laws.same-text, Limits.maxRow, Split.lines, Split.fields, Split.field, Children.cueNumber}
+use Rattle.fields.specs.{Children.shortName, Children.allNames}
 use Rattle.fields.specs.declared.fault.CueFault.the-variants.{LongFile as LongList, Unended as UnendedList, BadFields as BadCue, BadNumber, NotAbove, NoName}
 use Rattle.fields.specs.declared.fault.CueFault.the-variants.{ManyChildren, NoChild}
 use Rattle.fields.specs.Tests.{by-test, Tells, tells-not, tells-or}
 use Rattle.fields.specs.Bytes.{Text, bytes, isDigit, all, value, sameText}
-use Rattle.fields.specs.Bytes.Laws.{same-text}
-use Rattle.fields.specs.Limits.{maxRow}
-use Rattle.fields.specs.Split.{lines, fields, field}
-use Rattle.fields.specs.Children.{cueNumber, shortName, allNames}
-use Rattle.model.specs.declared.fault.ModelFault.{ModelFault}
+use Rattle.fields.specs.Least.Laws.{exactly, first-once, Cleared, narrow, try}
+use Rattle.model.specs.{declared.fault.ModelFault.ModelFault, Answer.answer, Answer.answered, Accept.Length.value-grows}
 use Rattle.model.specs.Fault.{Answer, Answers, refused, accepted, modelNumber}
-use Rattle.model.specs.Answer.{answer, answered}
 use Rattle.model.specs.Fault.Answered.{answers-once, number-injective, number-over}
-use Rattle.model.specs.Accept.Length.{value-grows}
 use Rattle.judge.specs.Reply.Laws.{cue-injective}
-use Rattle.sheet.specs.declared.sheet.SheetFault.{SheetFault}
+use Rattle.sheet.specs.{declared.sheet.SheetFault.SheetFault, declared.sheet.SheetOutcome.SheetOutcome, declared.cues.CueLine.CueLine}
+use Rattle.sheet.specs.{declared.cues.CuesRead.CuesRead, declared.listing.Listed.Listed}
 use Rattle.sheet.specs.declared.sheet.SheetFault.the-variants.{LongFile, Unended, ManyRules, BadFields, NoKind, Repeated, Model}
-use Rattle.sheet.specs.declared.sheet.SheetOutcome.{SheetOutcome}
 use Rattle.sheet.specs.declared.sheet.SheetOutcome.the-variants.{Read, Refused}
-use Rattle.sheet.specs.declared.cues.CueLine.{CueLine}
-use Rattle.sheet.specs.declared.cues.CuesRead.{CuesRead}
 use Rattle.sheet.specs.declared.cues.CuesRead.the-variants.{Count, Refused as RefusedList}
-use Rattle.sheet.specs.declared.listing.Listed.{Listed}
 use Rattle.sheet.specs.declared.listing.Listed.the-variants.{Written, SheetRefused, CueRefused, TooLong}
 use Rattle.sheet.specs.Cues.{isCueNumber, children, byLine, cueLines, cuesRead}
 use Rattle.sheet.specs.Sheet.{maxRules, kind, model, among, modelFault, byFault, sheetLines, sheetOutcome}
 use Rattle.sheet.specs.Listing.{listing, byCues, bySheet, listed}
 use Rattle.sheet.specs.Refusal.{Line, line, Earlier, SheetStands, sheetRank, SheetAnswers, numberOf, CueStands, CuesAnswers, Lists}
-use Rattle.fields.specs.Least.Laws.{exactly, first-once, Cleared, narrow, try}
 use Rattle.sheet.specs.Refusal.Order.{tells-no, tells-lt, tells-other, beside, long-tells, feed-tells, Place, FileTable, next-line, walk, whole}
 
 here : (x : Text) (n : ℕ) → n < length (lines x) → Line x (suc n)

@@ -1,35 +1,17 @@
 -- A listing says of each cue just what the meaning of its model says.
-use mathlib.Core.Path.{_≡_, refl, sym, ap, _∙_}
-use mathlib.Core.Logic.{_↔_}
-use mathlib.Core.List.{List, [], map}
-use Prim.Native.Nat.{ℕ, zero, suc, _-_, _<_}
-use native.Mathlib.Nat.{sub-zero}
-use native.Mathlib.Numerals.{add-one}
-use native.Mathlib.Omega.{arith}
+use mathlib.Core.{Path._≡_, Path.refl, Path.sym, Path.ap, Path._∙_, Logic._↔_, List.List, List.[], List.map}
+use Prim.Native.Nat.{ℕ, zero, suc, _<_}
+use native.Mathlib.{Nat.sub-zero, Numerals.add-one, Omega.arith}
 use lib.ListN.{length, getD, length-map, List·getD-map}
-use Rattle.fields.specs.Bytes.{Text}
-use Rattle.fields.specs.Split.{lines, field}
-use Rattle.model.specs.Syntax.{Syntax, writtenNames, numberIn}
-use Rattle.model.specs.Syntax.Number.{from-found, from-none}
-use Rattle.model.specs.Fault.{Answers, accepted}
-use Rattle.model.specs.Answer.{answer-is}
-use Rattle.model.specs.Accept.Laws.{accepted-counts}
-use Rattle.model.specs.Model.{modelOf, typeOf}
-use Rattle.model.specs.Model.Types.{type-conflict-free}
-use Rattle.model.specs.Verdict.{verdict}
-use Rattle.model.specs.Verdict.Laws.{verdict-says, verdict-is}
-use Rattle.judge.specs.Named.{rowOf}
-use Rattle.judge.specs.Reading.Laws.{number-of-name}
-use Rattle.sheet.specs.declared.line.Said.{Said}
-use Rattle.sheet.specs.declared.line.Said.the-variants.{NoSheet}
-use Rattle.sheet.specs.declared.sheet.SheetFault.the-variants.{Repeated}
-use Rattle.sheet.specs.declared.sheet.SheetOutcome.the-variants.{Read}
-use Rattle.sheet.specs.Cues.{children}
-use Rattle.sheet.specs.Sheet.{kind, model, sheetOutcome}
-use Rattle.sheet.specs.Sheet.Good.{line-accepted}
-use Rattle.sheet.specs.Listing.{wordOf, saidAt, said}
-use Rattle.sheet.specs.Refusal.Laws.{sheet-is}
-use Rattle.sheet.specs.Said.{CueSaid, lacking, by-line}
+use Rattle.fields.specs.{Bytes.Text, Split.lines, Split.field}
+use Rattle.model.specs.{Syntax.Syntax, Syntax.writtenNames, Syntax.numberIn, Syntax.Number.from-found, Syntax.Number.from-none, Fault.Answers, Fault.accepted}
+use Rattle.model.specs.{Answer.answer-is, Accept.Laws.accepted-counts, Model.modelOf, Model.typeOf, Model.Types.type-conflict-free, Verdict.verdict}
+use Rattle.model.specs.{Verdict.Laws.verdict-says, Verdict.Laws.verdict-is}
+use Rattle.judge.specs.{Named.rowOf, Reading.Laws.number-of-name}
+use Rattle.sheet.specs.{declared.line.Said.Said, declared.line.Said.the-variants.NoSheet, declared.sheet.SheetFault.the-variants.Repeated}
+use Rattle.sheet.specs.{declared.sheet.SheetOutcome.the-variants.Read, Cues.children, Sheet.kind, Sheet.model, Sheet.sheetOutcome}
+use Rattle.sheet.specs.{Sheet.Good.line-accepted, Listing.wordOf, Listing.saidAt, Listing.said, Refusal.Laws.sheet-is, Said.CueSaid, Said.lacking}
+use Rattle.sheet.specs.{Said.by-line}
 
 module _ (s : Text) (e : sheetOutcome s ≡ Read) where
   abbrev ls : List Text

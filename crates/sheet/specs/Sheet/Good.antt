@@ -1,23 +1,14 @@
 -- What is known of the lines of a sheet that was read: each has a model that is accepted.
-use mathlib.Core.Path.{_≡_, refl}
-use mathlib.Core.Option.{Option, none, some}
-use mathlib.Core.List.{List, [], _∷_, _++_}
+use mathlib.Core.{Path._≡_, Path.refl, Option.Option, Option.none, Option.some, List.List, List.[], List._∷_, List._++_}
 use Prim.Native.Nat.{ℕ, zero, suc, _<_}
 use native.Mathlib.Omega.{arith}
-use lib.Dec.{leb, ltb}
-use lib.ListN.{length, getD}
-use Rattle.fields.specs.Limits.{maxFile}
-use Rattle.fields.specs.Tests.{by-test}
-use Rattle.fields.specs.Bytes.{Text, sameText}
-use Rattle.model.specs.Syntax.{Syntax}
-use Rattle.model.specs.Fault.{Answer, Answers, refused, accepted}
-use Rattle.model.specs.Answer.{answer, answered}
-use Rattle.fields.specs.Split.{lines, behind}
-use Rattle.sheet.specs.declared.sheet.SheetFault.{SheetFault}
+use lib.{Dec.leb, Dec.ltb, ListN.length, ListN.getD}
+use Rattle.fields.specs.{Limits.maxFile, Tests.by-test, Bytes.Text, Bytes.sameText, Split.lines, Split.behind}
+use Rattle.model.specs.{Syntax.Syntax, Fault.Answer, Fault.Answers, Fault.refused, Fault.accepted, Answer.answer, Answer.answered}
+use Rattle.sheet.specs.{declared.sheet.SheetFault.SheetFault, Sheet.Laws.fault-none}
 use Rattle.sheet.specs.declared.sheet.SheetFault.the-variants.{LongFile, Unended, ManyRules}
 use Rattle.sheet.specs.declared.sheet.SheetOutcome.the-variants.{Read, Refused}
 use Rattle.sheet.specs.Sheet.{maxRules, kind, model, modelFault, lineFault, byFault, sheetLines, sheetOutcome}
-use Rattle.sheet.specs.Sheet.Laws.{fault-none}
 
 -- a text is accepted, and t is the tree that it spells
 abbrev pub Accepted : Text → Type 0

@@ -1,43 +1,24 @@
 -- How the lines of a sheet are read.
-use mathlib.Core.Path.{_≡_, refl, ap, sym, _∙_}
-use mathlib.Core.Bool.{true, false, cond, not, _||_}
-use mathlib.Core.Option.{Option, none, some}
-use mathlib.Core.List.{List, [], _∷_}
+use mathlib.Core.{Path._≡_, Path.refl, Path.ap, Path.sym, Path._∙_, Bool.true, Bool.false, Bool.cond, Bool.not, Bool._||_, Option.Option, Option.none}
+use mathlib.Core.{Option.some, List.List, List.[], List._∷_}
 use Prim.Native.Nat.{ℕ, zero, suc, _+_, _-_, _≤_, _<_}
 use native.Mathlib.Omega.{arith}
-use lib.Dec.{ltb, eqb, eqb·suc-zero}
+use lib.{Dec.ltb, Dec.eqb, Dec.eqb·suc-zero, Seq.take-nil, Seq.drop-nil, Seq.take-take, Seq.drop-drop}
 use lib.ListN.{length, take, drop, replicate, length-take, length-drop}
-use lib.Seq.{take-nil, drop-nil, take-take, drop-drop}
 use borrow.Author.Tests.{ltb-true, ltb-false, lt-ltb, le-ltb, eqb-true, eq-eqb, ne-eqb, not-true, not-false}
-use Rattle.fields.specs.Limits.{maxFile}
-use Rattle.fields.specs.Tests.{by-test}
-use Rattle.judge.specs.declared.reading.NamePlace.{NamePlace}
-use Rattle.judge.specs.declared.reading.Names.{Names}
-use Rattle.judge.specs.declared.reading.Reading.{Reading}
-use Rattle.judge.specs.declared.reading.Outcome.the-variants.{Read as ModelRead, Refused as ModelRefused}
-use Rattle.model.specs.declared.fault.ModelFault.{ModelFault}
-use Rattle.fields.specs.Bytes.{Text, bytes, sameText}
-use Rattle.fields.specs.Bytes.Laws.{same-text}
-use Rattle.model.specs.Syntax.{numberFrom, numberIn}
-use Rattle.model.specs.Fault.{Answer, refused, accepted}
-use Rattle.model.specs.Answer.{answer}
-use Rattle.judge.specs.Reading.{noPlace, namesWith, readingBy, reading, partAt, partsOf}
-use Rattle.fields.specs.declared.split.Heads.{Heads}
+use Rattle.fields.specs.{Limits.maxFile, Tests.by-test, Bytes.Text, Bytes.bytes, Bytes.sameText, Bytes.Laws.same-text, declared.split.Heads.Heads}
+use Rattle.fields.specs.{Split.Laws.split-count, Heads.headsOf, Children.shortName}
 use Rattle.fields.specs.Split.{tab, split, lines, behind, fields, field, part}
-use Rattle.fields.specs.Split.Laws.{split-count}
-use Rattle.fields.specs.Heads.{headsOf}
 use Rattle.fields.specs.Heads.Laws.{fields-three, Three, more-none}
-use Rattle.fields.specs.Children.{shortName}
-use Rattle.sheet.specs.declared.sheet.SheetFault.{SheetFault}
+use Rattle.judge.specs.{declared.reading.NamePlace.NamePlace, declared.reading.Names.Names, declared.reading.Reading.Reading}
+use Rattle.judge.specs.declared.reading.Outcome.the-variants.{Read as ModelRead, Refused as ModelRefused}
+use Rattle.judge.specs.Reading.{noPlace, namesWith, readingBy, reading, partAt, partsOf}
+use Rattle.model.specs.{declared.fault.ModelFault.ModelFault, Syntax.numberFrom, Syntax.numberIn, Fault.Answer, Fault.refused, Fault.accepted, Answer.answer}
+use Rattle.sheet.specs.{declared.sheet.SheetFault.SheetFault, declared.sheet.Checked.Checked, declared.sheet.LineRead.LineRead}
+use Rattle.sheet.specs.{declared.sheet.SheetOutcome.the-variants.Refused, declared.sheet.Entry.Entry, declared.sheet.Sheet.Sheet}
+use Rattle.sheet.specs.{declared.sheet.SheetRead.SheetRead, Listing.Laws.enough}
 use Rattle.sheet.specs.declared.sheet.SheetFault.the-variants.{LongFile, Unended, BadFields, NoKind, Repeated, Model}
-use Rattle.sheet.specs.declared.sheet.Checked.{Checked}
 use Rattle.sheet.specs.declared.sheet.Checked.the-variants.{Good, Bad}
-use Rattle.sheet.specs.declared.sheet.LineRead.{LineRead}
-use Rattle.sheet.specs.declared.sheet.SheetOutcome.the-variants.{Refused}
-use Rattle.sheet.specs.declared.sheet.Entry.{Entry}
-use Rattle.sheet.specs.declared.sheet.Sheet.{Sheet}
-use Rattle.sheet.specs.declared.sheet.SheetRead.{SheetRead}
-use Rattle.sheet.specs.Listing.Laws.{enough}
 use Rattle.sheet.specs.Sheet.{maxRules, kind, model, among, modelFault, lineFault, kindPlace, modelPlace, entryOf, noEntry, sheetLines, sheetWith}
 use Rattle.sheet.specs.Sheet.{sheetBy, sheetRead}
 

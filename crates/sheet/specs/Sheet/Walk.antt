@@ -1,29 +1,21 @@
 -- A walk over the lines of a sheet: what is read so far.
-use mathlib.Core.Path.{_≡_, refl, ap, ap₂, sym, _∙_}
-use mathlib.Core.Logic.{by-cases}
-use mathlib.Core.Option.{Option, none, some}
+use mathlib.Core.{Path._≡_, Path.refl, Path.ap, Path.ap₂, Path.sym, Path._∙_, Logic.by-cases, Option.Option, Option.none, Option.some}
 use mathlib.Core.List.{List, [], _∷_, _++_, map, map-append, head-eq-of-cons-eq, tail-eq-of-cons-eq}
 use Prim.Native.Nat.{ℕ, suc, _+_, _-_, _≤_, _<_}
-use native.Mathlib.Decide.{decLt}
-use native.Mathlib.Omega.{arith}
-use native.Mathlib.Numerals.{add-one}
+use native.Mathlib.{Decide.decLt, Omega.arith, Numerals.add-one}
 use lib.ListN.{length, take, drop, getD, set, replicate, length-append, length-replicate, length-map}
 use lib.Seq.{take-suc, take-all, take-at, drop-cons, drop-length, getD-set-same, getD-set-other}
 use borrow.Author.Tests.{le-leb, lt-leb}
 use Rattle.judge.specs.declared.reading.Names.{Names}
-use Rattle.fields.specs.Bytes.{Text}
 use Rattle.judge.specs.Reading.{noPlace, namesWith, partAt, partsOf}
 use Rattle.judge.specs.Reading.Filled.{filled, fill-length, fill-turn, names-filled}
+use Rattle.fields.specs.Bytes.{Text}
 use Rattle.fields.specs.Split.{lineFeed, lines, behind, part, partEnd}
 use Rattle.fields.specs.Split.Laws.{Stand, Next, stand-start, stand-stop, stand-next, end-bounds}
-use Rattle.sheet.specs.declared.sheet.SheetFault.{SheetFault}
-use Rattle.sheet.specs.declared.sheet.SheetFault.the-variants.{ManyRules}
+use Rattle.sheet.specs.{declared.sheet.SheetFault.SheetFault, declared.sheet.SheetFault.the-variants.ManyRules, declared.sheet.LineRead.LineRead}
+use Rattle.sheet.specs.{declared.sheet.Entry.Entry, declared.sheet.Sheet.Sheet, declared.sheet.SheetRead.SheetRead}
 use Rattle.sheet.specs.declared.sheet.SheetOutcome.the-variants.{Read, Refused}
 use Rattle.sheet.specs.declared.sheet.Checked.the-variants.{Good, Bad}
-use Rattle.sheet.specs.declared.sheet.LineRead.{LineRead}
-use Rattle.sheet.specs.declared.sheet.Entry.{Entry}
-use Rattle.sheet.specs.declared.sheet.Sheet.{Sheet}
-use Rattle.sheet.specs.declared.sheet.SheetRead.{SheetRead}
 use Rattle.sheet.specs.Sheet.{maxRules, kind, model, lineFault, sheetLines, Placed, placedFrom, kindPlace, entryOf, noEntry, sheetWith, sheetBy}
 use Rattle.sheet.specs.Sheet.Laws.{checkedBy, LineIs, line-kind-is, line-model-is, part-size}
 

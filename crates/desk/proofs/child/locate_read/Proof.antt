@@ -3,10 +3,8 @@ use mathlib.Core.Path.{_≡_, sym, _∙_}
 use Prim.Native.Nat.{_-_, _<_}
 use native.Mathlib.Omega.{arith}
 use lib.ListN.{length, take, drop}
-use Rattle.fields.specs.Stack.{unmapped}
-use Rattle.judge.specs.Reading.{partsOf}
-use Rattle.judge.specs.Reading.Search.{parts-many}
-use Rattle.fields.specs.Split.{tab, split}
+use Rattle.fields.specs.{Stack.unmapped, Split.tab, Split.split}
+use Rattle.judge.specs.{Reading.partsOf, Reading.Search.parts-many}
 use Rattle.desk.specs.Child.Code.{asked-within, reached-name, reached-bounds, reached-long, read-there, read-missing}
 use Rattle.model.specs.Syntax.Number.{number-below}
 use borrow.Author.Needs.{needs}

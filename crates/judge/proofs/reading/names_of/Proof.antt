@@ -1,12 +1,10 @@
 -- The loop fills the names from the front.
 use Prim.Native.Nat.{_≤_, _-_}
-use mathlib.Core.Path.{_≡_}
+use mathlib.Core.{Path._≡_, List.map}
 use lib.ListN.{take}
 use native.Mathlib.Omega.{arith}
-use Rattle.judge.specs.Reading.{noPlace}
-use Rattle.judge.specs.Packed.{placeOf}
+use Rattle.judge.specs.{Reading.noPlace, Packed.placeOf}
 use Rattle.judge.specs.Reading.Filled.{filled, fill-turn, fill-length, names-filled}
-use mathlib.Core.List.{map}
 use Rattle.judge.proofs.reading.names_of.Statement.{statement}
 use Rattle.judge.proofs.reading.names_of.Tie as tie
 

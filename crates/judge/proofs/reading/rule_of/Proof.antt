@@ -1,7 +1,6 @@
 -- The loop fills the rule from the front.
-use mathlib.Core.List.{map}
+use mathlib.Core.{List.map, Path._≡_}
 use Prim.Native.Nat.{_≤_, _-_}
-use mathlib.Core.Path.{_≡_}
 use lib.ListN.{take}
 use native.Mathlib.Omega.{arith}
 use Rattle.model.specs.Rule.{unused}

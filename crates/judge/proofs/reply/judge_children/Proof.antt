@@ -1,6 +1,5 @@
 -- The model text first, then the size of the children text.
-use Rattle.judge.specs.Reading.Whole.{whole-past, whole-fault}
-use Rattle.judge.specs.Reply.Judged.{model-refused, long-refused}
+use Rattle.judge.specs.{Reading.Whole.whole-past, Reading.Whole.whole-fault, Reply.Judged.model-refused, Reply.Judged.long-refused}
 use borrow.Author.Needs.{needs}
 use Rattle.judge.proofs.reply.judge_children.Statement.{statement}
 use Rattle.judge.proofs.reply.judge_children.Tie as tie

@@ -4,10 +4,9 @@ use Prim.Native.Nat.{_+_, _-_}
 use native.Mathlib.Omega.{arith}
 use lib.ListN.{length, length-set}
 use borrow.Author.Needs.{needs}
-use Rattle.judge.specs.Reading.Table.{partsIn}
-use Rattle.judge.specs.Reading.Laws.{last-number}
-use Rattle.judge.specs.Reply.Children.{ChildrenPassed}
-use Rattle.judge.specs.Reply.Children.Laws.{children-few, met-none, met-name, one-more, walk-starts, walk-none, walk-stops, walk-goes, walk-few, walk-many}
+use Rattle.judge.specs.{Reading.Table.partsIn, Reading.Laws.last-number, Reply.Children.ChildrenPassed}
+use Rattle.judge.specs.Reply.Children.Laws.{children-few, met-none, met-name, one-more, walk-starts, walk-none, walk-stops, walk-goes, walk-few}
+use Rattle.judge.specs.Reply.Children.Laws.{walk-many}
 use Rattle.judge.proofs.reply.read_children.Statement.{statement}
 use Rattle.judge.proofs.reply.read_children.Tie as tie
 

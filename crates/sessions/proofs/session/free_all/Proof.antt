@@ -1,11 +1,9 @@
 -- the first i places are free, and the others as they were
-use mathlib.Core.Path.{_≡_, refl, ap, _∙_}
-use mathlib.Core.List.{List, _++_, append-nil}
+use mathlib.Core.{Path._≡_, Path.refl, Path.ap, Path._∙_, List.List, List._++_, List.append-nil}
 use Prim.Native.Nat.{ℕ, _≤_, _-_}
 use native.Mathlib.Omega.{arith}
 use lib.ListN.{length, set, replicate, drop, length-set, drop-of-length-le}
-use borrow.Author.Fill.{fill-none, fill-more}
-use borrow.Author.Needs.{needs}
+use borrow.{Author.Fill.fill-none, Author.Fill.fill-more, Author.Needs.needs}
 use Rattle.sessions.specs.Session.{free}
 use Rattle.sessions.proofs.session.free_all.Statement.{statement}
 use Rattle.sessions.proofs.session.free_all.Tie as tie

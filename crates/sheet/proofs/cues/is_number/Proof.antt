@@ -1,9 +1,7 @@
 -- From the last byte to the first.
-use mathlib.Core.Path.{_≡_, refl, sym, ap₂, _∙_}
-use mathlib.Core.Bool.{_&&_}
+use mathlib.Core.{Path._≡_, Path.refl, Path.sym, Path.ap₂, Path._∙_, Bool._&&_}
 use Prim.Native.Nat.{_≤_}
-use lib.ListN.{length, drop, getD}
-use lib.Seq.{drop-length}
+use lib.{ListN.length, ListN.drop, ListN.getD, Seq.drop-length}
 use Rattle.fields.specs.Bytes.{isDigit, all}
 use Rattle.sheet.specs.Cues.Laws.{number-refused, number-sized, number-zero, number-is, digits-back}
 use borrow.Author.Needs.{needs}

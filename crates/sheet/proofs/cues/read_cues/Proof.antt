@@ -1,11 +1,8 @@
 -- A walk over the lines: those passed are good.
-use mathlib.Core.Path.{_≡_, sym, _∙_}
-use mathlib.Core.List.{[]}
+use mathlib.Core.{Path._≡_, Path.sym, Path._∙_, List.[]}
 use Prim.Native.Nat.{_-_, _≤_}
 use lib.ListN.{length, drop}
-use Rattle.fields.specs.Limits.{maxFile}
-use Rattle.fields.specs.Bytes.Laws.{same-text}
-use Rattle.fields.specs.Split.{lineFeed, lines, behind, part}
+use Rattle.fields.specs.{Limits.maxFile, Bytes.Laws.same-text, Split.lineFeed, Split.lines, Split.behind, Split.part}
 use Rattle.fields.specs.Split.Laws.{end-bounds, Stand, stand-start, stand-stop, stand-next}
 use Rattle.sheet.specs.Cues.{cueLines, cuesRead}
 use Rattle.sheet.specs.Cues.Laws.{cues-next, cues-bad, cues-end, cues-long, cues-unended, cues-begin}

@@ -1,13 +1,11 @@
 -- Digit by digit; five bytes cannot come to more than `limit` says.
 use mathlib.Core.Path.{_≡_, refl, ap, _∙_}
 use Prim.Native.Nat.{_-_, _≤_}
-use native.Mathlib.Numerals.{add-one}
-use lib.ListN.{length, take}
-use lib.Seq.{take-all}
+use native.Mathlib.{Numerals.add-one, Omega.arith}
+use lib.{ListN.length, ListN.take, Seq.take-all}
 use Rattle.fields.specs.Bytes.{value}
 use Rattle.sheet.specs.Cues.Laws.{value-more, limit, limit-small}
 use borrow.Author.Needs.{needs}
-use native.Mathlib.Omega.{arith}
 use Rattle.sheet.proofs.cues.value_of.Statement.{statement}
 use Rattle.sheet.proofs.cues.value_of.Tie as tie
 

@@ -1,17 +1,14 @@
 -- The last digit is written behind the others.
-use Prim.Native.Nat.{_+_, _%_}
+use Prim.Native.Nat.{_+_, _%_, ℕ, _<_}
 use Rattle.sheet.specs.Number.{digits-one, digits-more, length-one, length-more}
 use Rattle.sheet.specs.Put.{put-one, put-then, put-length}
-use borrow.Author.Needs.{needs}
-use native.Mathlib.Omega.{arith}
-use Prim.Native.Nat.{ℕ, _<_}
-use borrow.Fn.Kinds.{In}
+use borrow.{Author.Needs.needs, Fn.Kinds.In}
 use borrow.Fn.PlainCycle.{Measures, is, falls, and}
+use native.Mathlib.Omega.{arith}
+use Rattle.sheet.proofs.{line.+put_number.statement, line.+put_number.Tie.close}
 use Rattle.sheet.proofs.line.put_number.Reads as put-number
 use Rattle.sheet.proofs.line.put_number.Kinds as put-number-kinds
 use Rattle.sheet.proofs.line.+put_number.Lts-put_number as put-number-lts
-use Rattle.sheet.proofs.line.+put_number.{statement}
-use Rattle.sheet.proofs.line.+put_number.Tie.{close}
 
 abbrev μ-put-number : Measures 1 put-number-kinds.ps ℕ
 μ-put-number κs a = a .1 .1 .0

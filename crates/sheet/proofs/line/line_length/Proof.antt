@@ -1,8 +1,7 @@
 -- Piece by piece.
 use mathlib.Core.Path.{sym, _∙_}
-use Rattle.fields.specs.Heads.Laws.{fields-three}
+use Rattle.fields.specs.{Heads.Laws.fields-three, Bytes.Numeral.digits-length}
 use Rattle.sheet.specs.Listing.Laws.{enough, line-length, word-short}
-use Rattle.fields.specs.Bytes.Numeral.{digits-length}
 use Rattle.sheet.specs.Cues.Laws.{children-count}
 use native.Mathlib.Omega.{arith}
 use borrow.Author.Needs.{needs}

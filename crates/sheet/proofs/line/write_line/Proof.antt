@@ -1,9 +1,8 @@
 -- Piece behind piece.
 use mathlib.Core.Path.{sym, _∙_}
 use Rattle.fields.specs.Heads.Laws.{fields-three}
-use Rattle.sheet.specs.Cues.Laws.{children-count}
+use Rattle.sheet.specs.{Cues.Laws.children-count, Put.put-then, Put.put-length}
 use Rattle.sheet.specs.Listing.Laws.{enough, line-is, line-sum, word-sum}
-use Rattle.sheet.specs.Put.{put-then, put-length}
 use native.Mathlib.Omega.{arith}
 use borrow.Author.Needs.{needs}
 use Rattle.sheet.proofs.line.write_line.Statement.{statement}

@@ -1,8 +1,7 @@
 -- By whether there is a line.
 use mathlib.Core.Path.{refl, ap, _∙_}
-use borrow.Author.Tests.{eq-eqb, ne-eqb}
+use borrow.{Author.Tests.eq-eqb, Author.Tests.ne-eqb, Author.Needs.needs}
 use Rattle.sheet.specs.Coded.{codeOf}
-use borrow.Author.Needs.{needs}
 use Rattle.sheet.proofs.listing.code_for.Statement.{statement}
 use Rattle.sheet.proofs.listing.code_for.Tie as tie
 

@@ -1,13 +1,9 @@
 -- Cue by cue; the bytes so far are the verdicts of the cues passed.
-use mathlib.Core.Path.{_≡_, refl, sym, _∙_}
-use mathlib.Core.List.{[]}
+use mathlib.Core.{Path._≡_, Path.refl, Path.sym, Path._∙_, List.[]}
 use Prim.Native.Nat.{ℕ, _-_, _<_}
 use lib.ListN.{length, getD, length-set}
-use Rattle.fields.specs.Split.{lines}
-use Rattle.fields.specs.Split.Laws.{stand-stop}
-use Rattle.sheet.specs.Listing.{said}
-use Rattle.sheet.specs.Sheet.Walk.{Loaded}
-use Rattle.sheet.specs.Coded.{codeOf, AtLine}
+use Rattle.fields.specs.{Split.lines, Split.Laws.stand-stop}
+use Rattle.sheet.specs.{Listing.said, Sheet.Walk.Loaded, Coded.codeOf, Coded.AtLine}
 use Rattle.sheet.specs.Coded.Laws.{rule-few, code-said, place-ready, coded-set, before-first, before-cue}
 use borrow.Author.Needs.{needs}
 use native.Mathlib.Omega.{arith}

@@ -2,10 +2,8 @@
 use mathlib.Core.Path.{_≡_, ap, _∙_}
 use Prim.Native.Nat.{_+_, _*_, _-_, _≤_}
 use lib.ListN.{length, drop, getD, length-append}
-use Rattle.fields.specs.Split.{lines, part}
-use Rattle.fields.specs.Split.Laws.{stand-stop}
-use Rattle.sheet.specs.Listing.{listingLine}
-use Rattle.sheet.specs.Coded.{decoded, AtLine, listingCoded}
+use Rattle.fields.specs.{Split.lines, Split.part, Split.Laws.stand-stop}
+use Rattle.sheet.specs.{Listing.listingLine, Coded.decoded, Coded.AtLine, Coded.listingCoded}
 use Rattle.sheet.specs.Coded.Laws.{before-first, before-cue, line-short, coded-next, coded-end}
 use borrow.Author.Needs.{needs}
 use native.Mathlib.Omega.{arith}

@@ -1,15 +1,11 @@
 -- Each line goes into the part that the earlier ones left free.
-use mathlib.Core.Path.{_≡_, refl, sym, ap, _∙_}
-use mathlib.Core.List.{_++_}
+use mathlib.Core.{Path._≡_, Path.refl, Path.sym, Path.ap, Path._∙_, List._++_}
 use Prim.Native.Nat.{_+_, _-_, _≤_}
 use lib.ListN.{length, take, drop}
-use Rattle.fields.specs.Split.{lines, part}
-use Rattle.fields.specs.Split.Laws.{stand-stop}
-use Rattle.sheet.specs.Listing.{listingLine}
-use Rattle.sheet.specs.Coded.{AtLine, listingCoded}
+use Rattle.fields.specs.{Split.lines, Split.part, Split.Laws.stand-stop}
+use Rattle.sheet.specs.{Listing.listingLine, Coded.AtLine, Coded.listingCoded}
 use Rattle.sheet.specs.Coded.Laws.{before-first, before-cue, coded-next, coded-end, buffer-length, line-fits, room-left, lines-ahead, line-put, put-all}
-use borrow.Rule.Slice.PartMut.{same-len-mid}
-use borrow.Author.Needs.{needs}
+use borrow.{Rule.Slice.PartMut.same-len-mid, Author.Needs.needs}
 use native.Mathlib.Omega.{arith}
 use Rattle.sheet.proofs.listing.write_lines.Statement.{statement}
 use Rattle.sheet.proofs.listing.write_lines.Tie as tie

@@ -1,12 +1,11 @@
 -- Test by test, in the order of the numbers.
 use mathlib.Core.Path.{sym, ap, _∙_}
-use Rattle.fields.specs.Bytes.{bytes, sameText}
+use Rattle.fields.specs.{Bytes.bytes, Bytes.sameText, Heads.Laws.fields-few, Heads.Laws.fields-three, Children.shortName}
 use Rattle.model.specs.Syntax.{numberIn}
 use Rattle.judge.specs.Reading.{partsOf}
-use Rattle.fields.specs.Heads.Laws.{fields-few, fields-three}
-use Rattle.fields.specs.Children.{shortName}
 use Rattle.sheet.specs.Sheet.{kind}
-use Rattle.sheet.specs.Sheet.Laws.{among-none, among-some, just-three, over-three, under-three, checked-fields, checked-word, checked-name, checked-again, checked-good}
+use Rattle.sheet.specs.Sheet.Laws.{among-none, among-some, just-three, over-three, under-three, checked-fields, checked-word, checked-name}
+use Rattle.sheet.specs.Sheet.Laws.{checked-again, checked-good}
 use native.Mathlib.Omega.{arith}
 use borrow.Author.Needs.{needs}
 use Rattle.sheet.proofs.sheet.check_line.Statement.{statement}

@@ -1,8 +1,6 @@
 -- Size and last line, then the lines.
-use mathlib.Core.Path.{sym, _∙_}
-use mathlib.Core.List.{[]}
-use Rattle.fields.specs.Bytes.Laws.{same-text}
-use Rattle.fields.specs.Split.{behind}
+use mathlib.Core.{Path.sym, Path._∙_, List.[]}
+use Rattle.fields.specs.{Bytes.Laws.same-text, Split.behind}
 use Rattle.sheet.specs.Sheet.Walk.{not-loaded}
 use Rattle.sheet.specs.Sheet.Laws.{sheet-long, sheet-unended, sheet-begin}
 use borrow.Author.Needs.{needs}

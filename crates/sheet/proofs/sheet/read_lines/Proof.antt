@@ -2,9 +2,7 @@
 use mathlib.Core.Path.{sym, ap, _∙_}
 use Prim.Native.Nat.{_-_, _≤_}
 use lib.ListN.{length}
-use Rattle.fields.specs.Limits.{maxFile}
-use Rattle.fields.specs.Split.{lineFeed}
-use Rattle.fields.specs.Split.Laws.{end-bounds}
+use Rattle.fields.specs.{Limits.maxFile, Split.lineFeed, Split.Laws.end-bounds}
 use Rattle.sheet.specs.Sheet.{sheetBy}
 use Rattle.sheet.specs.Sheet.Walk.{Gone, gone-start, gone-many, gone-bad, gone-next, gone-end, gone-loaded, not-loaded}
 use borrow.Author.Needs.{needs}

@@ -1,6 +1,5 @@
 -- each answer by the tests that led there
-use mathlib.Core.Path.{sym}
-use mathlib.Core.Bool.{true, false}
+use mathlib.Core.{Path.sym, Bool.true, Bool.false}
 use Rattle.sessions.specs.Session.Code.{checked-by, checked-no-model}
 use borrow.Author.Needs.{needs}
 use Rattle.sessions.proofs.session.Session.checked.Statement.{statement}

@@ -1,6 +1,5 @@
 -- each answer by the test of the rule; the trail by what free_all gives
-use mathlib.Core.Path.{_∙_}
-use mathlib.Core.Bool.{true, false}
+use mathlib.Core.{Path._∙_, Bool.true, Bool.false}
 use Rattle.judge.specs.declared.fault.JudgeFault.the-variants.{Unreadable}
 use Rattle.sessions.specs.Book.{opening}
 use Rattle.sessions.specs.Session.Code.{opening-by, completed, refused}

@@ -1,6 +1,5 @@
 -- an intact trail has a row that the judge answers; else 40 comes before 42
-use mathlib.Core.Path.{sym, ap, _∙_}
-use mathlib.Core.Bool.{false}
+use mathlib.Core.{Path.sym, Path.ap, Path._∙_, Bool.false}
 use Rattle.sessions.specs.Session.{intact}
 use Rattle.sessions.specs.Session.Code.{intact-fits, checked-no-model, checked-by, asked-judged, asked-refused}
 use borrow.Author.Needs.{needs}
