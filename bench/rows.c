@@ -98,7 +98,7 @@ static void write_pair(char *pair, int i)
     pair[2] = '\0';
 }
 
-/* The program stops if there are none. */
+/* A factor under 38 has such pairs; one over 74 has none, and then the program stops. */
 static void find_pairs_of_one_hash(char *x, char *y)
 {
     for (int i = 0; i < PAIRS; i++)
