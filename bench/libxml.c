@@ -14,7 +14,6 @@ struct compiled {
 };
 
 struct language {
-    const char *title;
     write_schema *write;
     struct compiled (*compile)(struct bytes text);
     int (*validate)(struct compiled c, xmlDocPtr document); /* 0: valid, above 0: invalid */
@@ -62,14 +61,13 @@ static void forget_xsd(struct compiled c)
 }
 
 static const struct language RELAX_NG_HERE = {
-    "RELAX NG", write_relax_ng, compile_relax_ng, validate_relax_ng, forget_relax_ng,
+    write_relax_ng, compile_relax_ng, validate_relax_ng, forget_relax_ng,
 };
 static const struct language XSD_HERE = {
-    "XSD", write_xsd, compile_xsd, validate_xsd, forget_xsd,
+    write_xsd, compile_xsd, validate_xsd, forget_xsd,
 };
 const struct language *const RELAX_NG = &RELAX_NG_HERE, *const XSD = &XSD_HERE;
 
-const char *title_of(const struct language *language) { return language->title; }
 const char *libxml_version(void) { return LIBXML_DOTTED_VERSION; }
 
 /* ---- rows ---- */

@@ -7,7 +7,6 @@
 struct language;
 extern const struct language *const RELAX_NG, *const XSD;
 
-const char *title_of(const struct language *language);
 const char *libxml_version(void);
 
 /* A row as a validator gets it: the document parsed, the schema as text and compiled. */

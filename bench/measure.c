@@ -4,7 +4,7 @@
 #include <stdlib.h>
 #include <time.h>
 
-enum { ROUNDS = 11, MOST_SAMPLES = 41, LEAST_SAMPLES = 5 };
+enum { ROUNDS = 7, MOST_SAMPLES = 41, LEAST_SAMPLES = 5 };
 
 static const double SAMPLE_NS = 300e3, ROUND_NS = 100e6;
 
@@ -34,8 +34,6 @@ double median(double *values, int n)
     qsort(values, (size_t)n, sizeof *values, by_size);
     return n % 2 != 0 ? values[n / 2] : (values[n / 2 - 1] + values[n / 2]) / 2;
 }
-
-double larger(double x, double y) { return x > y ? x : y; }
 
 static double spread(double *values, int n)
 {
@@ -91,5 +89,5 @@ void measure(const struct job *jobs, int n, struct figures *figures)
     }
     for (int j = 0; j < n; j++)
         figures[j] = (struct figures){median(ns[j], ROUNDS), median(ratio[j], ROUNDS),
-                                      spread(ns[j], ROUNDS), spread(ratio[j], ROUNDS)};
+                                      spread(ratio[j], ROUNDS)};
 }

@@ -2,8 +2,8 @@
 
    A sample is many calls on end; a round is many samples, the functions taking turns; a round's
    figure is the median of its samples. What is given are the medians of the rounds' figures and of
-   their ratios, and as noise the spread between the rounds: largest less smallest, as a part of the
-   median. */
+   their ratios, and as noise the spread of the ratio between the rounds: largest less smallest, as
+   a part of the median. */
 #ifndef MEASURE_H
 #define MEASURE_H
 
@@ -16,8 +16,7 @@ struct job {
 };
 
 struct figures {
-    double ns, ratio; /* of a call; ratio to the first job */
-    double time_noise, ratio_noise;
+    double ns, ratio, noise; /* of a call; ratio to the first job */
 };
 
 /* Fills the figures of each of the n jobs. */
@@ -25,7 +24,5 @@ void measure(const struct job *jobs, int n, struct figures *figures);
 
 /* Sorts; the smallest is then the first. */
 double median(double *values, int n);
-
-double larger(double x, double y);
 
 #endif

@@ -1,8 +1,21 @@
 #include "rows.h"
 
-enum { MANY = 4096, WORDS = 64 };
+#include <stdio.h>
+#include <stdlib.h>
+#include <string.h>
 
-static const char *const WORD[WORDS] = {
+enum {
+    NAMES = 64,
+    LONGEST = 32,     /* name */
+    MANY = 4096,      /* children */
+    MANY_LONG = 1985, /* children of the longest name: more have no room in a children text */
+};
+
+struct list {
+    char name[NAMES][LONGEST + 1];
+};
+
+static const struct list WORDS = {{
     "axis", "target", "crawl", "gather", "hold", "fade", "dim", "colour", "gobo", "iris", "zoom",
     "focus", "pan", "tilt", "strobe", "shutter", "beam", "frost", "prism", "gel", "haze", "fog",
     "fan", "winch", "truss", "batten", "curtain", "drop", "fly", "lift", "revolve", "trap", "wagon",
@@ -10,7 +23,108 @@ static const char *const WORD[WORDS] = {
     "channel", "dimmer-1", "dimmer-2", "sound", "level", "mute", "solo", "reverb", "delay-time",
     "video", "layer", "opacity", "position", "rotation", "scale", "mask", "playback", "tempo",
     "marker", "timecode", "release",
-};
+}};
+
+/* ---- names that look alike ---- */
+
+static struct list alike;
+
+/* A beginning, then 01 to 64. */
+static const struct list *numbered(const char *beginning)
+{
+    for (int i = 0; i < NAMES; i++)
+        snprintf(alike.name[i], LONGEST + 1, "%s%02d", beginning, i + 1);
+    return &alike;
+}
+
+/* Two letters, then an end. */
+static const struct list *lettered(const char *end)
+{
+    for (int i = 0; i < NAMES; i++)
+        snprintf(alike.name[i], LONGEST + 1, "%c%c%s", 'a' + i / 8, 'a' + i % 8, end);
+    return &alike;
+}
+
+/* ---- names of one hash ---- */
+
+/* The hash of the desk's table of names: where the desk changes it, these three numbers follow. */
+static const uint64_t FACTOR = 31, MODULUS = (uint64_t)1 << 32, SLOTS = 512;
+
+static uint64_t hash_of(const char *name)
+{
+    uint64_t hash = 0;
+    for (; *name != '\0'; name++)
+        hash = (hash * FACTOR + (uint8_t)*name) % MODULUS;
+    return hash;
+}
+
+typedef uint64_t slot_of_name(const char *name);
+
+static uint64_t slot_of(const char *name) { return hash_of(name) % SLOTS; }
+
+/* The slot that the desk had before its hash went over every byte. */
+static uint64_t former_slot_of(const char *name)
+{
+    size_t len = strlen(name);
+    const uint8_t *at = (const uint8_t *)name;
+    return (at[0] * 7 + at[len / 2] * 31 + at[len - 1] * 67 + len * 13) % 256;
+}
+
+/* Found by trial. They have one length and one beginning, so that comparing them has no short cut.
+   The program stops if there are too few. */
+static const struct list *of_one_slot(slot_of_name *slot)
+{
+    enum { ENDS = 26 * 26 * 26 * 26 };
+    int n = 0;
+    for (int i = 0; n < NAMES; i++) {
+        if (i == ENDS)
+            abort();
+        strcpy(alike.name[n], "nameaaaa");
+        for (int k = 7, rest = i; k > 3; k--, rest /= 26)
+            alike.name[n][k] = (char)('a' + rest % 26);
+        n += slot(alike.name[n]) == slot(alike.name[0]);
+    }
+    return &alike;
+}
+
+enum { PAIRS = 26 * 36 };
+
+/* A letter, then a letter or a digit. */
+static void write_pair(char *pair, int i)
+{
+    static const char BYTES[] = "abcdefghijklmnopqrstuvwxyz0123456789";
+    pair[0] = BYTES[i / 36];
+    pair[1] = BYTES[i % 36];
+    pair[2] = '\0';
+}
+
+/* A factor under 38 has such pairs; one over 74 has none, and then the program stops. */
+static void find_pairs_of_one_hash(char *x, char *y)
+{
+    for (int i = 0; i < PAIRS; i++)
+        for (int j = 0; j < i; j++) {
+            write_pair(x, i);
+            write_pair(y, j);
+            if (hash_of(x) == hash_of(y))
+                return;
+        }
+    abort();
+}
+
+/* With two pairs of bytes of one hash, all names of as many of them have one hash. */
+static const struct list *of_one_hash(void)
+{
+    char pair[2][3];
+    find_pairs_of_one_hash(pair[0], pair[1]);
+    for (int i = 0; i < NAMES; i++) {
+        strcpy(alike.name[i], "");
+        for (int bit = 1; bit < NAMES; bit *= 2)
+            strcat(alike.name[i], pair[(i & bit) != 0]);
+    }
+    return &alike;
+}
+
+/* ---- parts of rows ---- */
 
 static void add_child(struct row *row, const char *name)
 {
@@ -18,17 +132,46 @@ static void add_child(struct row *row, const char *name)
     put(&row->children, name);
 }
 
-/* A group of the first n words, each with the same count or mark behind it. */
-static void group_of(struct row *row, int n, const char *sign, const char *behind)
+/* A group of the first n names, each with the same count or mark behind it. */
+static void group_of(struct row *row, const struct list *list, int n, const char *sign,
+                     const char *behind)
 {
     put(&row->model, "(");
     for (int i = 0; i < n; i++) {
         put(&row->model, i == 0 ? "" : sign);
-        put(&row->model, WORD[i]);
+        put(&row->model, list->name[i]);
         put(&row->model, behind);
     }
     put(&row->model, ")");
 }
+
+static void interleaving(struct row *row, int n)
+{
+    group_of(row, &WORDS, n, "&", "");
+    while (n-- > 0)
+        add_child(row, WORDS.name[n]);
+}
+
+/* The names in a fixed disorder. */
+static void disorder(struct row *row, const struct list *list, int children)
+{
+    uint32_t random = 1;
+    group_of(row, list, NAMES, "&", "[0..*]");
+    for (int i = 0; i < children; i++) {
+        random = random * 1664525u + 1013904223u;
+        add_child(row, list->name[random >> 26]);
+    }
+}
+
+/* One child less than many, in the order of the model. */
+static void order(struct row *row, const struct list *list)
+{
+    group_of(row, list, NAMES, ",", "[0..*]");
+    for (int i = 0; i < MANY - 1; i++)
+        add_child(row, list->name[i * NAMES / MANY]);
+}
+
+/* ---- the rows ---- */
 
 static void example(struct row *row)
 {
@@ -37,27 +180,20 @@ static void example(struct row *row)
                                          : "axis\ttarget\tcrawl");
 }
 
-static void interleaving(struct row *row, int n)
-{
-    group_of(row, n, "&", "");
-    while (n-- > 0)
-        add_child(row, WORD[n]);
-}
-
 static void interleaving_of_20(struct row *row) { interleaving(row, 20); }
-static void interleaving_of_64(struct row *row) { interleaving(row, WORDS); }
+static void interleaving_of_64(struct row *row) { interleaving(row, NAMES); }
 
 static void optional_sequence(struct row *row)
 {
-    group_of(row, WORDS, ",", "?");
-    for (int i = 0; i < WORDS; i++)
-        add_child(row, WORD[i]);
+    group_of(row, &WORDS, NAMES, ",", "?");
+    for (int i = 0; i < NAMES; i++)
+        add_child(row, WORDS.name[i]);
 }
 
 static void choice_of_64(struct row *row)
 {
-    group_of(row, WORDS, "|", "");
-    add_child(row, WORD[WORDS - 1]);
+    group_of(row, &WORDS, NAMES, "|", "");
+    add_child(row, WORDS.name[NAMES - 1]);
 }
 
 static void one_name(struct row *row)
@@ -67,24 +203,13 @@ static void one_name(struct row *row)
         add_child(row, "hold");
 }
 
-/* The words in a fixed disorder. */
-static void many_names(struct row *row)
-{
-    uint32_t random = 1;
-    group_of(row, WORDS, "&", "[0..*]");
-    for (int i = 0; i < MANY; i++) {
-        random = random * 1664525u + 1013904223u;
-        add_child(row, WORD[random >> 26]);
-    }
-}
+static void many_names(struct row *row) { disorder(row, &WORDS, MANY); }
 
-/* The first word comes once more, behind words that it has to precede. */
+/* The first name comes once more, behind names that it has to precede. */
 static void dead_at_last(struct row *row)
 {
-    group_of(row, WORDS, ",", "[0..*]");
-    for (int i = 0; i < MANY - 1; i++)
-        add_child(row, WORD[i * WORDS / MANY]);
-    add_child(row, WORD[0]);
+    order(row, &WORDS);
+    add_child(row, WORDS.name[0]);
 }
 
 static void model_alone(struct row *row)
@@ -92,6 +217,41 @@ static void model_alone(struct row *row)
     put(&row->model, "((axis,target,(crawl&gather)?,hold[0..2])|");
     put(&row->model, "(fade[1..3],(dim|colour|gobo)?,((iris&zoom&focus),pan[2..60000])))");
 }
+
+static void smallest(struct row *row)
+{
+    put(&row->model, "a");
+    put(&row->children, "a");
+}
+
+static void numbers(struct row *row) { disorder(row, numbered("name"), MANY); }
+
+/* A foreign name, which looks like the others, comes first. */
+static void numbers_dead_at_first(struct row *row)
+{
+    add_child(row, "name00");
+    order(row, numbered("name"));
+}
+
+static void numbers_dead_at_last(struct row *row)
+{
+    order(row, numbered("name"));
+    add_child(row, "name01");
+}
+
+static void long_beginning(struct row *row)
+{
+    disorder(row, numbered("fly-tower-upstage-winch-motor-"), MANY_LONG);
+}
+
+static void long_end(struct row *row)
+{
+    disorder(row, lettered("-motor-of-an-upstage-fly-winch"), MANY_LONG);
+}
+
+static void former_slot(struct row *row) { disorder(row, of_one_slot(former_slot_of), MANY); }
+static void one_slot(struct row *row) { disorder(row, of_one_slot(slot_of), MANY); }
+static void one_hash(struct row *row) { disorder(row, of_one_hash(), MANY); }
 
 static const struct {
     const char *title;
@@ -108,6 +268,15 @@ static const struct {
     {"64 names 4,096 times", 0, many_names},
     {"4,096 children, dead at the last", 2, dead_at_last},
     {"model text alone", 1, model_alone},
+    {"model a, child a", 0, smallest},
+    {"name01 to name64, 4,096 children", 0, numbers},
+    {"name01 to name64, dead at the first", 2, numbers_dead_at_first},
+    {"name01 to name64, dead at the last", 2, numbers_dead_at_last},
+    {"64 names, 30 first bytes equal", 0, long_beginning},
+    {"64 names, 30 last bytes equal", 0, long_end},
+    {"64 names of one slot of the former hash", 0, former_slot},
+    {"64 names of one slot", 0, one_slot},
+    {"64 names of one hash", 0, one_hash},
 };
 
 void make_row(struct row *row, int i)

@@ -10,7 +10,8 @@ struct row {
     struct text model, children;
 };
 
-enum { ROWS = 10 };
+/* The last rows have names of one hash. */
+enum { ROWS = 19, FIRST_OF_ONE_HASH = 17 };
 
 /* Row i, from 0. */
 void make_row(struct row *row, int i);

@@ -1,4 +1,5 @@
-#include "validators.h"
+/* Measures libxml2's validators against desk_judge, row by row, in this process, and prints the
+   table of their times over desk_judge's, in Markdown. */
 #include "desk.h"
 #include "libxml.h"
 #include "measure.h"
@@ -9,66 +10,52 @@ enum { DESK, ALONE, WITH_SCHEMA, JOBS };
 
 static void print_notes(void)
 {
-    printf("\nlibxml2 %s on the same rows, desk_judge measured in turns with it\n"
-           "validation: of a parsed document by a schema compiled beforehand\n"
+    printf("libxml2 %s on the same rows: its time over desk_judge's, measured in turns\n"
+           "RELAX NG, XSD: a parsed document validated by a schema compiled beforehand\n"
            "with schema: the schema compiled from its text as well, each time\n"
-           "Neither parses the document; desk_judge reads both of its texts each time.\n"
            "-: the language cannot say the model, or only with very many copies of a name\n"
            "refused: libxml2 does not take the schema\n"
-           "wrong: its answer is not valid for complete, invalid for open and dead\n",
+           "wrong: its answer is not valid for complete, invalid for open and dead\n\n",
            libxml_version());
 }
 
-/* Prints the row's line and gives its figures; 0 if there are none. */
-static int print_row(const struct language *language, const struct row *row, struct figures *f)
+/* Of ratios under a hundred, the digits behind the point as well. */
+static void print_ratio(double ratio)
+{
+    printf(" %11.*f |", ratio < 10 ? 2 : ratio < 100 ? 1 : 0, ratio);
+}
+
+static void print_language(const struct language *language, const struct row *row)
 {
     const char *why;
     struct question desk = question_of(desk_judge, row);
     struct validator *v = new_validator(language, row, &why);
     if (v == NULL) {
-        printf("%-36s %10s %14s %8s %14s\n", row->title, "", why, "", why);
-        return 0;
+        printf(" %11s | %11s |", why, why);
+        return;
     }
     struct job jobs[JOBS] = {{ask_again, &desk}, {validate, v}, {compile_and_validate, v}};
+    struct figures f[JOBS];
     measure(jobs, JOBS, f);
     free_validator(v);
-    double time_noise = 0, ratio_noise = 0;
-    for (int j = 0; j < JOBS; j++) {
-        time_noise = larger(time_noise, f[j].time_noise);
-        ratio_noise = larger(ratio_noise, f[j].ratio_noise);
-    }
-    printf("%-36s %10.1f %14.1f %8.2f %14.1f %8.2f %10.1f%% %11.1f%%\n", row->title, f[DESK].ns,
-           f[ALONE].ns, f[ALONE].ratio, f[WITH_SCHEMA].ns, f[WITH_SCHEMA].ratio, 100 * time_noise,
-           100 * ratio_noise);
-    fflush(stdout);
-    return 1;
+    print_ratio(f[ALONE].ratio);
+    print_ratio(f[WITH_SCHEMA].ratio);
 }
 
-static void print_language(const struct language *language)
+int main(void)
 {
     static struct row row;
-    double alone[ROWS], with_schema[ROWS];
-    int n = 0;
-    printf("\n%-36s %10s %14s %8s %14s %8s %11s %12s\n", title_of(language), "desk ns",
-           "validation ns", "/ desk", "with schema ns", "/ desk", "time noise", "ratio noise");
-    for (int i = 0; i < ROWS; i++) {
-        struct figures f[JOBS];
-        make_row(&row, i);
-        if (print_row(language, &row, f)) {
-            alone[n] = f[ALONE].ratio;
-            with_schema[n++] = f[WITH_SCHEMA].ratio;
-        }
-    }
-    if (n == 0)
-        return;
-    double middle = median(alone, n), middle_with = median(with_schema, n);
-    printf("validation / desk: median %.2f, least %.2f; with schema: median %.2f, least %.2f\n",
-           middle, alone[0], middle_with, with_schema[0]);
-}
-
-void print_validators(void)
-{
     print_notes();
-    print_language(RELAX_NG);
-    print_language(XSD);
+    printf("| %-39s | %11s | %11s | %11s | %11s |\n", "Row", "RELAX NG", "with schema", "XSD",
+           "with schema");
+    puts("|---|---|---|---|---|");
+    for (int i = 0; i < ROWS; i++) {
+        make_row(&row, i);
+        printf("| %-39s |", row.title);
+        print_language(RELAX_NG, &row);
+        print_language(XSD, &row);
+        putchar('\n');
+        fflush(stdout);
+    }
+    return 0;
 }

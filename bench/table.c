@@ -1,0 +1,100 @@
+/* Prints the table of desk_judge against its twin, in Markdown. Each argument is a file with what
+   bench.c printed at one placement of the code; a row's figures are medians over the placements. */
+#include "measure.h"
+#include "rows.h"
+
+#include <stdio.h>
+#include <stdlib.h>
+
+/* The ratios to reach. */
+static const double LIMIT = 1.3, LIMIT_OF_ONE_HASH = 4, LIMIT_OF_MEDIAN = 1.1;
+
+enum { MOST_PLACEMENTS = 64 };
+
+/* What a row took, at each placement. */
+struct record {
+    double desk[MOST_PLACEMENTS], twin[MOST_PLACEMENTS];
+    double ratio[MOST_PLACEMENTS], noise[MOST_PLACEMENTS];
+};
+
+static struct record records[ROWS];
+
+static void read_placement(const char *path, int p)
+{
+    FILE *file = fopen(path, "r");
+    if (file == NULL)
+        abort();
+    for (int i = 0; i < ROWS; i++) {
+        struct record *r = &records[i];
+        if (fscanf(file, "%lf %lf %lf %lf", &r->desk[p], &r->twin[p], &r->ratio[p],
+                   &r->noise[p]) != 4)
+            abort();
+    }
+    fclose(file);
+}
+
+/* With commas, as 12,345. */
+static void print_ns(double ns)
+{
+    char digits[24];
+    int n = snprintf(digits, sizeof digits, "%.0f", ns);
+    printf(" %*s", 9 - n - (n - 1) / 3, "");
+    for (int i = 0; i < n; i++)
+        printf(i > 0 && (n - i) % 3 == 0 ? ",%c" : "%c", digits[i]);
+    printf(" |");
+}
+
+/* Gives the ratio. */
+static double print_row(const char *title, struct record *r, int placements, double limit)
+{
+    double ratio = median(r->ratio, placements);
+    printf("| %-39s |", title);
+    print_ns(median(r->desk, placements));
+    print_ns(median(r->twin, placements));
+    printf(" %5.2f | %7.1f | %5.2f | %8.2f | %5.1f %% |\n", ratio, limit, r->ratio[0],
+           r->ratio[placements - 1], 100 * median(r->noise, placements));
+    return ratio;
+}
+
+static void print_last(const char *title, double ratio, double limit)
+{
+    printf("| %-39s | %9s | %9s | %5.2f | %7.1f | %5s | %8s | %7s |\n", title, "", "", ratio, limit,
+           "", "", "");
+}
+
+static double greatest(const double *values, int n)
+{
+    double most = values[0];
+    for (int i = 1; i < n; i++)
+        most = values[i] > most ? values[i] : most;
+    return most;
+}
+
+static void print_table(int placements)
+{
+    static struct row row;
+    double ratios[ROWS];
+    printf("| %-39s | %9s | %9s | %5s | %7s | %5s | %8s | %7s |\n", "Row", "desk ns", "twin ns",
+           "ratio", "at most", "least", "greatest", "noise");
+    puts("|---|---|---|---|---|---|---|---|");
+    for (int i = 0; i < ROWS; i++) {
+        make_row(&row, i);
+        ratios[i] = print_row(row.title, &records[i], placements,
+                              i < FIRST_OF_ONE_HASH ? LIMIT : LIMIT_OF_ONE_HASH);
+    }
+    print_last("worst", greatest(ratios, FIRST_OF_ONE_HASH), LIMIT);
+    print_last("worst, names of one hash",
+               greatest(ratios + FIRST_OF_ONE_HASH, ROWS - FIRST_OF_ONE_HASH), LIMIT_OF_ONE_HASH);
+    print_last("median", median(ratios, ROWS), LIMIT_OF_MEDIAN);
+}
+
+int main(int count, char **path)
+{
+    int placements = count - 1;
+    if (placements < 1 || placements > MOST_PLACEMENTS)
+        return 2;
+    for (int p = 0; p < placements; p++)
+        read_placement(path[p + 1], p);
+    print_table(placements);
+    return 0;
+}
