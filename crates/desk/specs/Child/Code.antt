@@ -20,7 +20,7 @@ use Rattle.judge.specs.{declared.reading.Names.Names, declared.reading.Reading.
 use Rattle.judge.specs.{Reply.Children.Laws.children-some, Reply.Judged.childrenGive}
 use Rattle.judge.specs.declared.reading.Outcome.the-variants.{Read, Refused as Unread}
 use Rattle.judge.specs.Reading.{noPlace, namesOf, readingBy, reading, partsOf}
-use Rattle.judge.specs.Reply.{childrenIn, child, Reply, modelRefused, childrenRefused, good, childrenBy}
+use Rattle.judge.specs.Reply.{childrenIn, child, Reply, modelRefused, childrenRefused, good, childrenBy, no-child}
 use Rattle.desk.specs.{declared.child.Located.Located, Desk.replyNumber, Child.Names.names-many, Child.Names.place-in, Child.Laws.name-here}
 use Rattle.desk.specs.{Child.Laws.finds-exactly}
 use Rattle.desk.specs.declared.child.Located.the-variants.{InModel, InChildren, ModelRefused, ChildrenRefused}
@@ -272,7 +272,9 @@ module _ (m c : Text) (k : ℕ) (x y : Located) (e : x ≡ located (found m c k)
       go (childrenRefused f) h = tt
       go (good (ofModel p n)) (t, a, b, q) = omega (arith, name-fits m p (omega (arith, name-inside m p (q .0))), q .2, ap length (q .1))
       go (good (ofChildren p n)) (t, a, b, q) =
-          let l : k - 1 < length (childrenIn c) = by-cases (decLt (k - 1) (length (childrenIn c))) (λ o. o) (λ o. absurd (b NoChild (by-cases (decLt 0 k) (λ u. inr (omega arith)) (λ u. inl (omega arith))))) in
+          let l : k - 1 < length (childrenIn c) =
+          by-cases (decLt (k - 1) (length (childrenIn c))) (λ o. o)
+          (λ o. absurd (b NoChild (no-child (by-cases (decLt 0 k) (λ u. inr (omega arith)) (λ u. inl (omega arith)))))) in
           omega (arith, child-within c (k - 1) l, q .1, q .2)
 
 -- a part by its end is the part by its length
