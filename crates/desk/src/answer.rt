@@ -8,7 +8,7 @@ use judge::verdict::ChildrenJudged;
 use model::fault::model_number;
 use model::verdict::Verdict;
 
-pub fn verdict_number(verdict: Verdict) -> u32
+fn verdict_number(verdict: Verdict) -> u32
     ensures { λ r. ⌜ r ≡ verdictNumber verdict ⌝ }
 {
     match verdict {

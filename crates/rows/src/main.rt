@@ -1,6 +1,9 @@
 // Runs what document 01 gives to try and is not proved, and the examples of document 001: a line for each, with the text or the model and the row,
 // and the answer.
 
+ghost use Prim.Native.Nat.{_≤_};
+ghost use lib.ListN.{length};
+use fields::limits::lesser;
 use judge::reading::Outcome;
 use judge::reading::number_of;
 use judge::reading::read_model;
@@ -11,6 +14,9 @@ use model::verdict::Verdict;
 
 // No row here is longer.
 const MOST: usize = 12;
+
+// No text that is put together is longer.
+const ROOM: usize = 512;
 
 fn write(text: &[u8]) {
     io::write_all(1, text);
@@ -171,36 +177,61 @@ fn marks_and_groups() {
     read(b"a-");
 }
 
+// Puts bytes at `at`, as far as there is room, and gives the place behind them.
+fn put(text: &mut [u8], at: usize, bytes: &[u8]) -> usize
+    ensures { λ r. ⌜ r ≤ length (now (text .exit)) ⌝ }
+{
+    let mut end = lesser(at, text.len());
+    let mut i: usize = 0;
+    while i < bytes.len() {
+        if end == text.len() {
+            return end;
+        }
+        text[end] = bytes[i];
+        end += 1;
+        i += 1;
+    }
+    end
+}
+
+// A group of 64 names, aa to ah, ba to hh, and these bytes behind it.
+fn read_names(shown: &[u8], behind: &[u8]) {
+    let mut text = [0u8; ROOM];
+    let mut at = put(&mut text, 0, b"(aa");
+    let mut i: u8 = 1;
+    while i < 64 {
+        at = put(&mut text, at, &[b',', b'a' + i / 8, b'a' + i % 8]);
+        i += 1;
+    }
+    let end = put(&mut text, at, behind);
+    read_as(shown, &text[0..end]);
+}
+
+// A group of so many empty ones, and these bytes behind it.
+fn read_groups(shown: &[u8], count: usize, behind: &[u8]) {
+    let mut text = [0u8; ROOM];
+    let mut at = put(&mut text, 0, b"(()");
+    let mut i: usize = 1;
+    while i < count {
+        at = put(&mut text, at, b",()");
+        i += 1;
+    }
+    let end = put(&mut text, at, behind);
+    read_as(shown, &text[0..end]);
+}
+
 // Both sides of the limits on atoms and nodes, and which refusal comes first.
 fn atoms_and_nodes() {
-    read_as(
-        b"64 names",
-        b"(a,b,c,d,e,f,g,h,i,j,k,l,m,n,o,p,q,r,s,t,u,v,w,x,y,z,a0,b0,c0,d0,e0,f0,g0,h0,i0,j0,k0,l0,m0,n0,o0,p0,q0,r0,s0,t0,u0,v0,w0,x0,y0,z0,a-1,b-1,c-1,d-1,e-1,f-1,g-1,h-1,i-1,j-1,k-1,l-1)",
-    );
-    read_as(
-        b"65 names",
-        b"(a,b,c,d,e,f,g,h,i,j,k,l,m,n,o,p,q,r,s,t,u,v,w,x,y,z,a0,b0,c0,d0,e0,f0,g0,h0,i0,j0,k0,l0,m0,n0,o0,p0,q0,r0,s0,t0,u0,v0,w0,x0,y0,z0,a-1,b-1,c-1,d-1,e-1,f-1,g-1,h-1,i-1,j-1,k-1,l-1,m-1)",
-    );
-    read_as(
-        b"65 names, the last a repeat",
-        b"(a,b,c,d,e,f,g,h,i,j,k,l,m,n,o,p,q,r,s,t,u,v,w,x,y,z,a0,b0,c0,d0,e0,f0,g0,h0,i0,j0,k0,l0,m0,n0,o0,p0,q0,r0,s0,t0,u0,v0,w0,x0,y0,z0,a-1,b-1,c-1,d-1,e-1,f-1,g-1,h-1,i-1,j-1,k-1,l-1,a)",
-    );
-    read_as(
+    read_names(b"64 names", b")");
+    read_names(b"65 names", b",ii)");
+    read_names(b"65 names, the last a repeat", b",aa)");
+    read_names(
         b"65 names, the last of 33 characters",
-        b"(a,b,c,d,e,f,g,h,i,j,k,l,m,n,o,p,q,r,s,t,u,v,w,x,y,z,a0,b0,c0,d0,e0,f0,g0,h0,i0,j0,k0,l0,m0,n0,o0,p0,q0,r0,s0,t0,u0,v0,w0,x0,y0,z0,a-1,b-1,c-1,d-1,e-1,f-1,g-1,h-1,i-1,j-1,k-1,l-1,aaaaaaaaaaaaaaaaaaaaaaaaaaaaaaaaa)",
+        b",aaaaaaaaaaaaaaaaaaaaaaaaaaaaaaaaa)",
     );
-    read_as(
-        b"128 nodes",
-        b"((),(),(),(),(),(),(),(),(),(),(),(),(),(),(),(),(),(),(),(),(),(),(),(),(),(),(),(),(),(),(),(),(),(),(),(),(),(),(),(),(),(),(),(),(),(),(),(),(),(),(),(),(),(),(),(),(),(),(),(),(),(),(),(),(),(),(),(),(),(),(),(),(),(),(),(),(),(),(),(),(),(),(),(),(),(),(),(),(),(),(),(),(),(),(),(),(),(),(),(),(),(),(),(),(),(),(),(),(),(),(),(),(),(),(),(),(),(),(),(),(),(),(),(),(),(),())",
-    );
-    read_as(
-        b"129 nodes",
-        b"((),(),(),(),(),(),(),(),(),(),(),(),(),(),(),(),(),(),(),(),(),(),(),(),(),(),(),(),(),(),(),(),(),(),(),(),(),(),(),(),(),(),(),(),(),(),(),(),(),(),(),(),(),(),(),(),(),(),(),(),(),(),(),(),(),(),(),(),(),(),(),(),(),(),(),(),(),(),(),(),(),(),(),(),(),(),(),(),(),(),(),(),(),(),(),(),(),(),(),(),(),(),(),(),(),(),(),(),(),(),(),(),(),(),(),(),(),(),(),(),(),(),(),(),(),(),(),())",
-    );
-    read_as(
-        b"129 nodes, the last 17 deep",
-        b"((),(),(),(),(),(),(),(),(),(),(),(),(),(),(),(),(),(),(),(),(),(),(),(),(),(),(),(),(),(),(),(),(),(),(),(),(),(),(),(),(),(),(),(),(),(),(),(),(),(),(),(),(),(),(),(),(),(),(),(),(),(),(),(),(),(),(),(),(),(),(),(),(),(),(),(),(),(),(),(),(),(),(),(),(),(),(),(),(),(),(),(),(),(),(),(),(),(),(),(),(),(),(),(),(),(),(),(),(),(),(),(),((((((((((((((((",
-    );
+    read_groups(b"128 nodes", 127, b")");
+    read_groups(b"129 nodes", 127, b",())");
+    read_groups(b"129 nodes, the last 17 deep", 112, b",(((((((((((((((((a");
 }
 
 fn main() {
