@@ -1,9 +1,9 @@
--- The one answer to a text: every text has one (`answered`), and only one (`answer-is`).
+-- The one answer to a text, as a function: its least fault, or the tree that it spells (`Fault.Answers`). Every text has one (`answered`), and only one
+-- (`answer-is`).
 use mathlib.Core.Path.{_≡_}
 use Rattle.fields.specs.Bytes.{Text}
 use Rattle.model.specs.{Fault.Answer, Fault.Answers, Fault.Answered.answers-once, Fault.Answered.an-answer}
 
--- the answer to a text
 pub answer : Text → Answer
 answer x = (an-answer x) .0
 

@@ -14,10 +14,12 @@ use Rattle.model.specs.declared.rule.Kind.the-variants.{Atom, Group}
 use Rattle.model.specs.Model.{Algebra, needed, treesIn, eval, isAtom}
 use Rattle.fields.specs.Limits.{maxCount, maxDepth, maxAtoms, maxNodes}
 
+-- 13, of the counts of a node
 abbrev pub upperFits : ℕ → Upper → Bool
 upperFits m (Number n) = leb m n && (leb 1 n && leb n maxCount)
 upperFits m Unbounded = leb m maxCount
 
+-- one member alone, or none, has no sign
 abbrev pub signFits : Sign → ℕ → Bool
 signFits None n = leb n 1
 signFits Sequence n = leb 2 n
@@ -41,6 +43,7 @@ abbrev pub allUnused : List RuleNode → Bool
 allUnused [] = true
 allUnused (x ∷ l) = isUnused x && allUnused l
 
+-- The depth of a tree, but no more than one over the limit.
 abbrev pub highest : List ℕ → ℕ
 highest [] = 0
 highest (d ∷ l) = max d (highest l)
