@@ -85,54 +85,49 @@ pub record Evaluated (n : ℕ) (s : ℕ → Seen) (l : List Node) (i : ℕ) (sta
   pub stack-is : drop top stack ≡ eval (attributeBy n s) (drop i l) (name + 1)
 
 -- the nodes l are held as numbers
-module _ (words : List ℕ) (len : ℕ) (l : List Node) (h : Stores nodeIn maxNodes words len l) where
+module _ {words : List ℕ} {len : ℕ} {l : List Node} (h : Stores nodeIn maxNodes words len l) where
   size-is : length l ≡ len
-  size-is = holds-count nodeIn maxNodes words len l h
+  size-is = holds-count h
 
   -- the node x that stands before place i
-  module _ (i : ℕ) (x : Node) (a : 0 < i) (b : i ≤ len) (e : x ≡ nodeIn (getD words (i - 1) 0)) where
+  module _ {i : ℕ} {x : Node} (a : 0 < i) (b : i ≤ len) (e : x ≡ nodeIn (getD words (i - 1) 0)) where
     node-is : x ≡ getD l (i - 1) (nodeIn 0)
-    node-is = e ∙ holds-at nodeIn maxNodes words len l h (i - 1) (omega arith)
+    node-is = e ∙ holds-at h (i - 1) (omega arith)
 
     -- the names before it
-    module _ (name ones : ℕ) (m : name ≡ atomsIn (take i l)) (o : ones ≡ isAtom (x .kind)) where
-      name-before : name ≡ isAtom (x .kind) + atomsIn (take (i - 1) l)
-      name-before =
-          let j : i - 1 + 1 ≡ i = omega arith in
-          rw node-is
-          (m ∙ (rw j at (atoms-next l (i - 1) (nodeIn 0) (omega (arith, size-is)))))
+    name-before : {name : ℕ} → name ≡ atomsIn (take i l) → name ≡ isAtom (x .kind) + atomsIn (take (i - 1) l)
+    name-before m =
+        let j : i - 1 + 1 ≡ i = omega arith in
+        rw node-is (m ∙ (rw j at (atoms-next l (i - 1) (nodeIn 0) (omega (arith, size-is)))))
 
-      pub name-turn : ones ≤ name
-      name-turn = omega (arith, name-before)
+    pub name-turn : {name ones : ℕ} → name ≡ atomsIn (take i l) → ones ≡ isAtom (x .kind) → ones ≤ name
+    name-turn m o = omega (arith, name-before m)
 
     -- a turn, with what its calls gave
-    module _ (n : ℕ) (s : ℕ → Seen) where
-      pub pass-turn : (stack : List Attribute) (top name members clipped ones : ℕ) (y z : Attribute) → 0 < top → top ≤ maxNodes
-          → members ≡ needed (x .kind) → clipped ≡ min members (maxNodes - top) → ones ≡ isAtom (x .kind)
-          → y ≡ partAttribute n (x .kind) (s name) (take (clipped + top - top) (drop top stack))
-          → z ≡ markedAttribute n (x .mark) y
-          → Evaluated n s l i stack top name
-          → Evaluated n s l (i - 1) (set stack (clipped + top - 1) z) (clipped + top - 1) (name - ones)
-      pass-turn stack top name members clipped ones y z p q c r o f g t =
-          let κ = x .kind in
-          let k = atomsIn (take (i - 1) l) in
-          let u : clipped + top ≡ min (needed κ) (maxNodes - top) + top = rw (r, c) in
-          let m : name ≡ isAtom κ + k = name-before name ones (t .name-is) o in
-          let v : name - ones ≡ k = omega arith in
-          let w : after κ (k + 1) ≡ name + 1 = omega (arith, after-is κ (k + 1)) in
-          record {
-            long = rw length-set (t .long);
-            name-is = v;
-            stack-is =
-                replaced stack maxNodes top (needed κ) (clipped + top) (t .long) q u z p
-                ∙ rw (v, drop-back l i (nodeIn 0) a (omega (arith, size-is)), ← node-is, w, ← t .stack-is, g, f)
-                (rw (first-entries stack maxNodes top (needed κ) (clipped + top) (t .long) q u, m)
-                (attribute-step n s κ (x .mark) k (drop top stack)));
-          }
+    pub pass-turn : {n : ℕ} {s : ℕ → Seen} {stack : List Attribute} {top name : ℕ} → Evaluated n s l i stack top name → 0 < top → top ≤ maxNodes
+        → {members clipped ones : ℕ} → members ≡ needed (x .kind) → clipped ≡ min members (maxNodes - top) → ones ≡ isAtom (x .kind)
+        → {y z : Attribute} → y ≡ partAttribute n (x .kind) (s name) (take (clipped + top - top) (drop top stack)) → z ≡ markedAttribute n (x .mark) y
+        → Evaluated n s l (i - 1) (set stack (clipped + top - 1) z) (clipped + top - 1) (name - ones)
+    pass-turn {n} {s} {stack} {top} {name} t p q {members} {clipped} {ones} c r o {y} {z} f g =
+        let κ = x .kind in
+        let k = atomsIn (take (i - 1) l) in
+        let u : clipped + top ≡ min (needed κ) (maxNodes - top) + top = rw (r, c) in
+        let m : name ≡ isAtom κ + k = name-before (t .name-is) in
+        let v : name - ones ≡ k = omega arith in
+        let w : after κ (k + 1) ≡ name + 1 = omega (arith, after-is κ (k + 1)) in
+        record {
+          long = rw length-set (t .long);
+          name-is = v;
+          stack-is =
+              replaced stack maxNodes top (needed κ) (clipped + top) (t .long) q u z p
+              ∙ rw (v, drop-back l i (nodeIn 0) a (omega (arith, size-is)), ← node-is, w, ← t .stack-is, g, f)
+              (rw (first-entries stack maxNodes top (needed κ) (clipped + top) (t .long) q u, m)
+              (attribute-step n s κ (x .mark) k (drop top stack)));
+        }
 
-  pub pass-none : (n : ℕ) (s : ℕ → Seen) (stack : List Attribute) (name : ℕ) → length stack ≡ maxNodes → name ≡ atomsIn l
+  pub pass-none : {n : ℕ} {s : ℕ → Seen} {stack : List Attribute} {name : ℕ} → length stack ≡ maxNodes → name ≡ atomsIn l
       → Evaluated n s l len stack maxNodes name
-  pass-none n s stack name e f =
+  pass-none {stack = stack} e f =
       let j : length l ≤ len = omega (arith, size-is) in
       record {
         long = e;
@@ -141,8 +136,7 @@ module _ (words : List ℕ) (len : ℕ) (l : List Node) (h : Stores nodeIn maxNo
       }
 
 -- the end of the loop
-module _ (n : ℕ) (s : ℕ → Seen) (l : List Node) (i : ℕ) (stack : List Attribute) (top name : ℕ) (e : i ≡ 0)
-    (t : Evaluated n s l i stack top name) where
+module _ {n : ℕ} {s : ℕ → Seen} {l : List Node} {i : ℕ} {stack : List Attribute} {top name : ℕ} (t : Evaluated n s l i stack top name) (e : i ≡ 0) where
   root-is : rootAttribute (ruleWith l) n s ≡ getD (drop top stack) 0 (emptyAttribute n)
   root-is = rw (used-with l) (sym (ap (λ r. getD r 0 (emptyAttribute n)) (rw (t .name-is, e) at (t .stack-is))))
 

@@ -14,57 +14,22 @@ Inv-loop words len names₀ i₀ names i = (i ≤ len) × (names .places ≡ fil
 abbrev μ-loop : tie.MeasureT-loop
 μ-loop words len names₀ i₀ names i = len - i
 
-no-names-requires : tie.Need-no-names-requires Inv-loop μ-loop
-no-names-requires c κs = tt
-
 loop-holds : tie.Need-loop-holds Inv-loop μ-loop
 loop-holds c = (omega arith, rw (c .no-names .ensures))
 
-mul-t7 : tie.Need-mul-t7 Inv-loop μ-loop
-mul-t7 c = omega arith
-
-element-copy-out-t10 : tie.Need-element-copy-out-t10 Inv-loop μ-loop
-element-copy-out-t10 c = omega arith
-
-cast-t13 : tie.Need-cast-t13 Inv-loop μ-loop
-cast-t13 c = omega arith
-
-mul-t14 : tie.Need-mul-t14 Inv-loop μ-loop
-mul-t14 c = omega arith
-
-element-copy-out-t17 : tie.Need-element-copy-out-t17 Inv-loop μ-loop
-element-copy-out-t17 c = omega arith
-
-cast-t20 : tie.Need-cast-t20 Inv-loop μ-loop
-cast-t20 c = omega arith
-
-mul-t22 : tie.Need-mul-t22 Inv-loop μ-loop
-mul-t22 c = omega arith
-
-element-set-from-names : tie.Need-element-set-from-names Inv-loop μ-loop
-element-set-from-names c = omega arith
-
-add-i : tie.Need-add-i Inv-loop μ-loop
-add-i c = omega arith
-
-loop-less : tie.Need-loop-less Inv-loop μ-loop
-loop-less c = omega arith
-
 loop-again : tie.Need-loop-again Inv-loop μ-loop
 unfolding placeOf
-loop-again c = (
-  omega arith,
-  rw (c .before .before .before .loop .inv .1)
-      (fill-turn placeOf noPlace (c .before .before .before .before .before .args .words .now) 64 (c .before .before .before .loop .i) 0 (omega arith) (omega arith)),
-)
+loop-again c =
+    let l = c .before .before .before in
+    (omega arith, rw (l .loop .inv .1) (fill-turn placeOf noPlace (l .before .before .args .words .now) 64 (l .loop .i) 0 (omega arith) (omega arith)))
 
 returns : tie.Need-returns Inv-loop μ-loop
 returns c =
-    let e : c .before .loop .i ≡ c .before .before .before .args .len = omega arith in
-    names-filled (map placeOf (take (c .before .before .before .args .len) (c .before .before .before .args .words .now))) (c .before .loop .names .places)
-    (c .before .before .before .args .len)
-    (fill-length placeOf noPlace (c .before .before .before .args .words .now) (c .before .before .before .args .len) (omega arith))
-    (rw e at (c .before .loop .inv .1))
+    let l = c .before in
+    let a = l .before .before .args in
+    let e : l .loop .i ≡ a .len = omega arith in
+    names-filled (map placeOf (take (a .len) (a .words .now))) _ _ (fill-length placeOf noPlace (a .words .now) (a .len) (omega arith))
+    (rw e at (l .loop .inv .1))
 
 pub names-of-spec : {M : Type 1} → statement M
 names-of-spec =
@@ -72,17 +37,17 @@ names-of-spec =
     (tie.spec
     Inv-loop
     μ-loop
-    no-names-requires
+    (λ c κs. tt)
     loop-holds
-    mul-t7
-    element-copy-out-t10
-    cast-t13
-    mul-t14
-    element-copy-out-t17
-    cast-t20
-    mul-t22
-    element-set-from-names
-    add-i
-    loop-less
+    (λ c. omega arith)
+    (λ c. omega arith)
+    (λ c. omega arith)
+    (λ c. omega arith)
+    (λ c. omega arith)
+    (λ c. omega arith)
+    (λ c. omega arith)
+    (λ c. omega arith)
+    (λ c. omega arith)
+    (λ c. omega arith)
     loop-again
     returns)
