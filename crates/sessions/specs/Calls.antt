@@ -31,20 +31,20 @@ ofJudged (Verdict v) = says v
 ofJudged (RefusedRow f) = refuses (judgeNumber f)
 
 -- One call of a method: the world before it, the call, its reply and the world after it.
-pub data Plays (w : World) : Call → CallReply → World → Type 0 where
+pub data Plays (u : World) : Call → CallReply → World → Type 0 where
   by-open : {r : Rule} {a : Step} {t : Trail}
-      → Does (opening r) (w .session) (w .trail) a t → Plays w (opening r) (ofOutcome (a .outcome)) (world (a .session) t)
+      → Does (opening r) (u .session) (u .trail) a t → Plays u (opening r) (ofOutcome (a .outcome)) (world (a .session) t)
   by-add : {x : ℕ} {a : Step} {t : Trail}
-      → Does (adding x) (w .session) (w .trail) a t → Plays w (adding x) (ofOutcome (a .outcome)) (world (a .session) t)
+      → Does (adding x) (u .session) (u .trail) a t → Plays u (adding x) (ofOutcome (a .outcome)) (world (a .session) t)
   by-take-back : {a : Step} {t : Trail}
-      → Does takingBack (w .session) (w .trail) a t → Plays w takingBack (ofOutcome (a .outcome)) (world (a .session) t)
-  by-verdict : {a : Judged} → Gives (w .session) (w .trail) a → Plays w asking (ofJudged a) w
+      → Does takingBack (u .session) (u .trail) a t → Plays u takingBack (ofOutcome (a .outcome)) (world (a .session) t)
+  by-verdict : {a : Judged} → Gives (u .session) (u .trail) a → Plays u asking (ofJudged a) u
 
--- A list of calls, with the reply to each.
+-- A list of calls, with the reply to each: every call gets the world that the one before it left.
 pub data PlaysAll : World → List Call → List CallReply → World → Type 0 where
-  no-more : {w : World} → PlaysAll w [] [] w
-  and-then : {u v w : World} {q : Call} {a : CallReply} {qs : List Call} {rs : List CallReply}
-      → Plays u q a v → PlaysAll v qs rs w → PlaysAll u (q ∷ qs) (a ∷ rs) w
+  no-more : {u : World} → PlaysAll u [] [] u
+  and-then : {u₀ u₁ u₂ : World} {q : Call} {a : CallReply} {qs : List Call} {rs : List CallReply}
+      → Plays u₀ q a u₁ → PlaysAll u₁ qs rs u₂ → PlaysAll u₀ (q ∷ qs) (a ∷ rs) u₂
 
 -- the world that shows a book in a trail of n places: the book's rule, as many children as the row is long, the row in the first places and every
 -- other place free, past the room too

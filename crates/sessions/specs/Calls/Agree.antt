@@ -65,34 +65,34 @@ pub record Matches (n : ℕ) (b : Book) : Type 0 where
 kept-fresh : (n : ℕ) (r : Rule) → Readable r → Matches n (book r [])
 kept-fresh n r h = record { known = h; named = tt; fits = omega arith }
 
--- what opening, adding and taking back leave, by their promises
+-- what opening, adding and taking back leave
 abbrev moved : Call → World → World
-moved q w = world (callStep q (w .session) (w .trail) .session) (trailAfter q (w .session) (w .trail))
+moved q u = world (callStep q (u .session) (u .trail) .session) (trailAfter q (u .session) (u .trail))
 
 -- opening shows a fresh book, whatever session and trail there were
-opened : (w : World) (r : Rule) → readable r ≡ true → moved (opening r) w ≡ shown (length (w .trail)) (book r [])
+opened : (u : World) (r : Rule) → readable r ≡ true → moved (opening r) u ≡ shown (length (u .trail)) (book r [])
 unfolding outcome
-opened w r e = rw (e, sub-zero)
+opened u r e = rw (e, sub-zero)
 
 -- an opening that was not refused
-pub record Opened (w₀ w : World) (r : Rule) : Type 0 where
-  pub kept : Matches (length (w₀ .trail)) (book r [])
-  pub shows : w ≡ shown (length (w₀ .trail)) (book r [])
+pub record Opened (u₀ u : World) (r : Rule) : Type 0 where
+  pub kept : Matches (length (u₀ .trail)) (book r [])
+  pub shows : u ≡ shown (length (u₀ .trail)) (book r [])
 
-pub done-opened : {w₀ w : World} {r : Rule} {a : CallReply} → Plays w₀ (opening r) a w → a ≡ nothing → Opened w₀ w r
+pub done-opened : {u₀ u : World} {r : Rule} {a : CallReply} → Plays u₀ (opening r) a u → a ≡ nothing → Opened u₀ u r
 unfolding outcome
-done-opened {w₀} {r = r} (by-open (d, f)) i = by-test (readable r)
-    (λ e. record { kept = kept-fresh (length (w₀ .trail)) r (readable-is r .0 e); shows = rw (d, f) (opened w₀ r e) })
+done-opened {u₀} {r = r} (by-open (d, f)) i = by-test (readable r)
+    (λ e. record { kept = kept-fresh (length (u₀ .trail)) r (readable-is r .0 e); shows = rw (d, f) (opened u₀ r e) })
     (λ e. let z : refuses 40 ≡ nothing = rw (d, e) at i in let y : _≡_ {A = ℕ} 0 1 = cc in absurd (omega arith))
 
 -- opening a rule that some text reads into is not refused
-pub readable-opened : {w₀ w : World} {r : Rule} {a : CallReply} → Readable r → Plays w₀ (opening r) a w → a ≡ nothing
+pub readable-opened : {u₀ u : World} {r : Rule} {a : CallReply} → Readable r → Plays u₀ (opening r) a u → a ≡ nothing
 unfolding outcome
 readable-opened {r = r} h (by-open (d, f)) = rw (d, readable-is r .1 h)
 
--- a call that had the reply a and left the world w does what the book does
+-- the book does the same as a call that had the reply a and left the world u
 abbrev pub Agrees : ℕ → Book → Call → CallReply → World → Type 0
-Agrees n b q a w = (c : Book) × Enters n b q a c × (w ≡ shown n c) × Matches n c
+Agrees n b q a u = (c : Book) × Enters n b q a c × (u ≡ shown n c) × Matches n c
 
 module _ (n : ℕ) (b : Book) (k : Matches n b) where
   length-shown : length (shown n b .trail) ≡ n
@@ -115,7 +115,7 @@ module _ (n : ℕ) (b : Book) (k : Matches n b) where
   unfolding checked
   checked-shown = rw (readable-shown, intact-shown)
 
-  -- what opening, adding and taking back promise
+  -- a call by what opening, adding and taking back promise
   abbrev Promised : Call → Type 0
   Promised q = Agrees n b q (ofOutcome (outcome q (shown n b .session) (shown n b .trail))) (moved q (shown n b))
 
@@ -184,7 +184,7 @@ module _ (n : ℕ) (b : Book) (k : Matches n b) where
       → Agrees n b q (ofOutcome (a .outcome)) (world (a .session) t)
   agreed (e, f) h = rw (e, f) h
 
-  pub agrees : {w : World} {q : Call} {a : CallReply} → Plays (shown n b) q a w → Agrees n b q a w
+  pub agrees : {u : World} {q : Call} {a : CallReply} → Plays (shown n b) q a u → Agrees n b q a u
   agrees (by-open {r} d) = agreed d (agrees-opening r)
   agrees (by-add {x} d) = agreed d (agrees-adding x)
   agrees (by-take-back d) = agreed d agrees-taking
