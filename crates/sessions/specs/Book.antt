@@ -1,11 +1,9 @@
 -- The book that a list of calls agrees with: document 01, "Sessions". It is fed the trail's length and, for each call, which one it is and the rule
--- or name number that it is given; never a session, an answer or a place of the trail. `Session.Theorem` says that sessions agree with it.
+-- or name number that it is given; never a session, an answer or a place of the trail. `Ends.calls-keep-book` says that sessions agree with it.
 pub mod Laws
 use mathlib.Core.{Path._≡_, List.List, List.[], List._∷_, List._++_}
 use Prim.Native.Nat.{ℕ, _≤_, _<_, min}
 use lib.ListN.{length}
-use Rattle.judge.specs.declared.fault.JudgeFault.{JudgeFault}
-use Rattle.judge.specs.declared.fault.JudgeFault.the-variants.{Unreadable, UnknownName, NoRoom, NothingToTakeBack}
 use Rattle.model.specs.{declared.rule.Rule.Rule, declared.verdict.Verdict.Verdict, Word.Word, Types.Ty, Verdict.Says, Rule.Readable, Rule.Means, Rule.names}
 use Rattle.fields.specs.Limits.{maxRow}
 
@@ -14,12 +12,13 @@ pub data Call : Type 0 where
   adding : ℕ → Call
   takingBack asking : Call
 
--- a verdict, a refusal, or neither
+-- a verdict, a refusal with the table's number, or neither
 pub data CallReply : Type 0 where
   says : Verdict → CallReply
-  refuses : JudgeFault → CallReply
+  refuses : ℕ → CallReply
   nothing : CallReply
 
+-- It keeps a rule and a row of name numbers, 0 standing for a name that the model lacks.
 pub record Book : Type 0 where
   pub rule : Rule
   pub row : Word
@@ -33,16 +32,21 @@ room n = min n maxRow
 
 -- One call: the book before it, the call, the book's reply and the book after it. n is the trail's length.
 pub data Enters (n : ℕ) : Book → Call → CallReply → Book → Type 0 where
-  no-model : {b : Book} {r : Rule} → ¬ Readable r → Enters n b (opening r) (refuses Unreadable) b
+  -- Opening: if no model text reads into the given rule, 40, and nothing changes. Else that rule is kept and the row is empty.
+  no-model : {b : Book} {r : Rule} → ¬ Readable r → Enters n b (opening r) (refuses 40) b
   opens : {b : Book} {r : Rule} → Readable r → Enters n b (opening r) nothing (book r [])
-  no-name : {r : Rule} {w : Word} {x : ℕ} → names r < x → Enters n (book r w) (adding x) (refuses UnknownName) (book r w)
-  no-room : {r : Rule} {w : Word} {x : ℕ} → x ≤ names r → length w ≡ room n → Enters n (book r w) (adding x) (refuses NoRoom) (book r w)
+  -- Adding: a number above the kept rule's names is 43; else, if the row is as long as the room, 44. Else the number joins the row's end.
+  no-name : {r : Rule} {w : Word} {x : ℕ} → names r < x → Enters n (book r w) (adding x) (refuses 43) (book r w)
+  no-room : {r : Rule} {w : Word} {x : ℕ} → x ≤ names r → length w ≡ room n → Enters n (book r w) (adding x) (refuses 44) (book r w)
   adds : {r : Rule} {w : Word} {x : ℕ} → x ≤ names r → ¬ length w ≡ room n → Enters n (book r w) (adding x) nothing (book r (w ++ (x ∷ [])))
-  no-children : {r : Rule} → Enters n (book r []) takingBack (refuses NothingToTakeBack) (book r [])
+  -- Taking back: from an empty row 45. Else the last number goes.
+  no-children : {r : Rule} → Enters n (book r []) takingBack (refuses 45) (book r [])
   takes : {r : Rule} {w : Word} (x : ℕ) → Enters n (book r (w ++ (x ∷ []))) takingBack nothing (book r w)
+  -- Asking is never refused. It gives the verdict on the row by any model text that reads into the kept rule.
   judges : {r : Rule} {w : Word} {A : Ty} {v : Verdict} → Means r A → Says A w v → Enters n (book r w) asking (says v) (book r w)
 
--- A list of calls, with the book's reply to each (`Book.Laws.keeps-once`: there are no other replies, and no other book at the end).
+-- A list of calls, with the book's reply to each (`Ends.book-once`: there are no other replies, and no other book at the end).
 pub data Keeps (n : ℕ) : Book → List Call → List CallReply → Book → Type 0 where
   done : {b : Book} → Keeps n b [] [] b
-  next : {b c d : Book} {q : Call} {a : CallReply} {qs : List Call} {rs : List CallReply} → Enters n b q a c → Keeps n c qs rs d → Keeps n b (q ∷ qs) (a ∷ rs) d
+  next : {b c d : Book} {q : Call} {a : CallReply} {qs : List Call} {rs : List CallReply}
+      → Enters n b q a c → Keeps n c qs rs d → Keeps n b (q ∷ qs) (a ∷ rs) d

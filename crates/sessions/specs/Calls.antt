@@ -1,59 +1,52 @@
 -- Lists of calls on one session and one trail: document 01, "Sessions". Each call gets the session that the last opening, addition or take-back
--- handed back, refused or not, and the whole trail, which nothing else writes.
+-- handed back, refused or not, and the whole trail, which nothing else writes. Of an answer and a trail at exit only the method's promise is known.
 pub mod Agree
 pub mod Theorem
 use mathlib.Core.List.{List, [], _∷_, _++_}
 use Prim.Native.Nat.{ℕ, _-_}
 use lib.ListN.{length, replicate}
-use Rattle.sessions.specs.{declared.session.Outcome.Outcome, declared.session.Session.Session}
+use Rattle.model.specs.declared.rule.Rule.{Rule}
+use Rattle.judge.specs.{declared.verdict.Judged.Judged, Row.judgeNumber}
+use Rattle.judge.specs.declared.verdict.Judged.the-variants.{Verdict, Refused as RefusedRow}
+use Rattle.sessions.specs.{declared.session.Outcome.Outcome, declared.session.Session.Session, declared.session.Step.Step}
 use Rattle.sessions.specs.declared.session.Outcome.the-variants.{Done, Refused}
 use Rattle.sessions.specs.Book.{Call, opening, adding, takingBack, asking, CallReply, says, refuses, nothing, Book}
-use Rattle.sessions.specs.Session.{Trail, free, callStep, trailAfter, asked}
-use Rattle.judge.specs.declared.verdict.Judged.{Judged}
-use Rattle.judge.specs.declared.verdict.Judged.the-variants.{Verdict, Refused as RefusedRow}
+use Rattle.sessions.specs.Session.{Trail, free, Does, Gives}
 
+-- a session and the trail that is lent with it
 pub record World : Type 0 where
   pub session : Session
   pub trail : Trail
 
--- what the contracts say of the session that is handed back and of the trail at exit; asking hands back no session and writes nothing
-abbrev pub moved : Call → World → World
-moved q w = record { session = callStep q (w .session) (w .trail) .session; trail = trailAfter q (w .session) (w .trail) }
+abbrev pub world : Session → Trail → World
+world s t = record { session = s; trail = t }
 
-abbrev pub plays : Call → World → World
-plays (opening r) w = moved (opening r) w
-plays (adding x) w = moved (adding x) w
-plays takingBack w = moved takingBack w
-plays asking w = w
-
--- a verdict, a refusal, or neither
+-- what an answer says: a verdict, a refusal with the table's number, or neither
 abbrev pub ofOutcome : Outcome → CallReply
 ofOutcome Done = nothing
-ofOutcome (Refused f) = refuses f
+ofOutcome (Refused f) = refuses (judgeNumber f)
 
 abbrev pub ofJudged : Judged → CallReply
 ofJudged (Verdict v) = says v
-ofJudged (RefusedRow f) = refuses f
+ofJudged (RefusedRow f) = refuses (judgeNumber f)
 
-abbrev pub replyTo : Call → World → CallReply
-replyTo (opening r) w = ofOutcome (callStep (opening r) (w .session) (w .trail) .outcome)
-replyTo (adding x) w = ofOutcome (callStep (adding x) (w .session) (w .trail) .outcome)
-replyTo takingBack w = ofOutcome (callStep takingBack (w .session) (w .trail) .outcome)
-replyTo asking w = ofJudged (asked (w .session) (w .trail))
+-- One call of a method: the world before it, the call, its reply and the world after it.
+pub data Plays (u : World) : Call → CallReply → World → Type 0 where
+  by-open : {r : Rule} {a : Step} {t : Trail}
+      → Does (opening r) (u .session) (u .trail) a t → Plays u (opening r) (ofOutcome (a .outcome)) (world (a .session) t)
+  by-add : {x : ℕ} {a : Step} {t : Trail}
+      → Does (adding x) (u .session) (u .trail) a t → Plays u (adding x) (ofOutcome (a .outcome)) (world (a .session) t)
+  by-take-back : {a : Step} {t : Trail}
+      → Does takingBack (u .session) (u .trail) a t → Plays u takingBack (ofOutcome (a .outcome)) (world (a .session) t)
+  by-verdict : {a : Judged} → Gives (u .session) (u .trail) a → Plays u asking (ofJudged a) u
 
-abbrev pub worldAfter : List Call → World → World
-worldAfter [] w = w
-worldAfter (q ∷ qs) w = worldAfter qs (plays q w)
-
-abbrev pub repliesTo : List Call → World → List CallReply
-repliesTo [] w = []
-repliesTo (q ∷ qs) w = replyTo q w ∷ repliesTo qs (plays q w)
+-- A list of calls, with the reply to each: every call gets the world that the one before it left.
+pub data PlaysAll : World → List Call → List CallReply → World → Type 0 where
+  no-more : {u : World} → PlaysAll u [] [] u
+  and-then : {u₀ u₁ u₂ : World} {q : Call} {a : CallReply} {qs : List Call} {rs : List CallReply}
+      → Plays u₀ q a u₁ → PlaysAll u₁ qs rs u₂ → PlaysAll u₀ (q ∷ qs) (a ∷ rs) u₂
 
 -- the world that shows a book in a trail of n places: the book's rule, as many children as the row is long, the row in the first places and every
--- other place free
+-- other place free, past the room too
 abbrev pub shown : ℕ → Book → World
-shown n b =
-    record {
-      session = record { rule = b .rule; children = length (b .row) };
-      trail = b .row ++ replicate (n - length (b .row)) free;
-    }
+shown n b = world (record { rule = b .rule; children = length (b .row) }) (b .row ++ replicate (n - length (b .row)) free)

@@ -1,13 +1,14 @@
 -- The ends: what is proved of every session, trail and list of calls. Each proof is a citation.
-use mathlib.Core.{Path._≡_, Logic._↔_, List.List, List.[]}
-use Prim.Native.Nat.{ℕ, _≤_}
-use lib.ListN.{length}
-use Rattle.model.specs.declared.rule.Rule.{Rule}
+use mathlib.Core.{Path._≡_, Logic._↔_, List.List, List.[], List._∷_, List.map}
+use Prim.Native.Nat.{ℕ, suc, _≤_}
+use lib.ListN.{length, replicate}
+use Rattle.model.specs.{declared.rule.Rule.Rule, declared.verdict.Verdict.Verdict, Word.Word, Types.Ty, Verdict.Says, Rule.Means, Rule.names}
+use Rattle.judge.specs.{declared.verdict.Judged.Judged, declared.verdict.Judged.the-variants.Verdict as Said, Row.Upto}
 use Rattle.sessions.specs.{declared.session.Outcome.Outcome, declared.session.Session.Session, Book.Laws.keeps-once, Session.Trail, Session.outcome}
-use Rattle.sessions.specs.{Session.asked, Refusal.Tried, Refusal.Asks, Refusal.Laws.outcome-is, Refusal.Laws.asked-is, Calls.Theorem.agrees-with-book}
-use Rattle.sessions.specs.Book.{Call, opening, CallReply, nothing, Book, book, room, Keeps}
-use Rattle.sessions.specs.Calls.{World, plays, replyTo, worldAfter, repliesTo, shown}
-use Rattle.judge.specs.declared.verdict.Judged.{Judged}
+use Rattle.sessions.specs.{Session.asked, Session.Gives, Refusal.Tried, Refusal.Asks, Refusal.Laws.outcome-is, Refusal.Laws.asked-is}
+use Rattle.sessions.specs.{Calls.World, Calls.Plays, Calls.PlaysAll, Calls.shown, Calls.Theorem.plays-all, Calls.Theorem.agrees-with-book}
+use Rattle.sessions.specs.Calls.Theorem.{judges-row}
+use Rattle.sessions.specs.Book.{Call, opening, adding, CallReply, nothing, Book, book, room, Keeps}
 
 -- Demand 1, sessions: a call of any session with any trail is refused just as the table says, and asking is else answered by the meaning.
 pub refused-exactly : (s : Session) (t : Trail) (q : Call) (o : Outcome) → (outcome q s t ≡ o) ↔ Tried s t q o
@@ -16,13 +17,26 @@ refused-exactly = outcome-is
 pub asked-exactly : (s : Session) (t : Trail) (a : Judged) → (asked s t ≡ a) ↔ Asks s t a
 asked-exactly = asked-is
 
--- Demand 3: whatever session and trail there were, every list of calls behind an opening that was not refused is answered as the book is, and leaves
--- what the book has. The book gives one reply to each call.
-pub calls-keep-book : (w₀ : World) (r : Rule) → replyTo (opening r) w₀ ≡ nothing → (qs : List Call) →
-    let n = length (w₀ .trail) in
-    let w = plays (opening r) w₀ in
-    (b : Book) × Keeps n (book r []) qs (repliesTo qs w) b × (worldAfter qs w ≡ shown n b) × (length (b .row) ≤ room n)
+-- Demand 3: whatever session and trail there were, every list of calls behind an opening that was not refused has the book's replies and leaves what
+-- the book has, with any answers, sessions and trails that the methods' promises allow. There are such for every list, and the book gives one reply
+-- to each call.
+pub calls-keep-book : {u₀ u₁ u₂ : World} {r : Rule} {qs : List Call} {rs : List CallReply}
+    → Plays u₀ (opening r) nothing u₁ → PlaysAll u₁ qs rs u₂ →
+    let n = length (u₀ .trail) in
+    (b : Book) × Keeps n (book r []) qs rs b × (u₂ ≡ shown n b) × (length (b .row) ≤ room n)
 calls-keep-book = agrees-with-book
 
-pub book-once : {n : ℕ} {b c d : Book} {qs : List Call} {rs rs′ : List CallReply} → Keeps n b qs rs c → Keeps n b qs rs′ d → (rs ≡ rs′) × (c ≡ d)
+pub calls-answered : (u : World) (qs : List Call) → (rs : List CallReply) × (v : World) × PlaysAll u qs rs v
+calls-answered = plays-all
+
+pub book-once : {n : ℕ} {b c d : Book} {qs : List Call} {rs rs′ : List CallReply} → Keeps n b qs rs c → Keeps n b qs rs′ d
+    → (rs ≡ rs′) × (c ≡ d)
 book-once = keeps-once
+
+-- Demands 2 and 3, a row: opening a rule that means the type A, whatever session and trail there were, and adding the row's numbers one by one is
+-- refused nowhere where there is room and no number is above the rule's names. Asking then gives the verdict v exactly when the row has it by the
+-- meaning.
+pub session-judges : {r : Rule} {A : Ty} {u₀ u : World} {rs : List CallReply} → Means r A → (w : Word) → Upto (names r) w
+    → length w ≤ room (length (u₀ .trail)) → PlaysAll u₀ (opening r ∷ map adding w) rs u
+    → (rs ≡ replicate (suc (length w)) nothing) × ((v : Verdict) → Gives (u .session) (u .trail) (Said v) ↔ Says A w v)
+session-judges = judges-row

@@ -10,6 +10,7 @@ use Rattle.judge.specs.declared.verdict.Judged.the-variants.{Verdict, Refused a
 use Rattle.sessions.specs.{declared.session.Outcome.Outcome, declared.session.Session.Session, Session.Trail, Session.free}
 use Rattle.sessions.specs.declared.session.Outcome.the-variants.{Done, Refused}
 use Rattle.sessions.specs.Book.{Call, opening, adding, takingBack, asking, room}
+use Rattle.fields.specs.Least.{NoneStands, Least}
 
 -- every place is free
 abbrev pub AllFree : Trail → Type 0
@@ -38,10 +39,10 @@ pub data CallStands (s : Session) (t : Trail) : Call → JudgeFault → Type 0 w
 
 -- what a call is answered: the refusal of the smallest number that stands, if one does
 abbrev pub Tried : Session → Trail → Call → Outcome → Type 0
-Tried s t q Done = (g : JudgeFault) → ¬ CallStands s t q g
-Tried s t q (Refused f) = CallStands s t q f × ((g : JudgeFault) → CallStands s t q g → judgeNumber f ≤ judgeNumber g)
+Tried s t q Done = NoneStands (CallStands s t q)
+Tried s t q (Refused f) = Least judgeNumber (CallStands s t q) f
 
 -- what asking is answered: else the verdict by the meaning
 abbrev pub Asks : Session → Trail → Judged → Type 0
-Asks s t (Verdict v) = ((g : JudgeFault) → ¬ CallStands s t asking g) × ((A : Ty) × Means (s .rule) A × Says A (take (s .children) t) v)
-Asks s t (RefusedRow f) = Tried s t asking (Refused f)
+Asks s t (Verdict v) = NoneStands (CallStands s t asking) × ((A : Ty) × Means (s .rule) A × Says A (take (s .children) t) v)
+Asks s t (RefusedRow f) = Least judgeNumber (CallStands s t asking) f

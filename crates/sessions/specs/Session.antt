@@ -75,14 +75,18 @@ callStep q s t = record { session = whenDone (outcome q s t) (newSession q s) s;
 abbrev pub trailAfter : Call → Session → Trail → Trail
 trailAfter q s t = whenDone (outcome q s t) (newTrail q s t) t
 
--- what the methods promise of the answer r and the trail t′ at exit
+-- what opening, adding and taking back promise of the answer r and the trail t′ at exit
 abbrev pub Does : Call → Session → Trail → Step → Trail → Type 0
 Does q s t r t′ = (r ≡ callStep q s t) × (t′ ≡ trailAfter q s t)
 
--- the answer of asking, which hands back no session and writes nothing
+-- the answer of asking
 abbrev pub judgedBy : Outcome → Session → Trail → Judged
 judgedBy Done s t = Verdict (verdict (ruleType (s .rule)) (take (s .children) t))
 judgedBy (Refused f) s t = RefusedRow f
 
 abbrev pub asked : Session → Trail → Judged
 asked s t = judgedBy (outcome asking s t) s t
+
+-- what asking promises of the answer a; it hands back no session and writes nothing lent
+abbrev pub Gives : Session → Trail → Judged → Type 0
+Gives s t a = a ≡ asked s t

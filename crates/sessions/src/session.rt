@@ -3,7 +3,7 @@
 ghost use mathlib.Core.Path.{_≡_};
 ghost use lib.ListN.{length, replicate};
 ghost use Rattle.sessions.specs.Book.{opening, adding, takingBack, room};
-ghost use Rattle.sessions.specs.Session.{free, allFree, intact, checked, Does, asked};
+ghost use Rattle.sessions.specs.Session.{free, allFree, intact, checked, Does, Gives};
 use fields::limits::MAX_ROW;
 use fields::limits::lesser;
 use judge::fault::JudgeFault;
@@ -175,7 +175,7 @@ impl Session {
 
     // Refused with 40 or 42. Else the verdict on the children by the session's rule.
     pub fn verdict(self, trail: &[u16]) -> Judged
-        ensures { λ r. ⌜ r ≡ asked self (now (trail .entry)) ⌝ }
+        ensures { λ r. ⌜ Gives self (now (trail .entry)) r ⌝ }
     {
         let rule = self.rule;
         let children = self.children;

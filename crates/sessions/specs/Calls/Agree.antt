@@ -1,18 +1,20 @@
 -- Each call does what the book does.
-use mathlib.Core.{Path._≡_, Path.refl, Path.ap, Path._∙_, Logic._↔_, Bool.true, List.[], List._∷_, List._++_, List.append-assoc}
+use mathlib.Core.{Path._≡_, Path.refl, Path.sym, Path.ap, Path._∙_, Logic._↔_, Bool.true, List.[], List._∷_, List._++_, List.append-assoc}
 use Prim.Native.Nat.{ℕ, zero, suc, _+_, _-_, _≤_, _<_}
 use native.Mathlib.{Nat.sub-zero, Omega.arith}
 use lib.{Dec.leb, Dec.ltb, Seq.take-at, Seq.drop-at, Seq.set-at}
 use lib.ListN.{length, set, replicate, length-append, length-replicate}
 use borrow.Author.Tests.{leb-true, leb-false, ltb-true, ltb-false}
-use Rattle.judge.specs.{declared.fault.JudgeFault.the-variants.Unreadable, Row.Upto}
-use Rattle.model.specs.{declared.rule.Rule.Rule, Word.Word, Verdict.Laws.verdict-says, Rule.Readable, Rule.names, Rule.ruleType, Check.readable}
-use Rattle.model.specs.Check.Exact.{readable-is, type-means, means-conflict-free}
-use Rattle.sessions.specs.{declared.session.Outcome.the-variants.Done, Book.Laws.takes-last, Calls.World, Calls.plays, Calls.replyTo, Calls.shown}
-use Rattle.sessions.specs.{Refusal.AllFree, Session.Laws.intact-tells}
-use Rattle.sessions.specs.Book.{Call, opening, adding, takingBack, asking, nothing, refuses, Book, book, room, Enters, no-model, opens, no-name}
-use Rattle.sessions.specs.Book.{no-room, adds, no-children, judges}
-use Rattle.sessions.specs.Session.{free, intact, checked, outcome}
+use Rattle.judge.specs.{declared.verdict.Judged.the-variants.Verdict as Said, Row.Upto}
+use Rattle.model.specs.{declared.rule.Rule.Rule, declared.verdict.Verdict.Verdict, Word.Word, Types.Ty, Verdict.Says, Verdict.verdict}
+use Rattle.model.specs.{Verdict.Laws.verdict-says, Verdict.Laws.verdict-is, Rule.Readable, Rule.Means, Rule.names, Rule.ruleType, Check.readable}
+use Rattle.model.specs.Check.Exact.{readable-is, type-means, means-type, means-conflict-free}
+use Rattle.sessions.specs.{declared.session.Outcome.the-variants.Done, declared.session.Step.Step, Book.Laws.takes-last, Refusal.AllFree}
+use Rattle.sessions.specs.{Session.Laws.intact-tells, Calls.World, Calls.world, Calls.ofOutcome, Calls.ofJudged, Calls.Plays, Calls.by-open, Calls.by-add}
+use Rattle.sessions.specs.{Calls.by-take-back, Calls.by-verdict, Calls.shown}
+use Rattle.sessions.specs.Book.{Call, opening, adding, takingBack, asking, CallReply, nothing, refuses, Book, book, room, Enters, no-model, opens}
+use Rattle.sessions.specs.Book.{no-name, no-room, adds, no-children, judges}
+use Rattle.sessions.specs.Session.{Trail, free, intact, checked, outcome, callStep, trailAfter, asked, Does, Gives}
 use Rattle.fields.specs.Tests.{by-test, untold}
 
 replicate-free : (n : ℕ) → AllFree (replicate n free)
@@ -41,7 +43,7 @@ upto-append m [] w = (λ h. (tt, h), λ h. h .1)
 upto-append m (x ∷ v) w =
     (λ h. let i = upto-append m v w .0 (h .1) in ((h .0, i .0), i .1), λ h. (h .0 .0, upto-append m v w .1 (h .0 .1, h .1)))
 
-below-apart : (m n : ℕ) → m < n → ¬ m ≡ n
+pub below-apart : (m n : ℕ) → m < n → ¬ m ≡ n
 below-apart m n h e = omega arith
 
 empty : (w : Word) → length w ≤ 0 → w ≡ []
@@ -63,25 +65,34 @@ pub record Matches (n : ℕ) (b : Book) : Type 0 where
 kept-fresh : (n : ℕ) (r : Rule) → Readable r → Matches n (book r [])
 kept-fresh n r h = record { known = h; named = tt; fits = omega arith }
 
+-- what opening, adding and taking back leave
+abbrev moved : Call → World → World
+moved q u = world (callStep q (u .session) (u .trail) .session) (trailAfter q (u .session) (u .trail))
+
 -- opening shows a fresh book, whatever session and trail there were
-opened : (w : World) (r : Rule) → readable r ≡ true → plays (opening r) w ≡ shown (length (w .trail)) (book r [])
+opened : (u : World) (r : Rule) → readable r ≡ true → moved (opening r) u ≡ shown (length (u .trail)) (book r [])
 unfolding outcome
-opened w r e = rw (e, sub-zero)
+opened u r e = rw (e, sub-zero)
 
 -- an opening that was not refused
-pub record Opened (w : World) (r : Rule) : Type 0 where
-  pub kept : Matches (length (w .trail)) (book r [])
-  pub shows : plays (opening r) w ≡ shown (length (w .trail)) (book r [])
+pub record Opened (u₀ u : World) (r : Rule) : Type 0 where
+  pub kept : Matches (length (u₀ .trail)) (book r [])
+  pub shows : u ≡ shown (length (u₀ .trail)) (book r [])
 
-pub done-opened : (w : World) (r : Rule) → replyTo (opening r) w ≡ nothing → Opened w r
+pub done-opened : {u₀ u : World} {r : Rule} {a : CallReply} → Plays u₀ (opening r) a u → a ≡ nothing → Opened u₀ u r
 unfolding outcome
-done-opened w r i = by-test (readable r)
-    (λ e. record { kept = kept-fresh (length (w .trail)) r (readable-is r .0 e); shows = opened w r e })
-    (λ e. let z : refuses Unreadable ≡ nothing = rw e at i in let y : _≡_ {A = ℕ} 0 1 = cc in absurd (omega arith))
+done-opened {u₀} {r = r} (by-open (d, f)) i = by-test (readable r)
+    (λ e. record { kept = kept-fresh (length (u₀ .trail)) r (readable-is r .0 e); shows = rw (d, f) (opened u₀ r e) })
+    (λ e. let z : refuses 40 ≡ nothing = rw (d, e) at i in let y : _≡_ {A = ℕ} 0 1 = cc in absurd (omega arith))
 
--- a call on the world that shows a book does what the book does
-abbrev pub Agrees : ℕ → Book → Call → Type 0
-Agrees n b q = (c : Book) × Enters n b q (replyTo q (shown n b)) c × (plays q (shown n b) ≡ shown n c) × Matches n c
+-- opening a rule that some text reads into is not refused
+pub readable-opened : {u₀ u : World} {r : Rule} {a : CallReply} → Readable r → Plays u₀ (opening r) a u → a ≡ nothing
+unfolding outcome
+readable-opened {r = r} h (by-open (d, f)) = rw (d, readable-is r .1 h)
+
+-- the book does the same as a call that had the reply a and left the world u
+abbrev pub Agrees : ℕ → Book → Call → CallReply → World → Type 0
+Agrees n b q a u = (c : Book) × Enters n b q a c × (u ≡ shown n c) × Matches n c
 
 module _ (n : ℕ) (b : Book) (k : Matches n b) where
   length-shown : length (shown n b .trail) ≡ n
@@ -104,14 +115,18 @@ module _ (n : ℕ) (b : Book) (k : Matches n b) where
   unfolding checked
   checked-shown = rw (readable-shown, intact-shown)
 
-  agrees-opening : (r : Rule) → Agrees n b (opening r)
+  -- a call by what opening, adding and taking back promise
+  abbrev Promised : Call → Type 0
+  Promised q = Agrees n b q (ofOutcome (outcome q (shown n b .session) (shown n b .trail))) (moved q (shown n b))
+
+  agrees-opening : (r : Rule) → Promised (opening r)
   unfolding outcome
   agrees-opening r = by-test (readable r)
       (λ e. let h = readable-is r .0 e in
       (book r [], rw e (opens h), opened (shown n b) r e ∙ ap (λ (m : ℕ). shown m (book r [])) length-shown, kept-fresh n r h))
       (λ e. rw e (b, no-model (untold (readable r) (readable-is r) e), refl, k))
 
-  agrees-adding : (x : ℕ) → Agrees n b (adding x)
+  agrees-adding : (x : ℕ) → Promised (adding x)
   unfolding outcome
   agrees-adding x =
       let f = k .fits in
@@ -131,7 +146,7 @@ module _ (n : ℕ) (b : Book) (k : Matches n b) where
       let i : length (b .row) ≡ room n = omega arith in rw (checked-shown, e, length-shown, l) (b, no-room h i, refl, k)))
       (λ e. let h : names (b .rule) < x = leb-false _ _ e in rw (checked-shown, e) (b, no-name h, refl, k))
 
-  agrees-taking : Agrees n b takingBack
+  agrees-taking : Promised takingBack
   unfolding outcome
   agrees-taking = by-test (ltb 0 (length (b .row)))
       (λ e. let f = k .fits in
@@ -147,15 +162,30 @@ module _ (n : ℕ) (b : Book) (k : Matches n b) where
       ))
       (λ e. let h : length (b .row) ≤ 0 = ltb-false _ _ e in rw (checked-shown, e) (b, rw (empty (b .row) h) no-children, refl, k))
 
-  agrees-asking : Agrees n b asking
+  -- what asking promises
+  asked-shown : asked (shown n b .session) (shown n b .trail) ≡ Said (verdict (ruleType (b .rule)) (b .row))
   unfolding outcome
+  asked-shown = rw (checked-shown, take-at (b .row) (replicate (n - length (b .row)) free) (length (b .row)) refl)
+
+  agrees-asking : Agrees n b asking (ofJudged (asked (shown n b .session) (shown n b .trail))) (shown n b)
   agrees-asking =
       let m = type-means (k .known) in
-      rw (checked-shown, take-at (b .row) (replicate (n - length (b .row)) free) (length (b .row)) refl)
-      (b, judges m (verdict-says (ruleType (b .rule)) (means-conflict-free m) (b .row)), refl, k)
+      rw asked-shown (b, judges m (verdict-says (ruleType (b .rule)) (means-conflict-free m) (b .row)), refl, k)
 
-pub agrees : (n : ℕ) (b : Book) → Matches n b → (q : Call) → Agrees n b q
-agrees n b k (opening r) = agrees-opening n b k r
-agrees n b k (adding x) = agrees-adding n b k x
-agrees n b k takingBack = agrees-taking n b k
-agrees n b k asking = agrees-asking n b k
+  pub asked-says : {A : Ty} → Means (b .rule) A → (v : Verdict) → Gives (shown n b .session) (shown n b .trail) (Said v) ↔ Says A (b .row) v
+  asked-says m v =
+      let t = verdict-is (ruleType (b .rule)) (rw (means-type m) at (means-conflict-free m)) (b .row) v in
+      (λ e. rw (means-type m) (t .0 (said (sym asked-shown ∙ sym e))), λ h. ap Said (sym (t .1 (rw (means-type m) at h))) ∙ sym asked-shown)
+    where
+      said : {u v : Verdict} → Said u ≡ Said v → u ≡ v
+      said e = cc
+
+  agreed : {q : Call} {a : Step} {t : Trail} → Does q (shown n b .session) (shown n b .trail) a t → Promised q
+      → Agrees n b q (ofOutcome (a .outcome)) (world (a .session) t)
+  agreed (e, f) h = rw (e, f) h
+
+  pub agrees : {u : World} {q : Call} {a : CallReply} → Plays (shown n b) q a u → Agrees n b q a u
+  agrees (by-open {r} d) = agreed d (agrees-opening r)
+  agrees (by-add {x} d) = agreed d (agrees-adding x)
+  agrees (by-take-back d) = agreed d agrees-taking
+  agrees (by-verdict e) = rw e agrees-asking

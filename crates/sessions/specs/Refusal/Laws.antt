@@ -15,13 +15,13 @@ use Rattle.sessions.specs.declared.session.Outcome.the-variants.{Done, R
 use Rattle.sessions.specs.Book.{Call, opening, adding, takingBack, asking, room}
 use Rattle.sessions.specs.Session.{Trail, intact, _then_, checked, outcome, judgedBy, asked}
 use Rattle.sessions.specs.Refusal.{Intact, Later, CallStands, no-rule, no-model, bad-trail, no-name, no-room, no-children, Tried, Asks}
-use Rattle.fields.specs.Tests.{by-test, untold}
+use Rattle.fields.specs.{Tests.by-test, Tests.untold, Least.NoneStands, Least.Laws.least-once, Least.Laws.exactly}
 
 then-no-more : (o : Outcome) → (o then Done) ≡ o
 then-no-more Done = refl
 then-no-more (Refused f) = refl
 
--- the fault of a number
+-- a fault is known by its number
 numbered : ℕ → JudgeFault
 numbered n =
     cond (eqb n 40) Unreadable (cond (eqb n 41) LongRow (cond (eqb n 42) BadTrail (cond (eqb n 43) UnknownName (cond (eqb n 44) NoRoom NothingToTakeBack))))
@@ -35,16 +35,15 @@ numbered-is UnknownName = refl
 numbered-is NoRoom = refl
 numbered-is NothingToTakeBack = refl
 
+number-injective : (f g : JudgeFault) → judgeNumber f ≡ judgeNumber g → f ≡ g
+number-injective f g e = sym (numbered-is f) ∙ ap numbered e ∙ numbered-is g
+
 module _ (s : Session) (t : Trail) where
   pub tried-once : (q : Call) (o p : Outcome) → Tried s t q o → Tried s t q p → o ≡ p
   tried-once q Done Done h k = refl
   tried-once q Done (Refused g) h k = absurd (h g (k .0))
   tried-once q (Refused f) Done h k = absurd (k f (h .0))
-  tried-once q (Refused f) (Refused g) h k =
-      let i = h .1 g (k .0) in
-      let j = k .1 f (h .0) in
-      let e : judgeNumber f ≡ judgeNumber g = omega arith in
-      ap Refused (sym (numbered-is f) ∙ ap numbered e ∙ numbered-is g)
+  tried-once q (Refused f) (Refused g) h k = ap Refused (least-once judgeNumber number-injective f g h k)
 
   above-model : {q : Call} (g : JudgeFault) → CallStands s t q g → 40 ≤ judgeNumber g
   above-model g (no-rule h) = omega arith
@@ -54,7 +53,7 @@ module _ (s : Session) (t : Trail) where
   above-model g (no-room h) = omega arith
   above-model g (no-children h) = omega arith
 
-  openable : (r : Rule) → Readable r → (g : JudgeFault) → ¬ CallStands s t (opening r) g
+  openable : (r : Rule) → Readable r → NoneStands (CallStands s t (opening r))
   openable r k g (no-rule h) = h k
   openable r k g (no-model l h) = l
   openable r k g (bad-trail l h) = l
@@ -81,7 +80,7 @@ module _ (s : Session) (t : Trail) where
       above-room x n g (no-name h) = absurd (omega arith)
       above-room x n g (no-room h) = omega arith
 
-      addable : (x : ℕ) → x ≤ names (s .rule) → s .children < room (length t) → (g : JudgeFault) → ¬ CallStands s t (adding x) g
+      addable : (x : ℕ) → x ≤ names (s .rule) → s .children < room (length t) → NoneStands (CallStands s t (adding x))
       addable x n m g (no-model l h) = absurd (h r)
       addable x n m g (bad-trail l h) = absurd (h i)
       addable x n m g (no-name h) = absurd (omega arith)
@@ -92,12 +91,12 @@ module _ (s : Session) (t : Trail) where
       above-children g (bad-trail l h) = absurd (h i)
       above-children g (no-children h) = omega arith
 
-      takeable : 0 < s .children → (g : JudgeFault) → ¬ CallStands s t takingBack g
+      takeable : 0 < s .children → NoneStands (CallStands s t takingBack)
       takeable n g (no-model l h) = absurd (h r)
       takeable n g (bad-trail l h) = absurd (h i)
       takeable n g (no-children h) = absurd (omega arith)
 
-      askable : (g : JudgeFault) → ¬ CallStands s t asking g
+      askable : NoneStands (CallStands s t asking)
       askable g (no-model l h) = absurd (h r)
       askable g (bad-trail l h) = absurd (h i)
 
@@ -137,7 +136,7 @@ module _ (s : Session) (t : Trail) where
 
   -- a call is refused exactly as the table says
   pub outcome-is : (q : Call) (o : Outcome) → (outcome q s t ≡ o) ↔ Tried s t q o
-  outcome-is q o = (λ e. rw e at (outcome-answers q), λ h. tried-once q (outcome q s t) o (outcome-answers q) h)
+  outcome-is q = exactly (Tried s t q) (tried-once q) (outcome q s t) (outcome-answers q)
 
 module _ (s : Session) (t : Trail) where
   asks-once : (a b : Judged) → Asks s t a → Asks s t b → a ≡ b
@@ -146,7 +145,7 @@ module _ (s : Session) (t : Trail) where
       ap Verdict (says-once A (take (s .children) t) u v i (rw e at j))
   asks-once (Verdict u) (RefusedRow g) h k = absurd (h .0 g (k .0))
   asks-once (RefusedRow f) (Verdict v) h k = absurd (k .0 f (h .0))
-  asks-once (RefusedRow f) (RefusedRow g) h k = let e = tried-once s t asking (Refused f) (Refused g) h k in cc
+  asks-once (RefusedRow f) (RefusedRow g) h k = ap RefusedRow (least-once judgeNumber number-injective f g h k)
 
   asked-asks : (o : Outcome) → o ≡ outcome asking s t → Asks s t (judgedBy o s t)
   unfolding outcome
@@ -156,6 +155,4 @@ module _ (s : Session) (t : Trail) where
   asked-asks (Refused f) e = rw (sym e) at (outcome-answers s t asking)
 
   pub asked-is : (a : Judged) → (asked s t ≡ a) ↔ Asks s t a
-  asked-is a =
-      let h = asked-asks (outcome asking s t) refl in
-      (λ e. rw e at h, λ k. asks-once (asked s t) a h k)
+  asked-is = exactly (Asks s t) asks-once (asked s t) (asked-asks (outcome asking s t) refl)

@@ -49,7 +49,8 @@ module _ (s : Session) (t : Trail) where
     unfolding checked
     checked-no-model f = rw (← e, f)
 
-    pub checked-by : b ≡ true → (n : ℕ) (d x : Bool) → n ≡ names (s .rule) → d ≡ intact (s .children) n t → d ≡ x → checked s t ≡ check x BadTrail
+    pub checked-by : b ≡ true → (n : ℕ) (d x : Bool) → n ≡ names (s .rule) → d ≡ intact (s .children) n t → d ≡ x
+        → checked s t ≡ check x BadTrail
     unfolding checked
     checked-by f n d x g h i = rw (← e, f, ← g, ← h, i)
 
@@ -105,7 +106,8 @@ module _ (s : Session) (t : Trail) where
     unfolding outcome checked judged row-fits row-named
     asked-judged =
         by-test (readable (s .rule))
-        (λ e. rw (e, i, le-leb (length (take (s .children - 0) t)) maxRow row-fits, row-named) (ap (λ k. Verdict (verdict (ruleType (s .rule)) (take k t))) (sub-zero (s .children))))
+        (λ e. rw (e, i, le-leb (length (take (s .children - 0) t)) maxRow row-fits, row-named)
+        (ap (λ k. Verdict (verdict (ruleType (s .rule)) (take k t))) (sub-zero (s .children))))
         (λ e. rw e)
 
   pub asked-refused : (f : JudgeFault) → checked s t ≡ Refused f → RefusedRow f ≡ asked s t

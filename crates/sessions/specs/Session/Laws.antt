@@ -1,4 +1,4 @@
--- What the tests of a session tell, and that each call does what the book does.
+-- What the tests of a session tell.
 use mathlib.Core.{Path._≡_, Path.refl, Bool.Bool, Bool.true, Bool.false, List.[], List._∷_}
 use Prim.Native.Nat.{ℕ}
 use native.Mathlib.Omega.{arith}
