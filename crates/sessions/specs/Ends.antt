@@ -1,14 +1,18 @@
 -- The ends: what is proved of every session, trail and list of calls. Each proof is a citation.
 use mathlib.Core.{Path._≡_, Logic._↔_, List.List, List.[], List._∷_, List.map}
 use Prim.Native.Nat.{ℕ, suc, _≤_}
-use lib.ListN.{length, replicate}
-use Rattle.model.specs.{declared.rule.Rule.Rule, declared.verdict.Verdict.Verdict, Word.Word, Types.Ty, Verdict.Says, Rule.Means, Rule.names}
-use Rattle.judge.specs.{declared.verdict.Judged.Judged, declared.verdict.Judged.the-variants.Verdict as Said, Row.Upto}
-use Rattle.sessions.specs.{declared.session.Outcome.Outcome, declared.session.Session.Session, Book.Laws.keeps-once, Session.Trail, Session.outcome}
-use Rattle.sessions.specs.{Session.asked, Session.Gives, Refusal.Tried, Refusal.Asks, Refusal.Laws.outcome-is, Refusal.Laws.asked-is}
-use Rattle.sessions.specs.{Calls.World, Calls.Plays, Calls.PlaysAll, Calls.shown, Calls.Theorem.plays-all, Calls.Theorem.agrees-with-book}
-use Rattle.sessions.specs.Calls.Theorem.{judges-row}
+use lib.ListN.{length, replicate, length-map}
+use Rattle.model.specs.{declared.rule.Rule.Rule, declared.verdict.Verdict.Verdict, Word.Word, Types.Ty, Verdict.Says, Rule.Means, Rule.names, Syntax.Syntax}
+use Rattle.model.specs.{Syntax.writtenNames, Syntax.numberIn, Fault.Answers, Fault.accepted, Model.modelOf, Model.typeOf}
+use Rattle.judge.specs.{declared.verdict.Judged.Judged, declared.verdict.Judged.the-variants.Verdict as Said, Row.Upto, Reading.reading, Reading.partsOf}
+use Rattle.judge.specs.{Named.rowOf}
+use Rattle.judge.specs.Named.Laws.{rule-means, row-named, row-written}
+use Rattle.sessions.specs.{declared.session.Outcome.Outcome, declared.session.Session.Session, Book.Laws.keeps-once, Refusal.Tried, Refusal.Asks}
+use Rattle.sessions.specs.{Refusal.Laws.outcome-is, Refusal.Laws.asked-is, Calls.World, Calls.Plays, Calls.PlaysAll, Calls.shown}
+use Rattle.sessions.specs.Session.{Trail, outcome, asked, Gives}
+use Rattle.sessions.specs.Calls.Theorem.{plays-all, agrees-with-book, judges-row}
 use Rattle.sessions.specs.Book.{Call, opening, adding, CallReply, nothing, Book, book, room, Keeps}
+use Rattle.fields.specs.Bytes.{Text}
 
 -- Demand 1, sessions: a call of any session with any trail is refused just as the table says, and asking is else answered by the meaning.
 pub refused-exactly : (s : Session) (t : Trail) (q : Call) (o : Outcome) → (outcome q s t ≡ o) ↔ Tried s t q o
@@ -40,3 +44,15 @@ pub session-judges : {r : Rule} {A : Ty} {u₀ u : World} {rs : List CallReply} 
     → length w ≤ room (length (u₀ .trail)) → PlaysAll u₀ (opening r ∷ map adding w) rs u
     → (rs ≡ replicate (suc (length w)) nothing) × ((v : Verdict) → Gives (u .session) (u .trail) (Said v) ↔ Says A w v)
 session-judges = judges-row
+
+-- From text to verdict, as `text-judged` (judge/Ends) has it for `judge_row`: of every accepted text and every list of children as bytes, a session
+-- that is opened with the text's rule and given the children's numbers by `number_of`, child by child, answers as the meaning of the text's tree says.
+pub text-judged-by-session : {x : Text} {t : Syntax} {w₀ u : World} {rs : List CallReply} → Answers x (accepted t) → (cs : List Text)
+    → length cs ≤ room (length (w₀ .trail)) → PlaysAll w₀ (opening (reading x .rule) ∷ map adding (rowOf (partsOf x (reading x .names)) cs)) rs u
+    → (rs ≡ replicate (suc (length cs)) nothing)
+    × ((v : Verdict) → Gives (u .session) (u .trail) (Said v) ↔ Says (typeOf (modelOf t)) (rowOf (writtenNames t) cs) v)
+text-judged-by-session {x} a cs l ps =
+    let w = rowOf (partsOf x (reading x .names)) cs in
+    let n : length w ≡ length cs = length-map cs (numberIn (partsOf x (reading x .names))) in
+    let (e, s) = judges-row (rule-means a) w (row-named a cs) (rw n l) ps in
+    (rw n at e, λ v. rw (row-written a cs) at (s v))
