@@ -30,7 +30,8 @@ abbrev pub ofJudged : Judged → CallReply
 ofJudged (Verdict v) = says v
 ofJudged (RefusedRow f) = refuses (judgeNumber f)
 
--- One call of a method: the world before it, the call, its reply and the world after it.
+-- One call of a method: the world before it, the call, its reply and the world after it. Opening, adding and taking back each hand back the session as
+-- it then stands; asking hands back no session and writes nothing lent.
 pub data Plays (u : World) : Call → CallReply → World → Type 0 where
   by-open : {r : Rule} {a : Step} {t : Trail}
       → Does (opening r) (u .session) (u .trail) a t → Plays u (opening r) (ofOutcome (a .outcome)) (world (a .session) t)

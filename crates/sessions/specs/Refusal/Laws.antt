@@ -35,17 +35,21 @@ numbered-is UnknownName = refl
 numbered-is NoRoom = refl
 numbered-is NothingToTakeBack = refl
 
-number-injective : (f g : JudgeFault) → judgeNumber f ≡ judgeNumber g → f ≡ g
-number-injective f g e = sym (numbered-is f) ∙ ap numbered e ∙ numbered-is g
+judge-injective : (f g : JudgeFault) → judgeNumber f ≡ judgeNumber g → f ≡ g
+judge-injective f g e = sym (numbered-is f) ∙ ap numbered e ∙ numbered-is g
 
 module _ (s : Session) (t : Trail) where
   pub tried-once : (q : Call) (o p : Outcome) → Tried s t q o → Tried s t q p → o ≡ p
   tried-once q Done Done h k = refl
   tried-once q Done (Refused g) h k = absurd (h g (k .0))
   tried-once q (Refused f) Done h k = absurd (k f (h .0))
-  tried-once q (Refused f) (Refused g) h k = ap Refused (least-once judgeNumber number-injective f g h k)
+  tried-once q (Refused f) (Refused g) h k = ap Refused (least-once judgeNumber judge-injective f g h k)
 
-  above-model : {q : Call} (g : JudgeFault) → CallStands s t q g → 40 ≤ judgeNumber g
+  -- test by test, what still stands has a number from n on
+  abbrev Above : Call → ℕ → Type 0
+  Above q n = (g : JudgeFault) → CallStands s t q g → n ≤ judgeNumber g
+
+  above-model : {q : Call} → Above q 40
   above-model g (no-rule h) = omega arith
   above-model g (no-model l h) = omega arith
   above-model g (bad-trail l h) = omega arith
@@ -59,7 +63,7 @@ module _ (s : Session) (t : Trail) where
   openable r k g (bad-trail l h) = l
 
   module _ (r : Readable (s .rule)) where
-    above-trail : {q : Call} → Later q → (g : JudgeFault) → CallStands s t q g → 42 ≤ judgeNumber g
+    above-trail : {q : Call} → Later q → Above q 42
     above-trail l g (no-rule h) = absurd l
     above-trail l g (no-model m h) = absurd (h r)
     above-trail l g (bad-trail m h) = omega arith
@@ -68,13 +72,13 @@ module _ (s : Session) (t : Trail) where
     above-trail l g (no-children h) = omega arith
 
     module _ (i : Intact (s .children) (names (s .rule)) t) where
-      above-name : (x : ℕ) (g : JudgeFault) → CallStands s t (adding x) g → 43 ≤ judgeNumber g
+      above-name : (x : ℕ) → Above (adding x) 43
       above-name x g (no-model l h) = absurd (h r)
       above-name x g (bad-trail l h) = absurd (h i)
       above-name x g (no-name h) = omega arith
       above-name x g (no-room h) = omega arith
 
-      above-room : (x : ℕ) → x ≤ names (s .rule) → (g : JudgeFault) → CallStands s t (adding x) g → 44 ≤ judgeNumber g
+      above-room : (x : ℕ) → x ≤ names (s .rule) → Above (adding x) 44
       above-room x n g (no-model l h) = absurd (h r)
       above-room x n g (bad-trail l h) = absurd (h i)
       above-room x n g (no-name h) = absurd (omega arith)
@@ -86,7 +90,7 @@ module _ (s : Session) (t : Trail) where
       addable x n m g (no-name h) = absurd (omega arith)
       addable x n m g (no-room h) = absurd (omega arith)
 
-      above-children : (g : JudgeFault) → CallStands s t takingBack g → 45 ≤ judgeNumber g
+      above-children : Above takingBack 45
       above-children g (no-model l h) = absurd (h r)
       above-children g (bad-trail l h) = absurd (h i)
       above-children g (no-children h) = omega arith
@@ -145,7 +149,7 @@ module _ (s : Session) (t : Trail) where
       ap Verdict (says-once A (take (s .children) t) u v i (rw e at j))
   asks-once (Verdict u) (RefusedRow g) h k = absurd (h .0 g (k .0))
   asks-once (RefusedRow f) (Verdict v) h k = absurd (k .0 f (h .0))
-  asks-once (RefusedRow f) (RefusedRow g) h k = ap RefusedRow (least-once judgeNumber number-injective f g h k)
+  asks-once (RefusedRow f) (RefusedRow g) h k = ap RefusedRow (least-once judgeNumber judge-injective f g h k)
 
   asked-asks : (o : Outcome) → o ≡ outcome asking s t → Asks s t (judgedBy o s t)
   unfolding outcome
