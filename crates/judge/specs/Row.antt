@@ -37,7 +37,7 @@ pub data Judges (r : Rule) (w : Word) : Judged → Type 0 where
   long-row : Readable r → maxRow < length w → Judges r w (Refused LongRow)
   -- 43
   unknown-name : Readable r → length w ≤ maxRow → ¬ Upto (names r) w → Judges r w (Refused UnknownName)
-  judges : {A : Ty} {v : Verdict} → Means r A → length w ≤ maxRow → Upto (names r) w → Says A w v → Judges r w (Said v)
+  by-meaning : {A : Ty} {v : Verdict} → Means r A → length w ≤ maxRow → Upto (names r) w → Says A w v → Judges r w (Said v)
 
 -- the same as a function
 abbrev pub upto : ℕ → Word → Bool

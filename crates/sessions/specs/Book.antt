@@ -33,17 +33,17 @@ room n = min n maxRow
 -- One call: the book before it, the call, the book's reply and the book after it. n is the trail's length.
 pub data Enters (n : ℕ) : Book → Call → CallReply → Book → Type 0 where
   -- Opening: if no model text reads into the given rule, 40, and nothing changes. Else that rule is kept and the row is empty.
-  no-model : {b : Book} {r : Rule} → ¬ Readable r → Enters n b (opening r) (refuses 40) b
+  not-opened : {b : Book} {r : Rule} → ¬ Readable r → Enters n b (opening r) (refuses 40) b
   opens : {b : Book} {r : Rule} → Readable r → Enters n b (opening r) nothing (book r [])
   -- Adding: a number above the kept rule's names is 43; else, if the row is as long as the room, 44. Else the number joins the row's end.
-  no-name : {r : Rule} {w : Word} {x : ℕ} → names r < x → Enters n (book r w) (adding x) (refuses 43) (book r w)
-  no-room : {r : Rule} {w : Word} {x : ℕ} → x ≤ names r → length w ≡ room n → Enters n (book r w) (adding x) (refuses 44) (book r w)
+  not-named : {r : Rule} {w : Word} {x : ℕ} → names r < x → Enters n (book r w) (adding x) (refuses 43) (book r w)
+  no-space : {r : Rule} {w : Word} {x : ℕ} → x ≤ names r → length w ≡ room n → Enters n (book r w) (adding x) (refuses 44) (book r w)
   adds : {r : Rule} {w : Word} {x : ℕ} → x ≤ names r → ¬ length w ≡ room n → Enters n (book r w) (adding x) nothing (book r (w ++ (x ∷ [])))
   -- Taking back: from an empty row 45. Else the last number goes.
-  no-children : {r : Rule} → Enters n (book r []) takingBack (refuses 45) (book r [])
+  none-to-take : {r : Rule} → Enters n (book r []) takingBack (refuses 45) (book r [])
   takes : {r : Rule} {w : Word} (x : ℕ) → Enters n (book r (w ++ (x ∷ []))) takingBack nothing (book r w)
   -- Asking is never refused. It gives the verdict on the row by any model text that reads into the kept rule.
-  judges : {r : Rule} {w : Word} {A : Ty} {v : Verdict} → Means r A → Says A w v → Enters n (book r w) asking (says v) (book r w)
+  asks : {r : Rule} {w : Word} {A : Ty} {v : Verdict} → Means r A → Says A w v → Enters n (book r w) asking (says v) (book r w)
 
 -- A list of calls, with the book's reply to each (`Ends.book-once`: there are no other replies, and no other book at the end).
 pub data Keeps (n : ℕ) : Book → List Call → List CallReply → Book → Type 0 where

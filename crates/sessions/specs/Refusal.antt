@@ -31,11 +31,11 @@ Later asking = Unit {0}
 -- a refusal that the call tries, and when it stands
 pub data CallStands (s : Session) (t : Trail) : Call → JudgeFault → Type 0 where
   no-rule : {r : Rule} → ¬ Readable r → CallStands s t (opening r) Unreadable
-  no-model : {q : Call} → Later q → ¬ Readable (s .rule) → CallStands s t q Unreadable
+  bad-rule : {q : Call} → Later q → ¬ Readable (s .rule) → CallStands s t q Unreadable
   bad-trail : {q : Call} → Later q → ¬ Intact (s .children) (names (s .rule)) t → CallStands s t q BadTrail
-  no-name : {x : ℕ} → names (s .rule) < x → CallStands s t (adding x) UnknownName
-  no-room : {x : ℕ} → room (length t) ≤ s .children → CallStands s t (adding x) NoRoom
-  no-children : s .children ≡ 0 → CallStands s t takingBack NothingToTakeBack
+  high-number : {x : ℕ} → names (s .rule) < x → CallStands s t (adding x) UnknownName
+  full-room : {x : ℕ} → room (length t) ≤ s .children → CallStands s t (adding x) NoRoom
+  none-added : s .children ≡ 0 → CallStands s t takingBack NothingToTakeBack
 
 -- what a call is answered: the refusal of the smallest number that stands, if one does
 abbrev pub Tried : Session → Trail → Call → Outcome → Type 0

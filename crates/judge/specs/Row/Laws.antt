@@ -7,7 +7,7 @@ use Rattle.model.specs.{declared.rule.Rule.Rule, Word.Word, Verdict.Laws.verdic
 use Rattle.model.specs.{Check.readable, declared.verdict.Verdict.Verdict, Types.Ty, Verdict.Says, Rule.Laws.means-once}
 use Rattle.model.specs.Check.Exact.{readable-is, type-means, means-type, means-conflict-free}
 use Rattle.judge.specs.{declared.verdict.Judged.Judged, declared.verdict.Judged.the-variants.Verdict as Said}
-use Rattle.judge.specs.Row.{Upto, Judges, judged, upto, unreadable, long-row, unknown-name, judges}
+use Rattle.judge.specs.Row.{Upto, Judges, judged, upto, unreadable, long-row, unknown-name, by-meaning}
 use Rattle.fields.specs.Tests.{by-test, Tells, untold, fails, tells-le, tells-and}
 use Rattle.fields.specs.Limits.{maxRow}
 
@@ -24,7 +24,7 @@ judged-judges r w =
     (λ b. let j = tells-le (length w) maxRow .0 b in
     by-test (upto (names r) w)
     (λ c. let m = type-means i in
-    rw (a, b, c) (judges m j (upto-tells (names r) w .0 c) (verdict-says (ruleType r) (means-conflict-free m) w)))
+    rw (a, b, c) (by-meaning m j (upto-tells (names r) w .0 c) (verdict-says (ruleType r) (means-conflict-free m) w)))
     (λ c. rw (a, b, c) (unknown-name i j (untold (upto (names r) w) (upto-tells (names r) w) c))))
     (λ b. let n = untold (leb (length w) maxRow) (tells-le (length w) maxRow) b in rw (a, b) (long-row i (omega arith))))
     (λ a. rw a (unreadable (untold (readable r) (readable-is r) a)))
@@ -37,7 +37,7 @@ judged-is r w (long-row i h) =
     rw (readable-is r .1 i, fails (leb (length w) maxRow) (tells-le (length w) maxRow) (λ l. omega arith))
 judged-is r w (unknown-name i l h) =
     rw (readable-is r .1 i, tells-le (length w) maxRow .1 l, fails (upto (names r) w) (upto-tells (names r) w) h)
-judged-is r w (judges {A} {v} m l u s) =
+judged-is r w (by-meaning {A} {v} m l u s) =
     rw (readable-is r .1 (m .text, m .reads), tells-le (length w) maxRow .1 l, upto-tells (names r) w .1 u)
     (ap Said (sym (verdict-is (ruleType r) (rw (means-type m) at (means-conflict-free m)) w v .1 (rw (means-type m) at s))))
 
@@ -46,4 +46,4 @@ pub judged-says : (r : Rule) (w : Word) (v : Verdict) {A : Ty} → Means r A →
 judged-says r w v {A} m e = go (rw e at (judged-judges r w))
   where
     go : Judges r w (Said v) → Says A w v
-    go (judges n l u s) = rw (means-once m n) s
+    go (by-meaning n l u s) = rw (means-once m n) s

@@ -4,8 +4,8 @@ use Prim.Native.Nat.{ℕ}
 use native.Mathlib.Omega.{arith}
 use lib.ListN.{length, length-append}
 use Rattle.model.specs.{declared.rule.Rule.Rule, Word.Word, Verdict.Laws.says-once, Rule.names, Rule.Laws.means-once}
-use Rattle.sessions.specs.Book.{Call, takingBack, CallReply, says, nothing, Book, book, Enters, no-model, opens, no-name, no-room, adds, no-children}
-use Rattle.sessions.specs.Book.{takes, judges, Keeps, done, next}
+use Rattle.sessions.specs.Book.{Call, takingBack, CallReply, says, nothing, Book, book, Enters, not-opened, opens, not-named, no-space, adds}
+use Rattle.sessions.specs.Book.{none-to-take, takes, asks, Keeps, done, next}
 
 -- no word that ends in x is empty
 pub ends-not-empty : (w : Word) (x : ℕ) → ¬ w ++ (x ∷ []) ≡ []
@@ -23,26 +23,26 @@ before-last (a ∷ v) (b ∷ w) x y e =
 
 module _ {n : ℕ} where
   enters-same : {b b′ c d : Book} {q : Call} {a a′ : CallReply} → b ≡ b′ → Enters n b q a c → Enters n b′ q a′ d → (a ≡ a′) × (c ≡ d)
-  enters-same e (no-model h) (no-model k) = (refl, e)
-  enters-same e (no-model h) (opens k) = absurd (h k)
-  enters-same e (opens h) (no-model k) = absurd (k h)
+  enters-same e (not-opened h) (not-opened k) = (refl, e)
+  enters-same e (not-opened h) (opens k) = absurd (h k)
+  enters-same e (opens h) (not-opened k) = absurd (k h)
   enters-same e (opens h) (opens k) = (refl, refl)
-  enters-same e (no-name h) (no-name k) = (refl, e)
-  enters-same e (no-name h) (no-room k l) = let i = ap (λ (b : Book). names (b .rule)) e in absurd (omega arith)
-  enters-same e (no-name h) (adds k l) = let i = ap (λ (b : Book). names (b .rule)) e in absurd (omega arith)
-  enters-same e (no-room h i) (no-name k) = let j = ap (λ (b : Book). names (b .rule)) e in absurd (omega arith)
-  enters-same e (no-room h i) (no-room k l) = (refl, e)
-  enters-same e (no-room h i) (adds k l) = absurd (l (sym (ap (λ (b : Book). length (b .row)) e) ∙ i))
-  enters-same e (adds h i) (no-name k) = let j = ap (λ (b : Book). names (b .rule)) e in absurd (omega arith)
-  enters-same e (adds h i) (no-room k l) = absurd (i (ap (λ (b : Book). length (b .row)) e ∙ l))
+  enters-same e (not-named h) (not-named k) = (refl, e)
+  enters-same e (not-named h) (no-space k l) = let i = ap (λ (b : Book). names (b .rule)) e in absurd (omega arith)
+  enters-same e (not-named h) (adds k l) = let i = ap (λ (b : Book). names (b .rule)) e in absurd (omega arith)
+  enters-same e (no-space h i) (not-named k) = let j = ap (λ (b : Book). names (b .rule)) e in absurd (omega arith)
+  enters-same e (no-space h i) (no-space k l) = (refl, e)
+  enters-same e (no-space h i) (adds k l) = absurd (l (sym (ap (λ (b : Book). length (b .row)) e) ∙ i))
+  enters-same e (adds h i) (not-named k) = let j = ap (λ (b : Book). names (b .rule)) e in absurd (omega arith)
+  enters-same e (adds h i) (no-space k l) = absurd (i (ap (λ (b : Book). length (b .row)) e ∙ l))
   enters-same e (adds {x = x} h i) (adds k l) = (refl, ap (λ (b : Book). book (b .rule) (b .row ++ (x ∷ []))) e)
-  enters-same e no-children no-children = (refl, e)
-  enters-same e no-children (takes {w = w} x) = absurd (ends-not-empty w x (sym (ap (λ (b : Book). b .row) e)))
-  enters-same e (takes {w = w} x) no-children = absurd (ends-not-empty w x (ap (λ (b : Book). b .row) e))
+  enters-same e none-to-take none-to-take = (refl, e)
+  enters-same e none-to-take (takes {w = w} x) = absurd (ends-not-empty w x (sym (ap (λ (b : Book). b .row) e)))
+  enters-same e (takes {w = w} x) none-to-take = absurd (ends-not-empty w x (ap (λ (b : Book). b .row) e))
   enters-same e (takes {w = v} x) (takes {w = w} y) =
       let i = before-last v w x y (ap (λ (b : Book). b .row) e) in
       let j = ap (λ (b : Book). b .rule) e in (refl, cc)
-  enters-same e (judges {w = w} {A = A} {v = u} m h) (judges {v = v} m′ k) =
+  enters-same e (asks {w = w} {A = A} {v = u} m h) (asks {v = v} m′ k) =
       let a = means-once m (rw (sym (ap (λ (b : Book). b .rule) e)) at m′) in
       (ap says (says-once A w u v h (rw (sym a, sym (ap (λ (b : Book). b .row) e)) at k)), e)
 

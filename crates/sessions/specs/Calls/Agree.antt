@@ -10,10 +10,10 @@ use Rattle.model.specs.{declared.rule.Rule.Rule, declared.verdict.Verdict.Verdi
 use Rattle.model.specs.{Verdict.Laws.verdict-says, Verdict.Laws.verdict-is, Rule.Readable, Rule.Means, Rule.names, Rule.ruleType, Check.readable}
 use Rattle.model.specs.Check.Exact.{readable-is, type-means, means-type, means-conflict-free}
 use Rattle.sessions.specs.{declared.session.Outcome.the-variants.Done, declared.session.Step.Step, Book.Laws.takes-last, Refusal.AllFree}
-use Rattle.sessions.specs.{Session.Laws.intact-tells, Calls.World, Calls.world, Calls.ofOutcome, Calls.ofJudged, Calls.Plays, Calls.by-open, Calls.by-add}
-use Rattle.sessions.specs.{Calls.by-take-back, Calls.by-verdict, Calls.shown}
-use Rattle.sessions.specs.Book.{Call, opening, adding, takingBack, asking, CallReply, nothing, refuses, Book, book, room, Enters, no-model, opens}
-use Rattle.sessions.specs.Book.{no-name, no-room, adds, no-children, judges}
+use Rattle.sessions.specs.{Session.Laws.intact-tells}
+use Rattle.sessions.specs.Calls.{World, world, ofOutcome, ofJudged, Plays, by-open, by-add, by-take-back, by-verdict, shown}
+use Rattle.sessions.specs.Book.{Call, opening, adding, takingBack, asking, CallReply, nothing, refuses, Book, book, room, Enters, not-opened, opens}
+use Rattle.sessions.specs.Book.{not-named, no-space, adds, none-to-take, asks}
 use Rattle.sessions.specs.Session.{Trail, free, intact, checked, outcome, callStep, trailAfter, asked, Does, Gives}
 use Rattle.fields.specs.Tests.{by-test, untold}
 
@@ -124,7 +124,7 @@ module _ (n : ℕ) (b : Book) (k : Matches n b) where
   agrees-opening r = by-test (readable r)
       (λ e. let h = readable-is r .0 e in
       (book r [], rw e (opens h), opened (shown n b) r e ∙ ap (λ (m : ℕ). shown m (book r [])) length-shown, kept-fresh n r h))
-      (λ e. rw e (b, no-model (untold (readable r) (readable-is r) e), refl, k))
+      (λ e. rw e (b, not-opened (untold (readable r) (readable-is r) e), refl, k))
 
   agrees-adding : (x : ℕ) → Promised (adding x)
   unfolding outcome
@@ -143,8 +143,8 @@ module _ (n : ℕ) (b : Book) (k : Matches n b) where
         record { known = k .known; named = upto-append _ (b .row) (x ∷ []) .1 (k .named, (h, tt)); fits = omega arith },
       ))
       (λ l. let g : room n ≤ length (b .row) = ltb-false _ _ l in
-      let i : length (b .row) ≡ room n = omega arith in rw (checked-shown, e, length-shown, l) (b, no-room h i, refl, k)))
-      (λ e. let h : names (b .rule) < x = leb-false _ _ e in rw (checked-shown, e) (b, no-name h, refl, k))
+      let i : length (b .row) ≡ room n = omega arith in rw (checked-shown, e, length-shown, l) (b, no-space h i, refl, k)))
+      (λ e. let h : names (b .rule) < x = leb-false _ _ e in rw (checked-shown, e) (b, not-named h, refl, k))
 
   agrees-taking : Promised takingBack
   unfolding outcome
@@ -160,7 +160,7 @@ module _ (n : ℕ) (b : Book) (k : Matches n b) where
         cc,
         record { known = k .known; named = upto-append _ w (x ∷ []) .0 (rw i at (k .named)) .0; fits = omega arith },
       ))
-      (λ e. let h : length (b .row) ≤ 0 = ltb-false _ _ e in rw (checked-shown, e) (b, rw (empty (b .row) h) no-children, refl, k))
+      (λ e. let h : length (b .row) ≤ 0 = ltb-false _ _ e in rw (checked-shown, e) (b, rw (empty (b .row) h) none-to-take, refl, k))
 
   -- what asking promises
   asked-shown : asked (shown n b .session) (shown n b .trail) ≡ Said (verdict (ruleType (b .rule)) (b .row))
@@ -170,7 +170,7 @@ module _ (n : ℕ) (b : Book) (k : Matches n b) where
   agrees-asking : Agrees n b asking (ofJudged (asked (shown n b .session) (shown n b .trail))) (shown n b)
   agrees-asking =
       let m = type-means (k .known) in
-      rw asked-shown (b, judges m (verdict-says (ruleType (b .rule)) (means-conflict-free m) (b .row)), refl, k)
+      rw asked-shown (b, asks m (verdict-says (ruleType (b .rule)) (means-conflict-free m) (b .row)), refl, k)
 
   pub asked-says : {A : Ty} → Means (b .rule) A → (v : Verdict) → Gives (shown n b .session) (shown n b .trail) (Said v) ↔ Says A (b .row) v
   asked-says m v =

@@ -14,7 +14,7 @@ use Rattle.sessions.specs.{declared.session.Outcome.Outcome, declared.se
 use Rattle.sessions.specs.declared.session.Outcome.the-variants.{Done, Refused}
 use Rattle.sessions.specs.Book.{Call, opening, adding, takingBack, asking, room}
 use Rattle.sessions.specs.Session.{Trail, intact, _then_, checked, outcome, judgedBy, asked}
-use Rattle.sessions.specs.Refusal.{Intact, Later, CallStands, no-rule, no-model, bad-trail, no-name, no-room, no-children, Tried, Asks}
+use Rattle.sessions.specs.Refusal.{Intact, Later, CallStands, no-rule, bad-rule, bad-trail, high-number, full-room, none-added, Tried, Asks}
 use Rattle.fields.specs.{Tests.by-test, Tests.untold, Least.NoneStands, Least.Laws.least-once, Least.Laws.exactly}
 
 then-no-more : (o : Outcome) → (o then Done) ≡ o
@@ -51,57 +51,57 @@ module _ (s : Session) (t : Trail) where
 
   above-model : {q : Call} → Above q 40
   above-model g (no-rule h) = omega arith
-  above-model g (no-model l h) = omega arith
+  above-model g (bad-rule l h) = omega arith
   above-model g (bad-trail l h) = omega arith
-  above-model g (no-name h) = omega arith
-  above-model g (no-room h) = omega arith
-  above-model g (no-children h) = omega arith
+  above-model g (high-number h) = omega arith
+  above-model g (full-room h) = omega arith
+  above-model g (none-added h) = omega arith
 
   openable : (r : Rule) → Readable r → NoneStands (CallStands s t (opening r))
   openable r k g (no-rule h) = h k
-  openable r k g (no-model l h) = l
+  openable r k g (bad-rule l h) = l
   openable r k g (bad-trail l h) = l
 
   module _ (r : Readable (s .rule)) where
     above-trail : {q : Call} → Later q → Above q 42
     above-trail l g (no-rule h) = absurd l
-    above-trail l g (no-model m h) = absurd (h r)
+    above-trail l g (bad-rule m h) = absurd (h r)
     above-trail l g (bad-trail m h) = omega arith
-    above-trail l g (no-name h) = omega arith
-    above-trail l g (no-room h) = omega arith
-    above-trail l g (no-children h) = omega arith
+    above-trail l g (high-number h) = omega arith
+    above-trail l g (full-room h) = omega arith
+    above-trail l g (none-added h) = omega arith
 
     module _ (i : Intact (s .children) (names (s .rule)) t) where
       above-name : (x : ℕ) → Above (adding x) 43
-      above-name x g (no-model l h) = absurd (h r)
+      above-name x g (bad-rule l h) = absurd (h r)
       above-name x g (bad-trail l h) = absurd (h i)
-      above-name x g (no-name h) = omega arith
-      above-name x g (no-room h) = omega arith
+      above-name x g (high-number h) = omega arith
+      above-name x g (full-room h) = omega arith
 
       above-room : (x : ℕ) → x ≤ names (s .rule) → Above (adding x) 44
-      above-room x n g (no-model l h) = absurd (h r)
+      above-room x n g (bad-rule l h) = absurd (h r)
       above-room x n g (bad-trail l h) = absurd (h i)
-      above-room x n g (no-name h) = absurd (omega arith)
-      above-room x n g (no-room h) = omega arith
+      above-room x n g (high-number h) = absurd (omega arith)
+      above-room x n g (full-room h) = omega arith
 
       addable : (x : ℕ) → x ≤ names (s .rule) → s .children < room (length t) → NoneStands (CallStands s t (adding x))
-      addable x n m g (no-model l h) = absurd (h r)
+      addable x n m g (bad-rule l h) = absurd (h r)
       addable x n m g (bad-trail l h) = absurd (h i)
-      addable x n m g (no-name h) = absurd (omega arith)
-      addable x n m g (no-room h) = absurd (omega arith)
+      addable x n m g (high-number h) = absurd (omega arith)
+      addable x n m g (full-room h) = absurd (omega arith)
 
       above-children : Above takingBack 45
-      above-children g (no-model l h) = absurd (h r)
+      above-children g (bad-rule l h) = absurd (h r)
       above-children g (bad-trail l h) = absurd (h i)
-      above-children g (no-children h) = omega arith
+      above-children g (none-added h) = omega arith
 
       takeable : 0 < s .children → NoneStands (CallStands s t takingBack)
-      takeable n g (no-model l h) = absurd (h r)
+      takeable n g (bad-rule l h) = absurd (h r)
       takeable n g (bad-trail l h) = absurd (h i)
-      takeable n g (no-children h) = absurd (omega arith)
+      takeable n g (none-added h) = absurd (omega arith)
 
       askable : NoneStands (CallStands s t asking)
-      askable g (no-model l h) = absurd (h r)
+      askable g (bad-rule l h) = absurd (h r)
       askable g (bad-trail l h) = absurd (h i)
 
   opening-answers : (r : Rule) → Tried s t (opening r) (outcome (opening r) s t)
@@ -120,7 +120,7 @@ module _ (s : Session) (t : Trail) where
       by-test (intact (s .children) (names (s .rule)) t)
       (λ f. rw (e, f) (k r (intact-tells (s .children) (names (s .rule)) t .0 f)))
       (λ f. rw (e, f) (bad-trail l (untold _ (intact-tells (s .children) (names (s .rule)) t) f), above-trail r l)))
-      (λ e. rw e (no-model l (untold _ (readable-is (s .rule)) e), above-model))
+      (λ e. rw e (bad-rule l (untold _ (readable-is (s .rule)) e), above-model))
 
   pub outcome-answers : (q : Call) → Tried s t q (outcome q s t)
   unfolding outcome
@@ -130,12 +130,12 @@ module _ (s : Session) (t : Trail) where
       (λ e. let n = leb-true x (names (s .rule)) e in
       by-test (ltb (s .children) (room (length t)))
       (λ f. rw (e, f) (addable r i x n (ltb-true _ _ f)))
-      (λ f. rw (e, f) (no-room (ltb-false _ _ f), above-room r i x n)))
-      (λ e. rw e (no-name (leb-false _ _ e), above-name r i x)))
+      (λ f. rw (e, f) (full-room (ltb-false _ _ f), above-room r i x n)))
+      (λ e. rw e (high-number (leb-false _ _ e), above-name r i x)))
   outcome-answers takingBack = checked-answers takingBack tt _ (λ r i.
       by-test (ltb 0 (s .children))
       (λ e. rw e (takeable r i (ltb-true _ _ e)))
-      (λ e. let h : s .children ≤ 0 = ltb-false _ _ e in rw e (no-children (omega arith), above-children r i)))
+      (λ e. let h : s .children ≤ 0 = ltb-false _ _ e in rw e (none-added (omega arith), above-children r i)))
   outcome-answers asking = rw (then-no-more (checked s t)) at (checked-answers asking tt Done (λ r i. askable r i))
 
   -- a call is refused exactly as the table says
