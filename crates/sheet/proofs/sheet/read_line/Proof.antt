@@ -22,7 +22,7 @@ first-fields-requires : tie.Need-first-fields-requires
 first-fields-requires c κs = search needs
 
 check-line-requires : tie.Need-check-line-requires
-check-line-requires c κs = c .first-fields .ensures
+check-line-requires c κs = c .first-fields .ensures .0
 
 enum-told : tie.Need-enum-told
 enum-told c = search needs
@@ -44,28 +44,28 @@ add-read-model c =
     let k = c .before .before in
     let f = k .before in
     let a = f .before .before .before in
-    omega (arith, heads-fit (a .args .text .now) (a .args .kinds) (a .args .at) (a .args .end) (a .pre) (f .first-fields .result) (f .first-fields .ensures) (sym (k .check-line .ensures) ∙ c .enum-told .given .1))
+    omega (arith, heads-fit (a .args .text .now) (a .args .kinds) (a .args .at) (a .args .end) (a .pre) (f .first-fields .result) (f .first-fields .ensures .0) (sym (k .check-line .ensures) ∙ c .enum-told .given .1))
 
 sub-read-model : tie.Need-sub-read-model
 sub-read-model c =
     let k = c .before .before in
     let f = k .before in
     let a = f .before .before .before in
-    omega (arith, heads-fit (a .args .text .now) (a .args .kinds) (a .args .at) (a .args .end) (a .pre) (f .first-fields .result) (f .first-fields .ensures) (sym (k .check-line .ensures) ∙ c .enum-told .given .1))
+    omega (arith, heads-fit (a .args .text .now) (a .args .kinds) (a .args .at) (a .args .end) (a .pre) (f .first-fields .result) (f .first-fields .ensures .0) (sym (k .check-line .ensures) ∙ c .enum-told .given .1))
 
 part-read-model-start : tie.Need-part-read-model-start
 part-read-model-start c =
     let k = c .before .before in
     let f = k .before in
     let a = f .before .before .before in
-    omega (arith, heads-fit (a .args .text .now) (a .args .kinds) (a .args .at) (a .args .end) (a .pre) (f .first-fields .result) (f .first-fields .ensures) (sym (k .check-line .ensures) ∙ c .enum-told .given .1))
+    omega (arith, heads-fit (a .args .text .now) (a .args .kinds) (a .args .at) (a .args .end) (a .pre) (f .first-fields .result) (f .first-fields .ensures .0) (sym (k .check-line .ensures) ∙ c .enum-told .given .1))
 
 part-read-model-end : tie.Need-part-read-model-end
 part-read-model-end c =
     let k = c .before .before in
     let f = k .before in
     let a = f .before .before .before in
-    omega (arith, heads-fit (a .args .text .now) (a .args .kinds) (a .args .at) (a .args .end) (a .pre) (f .first-fields .result) (f .first-fields .ensures) (sym (k .check-line .ensures) ∙ c .enum-told .given .1))
+    omega (arith, heads-fit (a .args .text .now) (a .args .kinds) (a .args .at) (a .args .end) (a .pre) (f .first-fields .result) (f .first-fields .ensures .0) (sym (k .check-line .ensures) ∙ c .enum-told .given .1))
 
 read-model-requires : tie.Need-read-model-requires
 read-model-requires c κs = search needs
@@ -86,35 +86,35 @@ returns-2 c =
     let at-check-line = c .before .before .before .before .before .before .before .before .check-line in
     let at-enum-told = c .before .before .before .before .before .before .enum-told in
     let at-first-fields = c .before .before .before .before .before .before .before .before .before .first-fields in
-    is-bad (at-args .text .now) (at-args .kinds) (at-args .at) (at-args .end) _ (Model (at-outcome .given .0 .0)) (c .bad-line2 .ensures) (line-model (partsOf (at-args .text .now) (at-args .kinds)) (part (at-args .text .now) (at-args .at) (at-args .end)) (sym (at-check-line .ensures) ∙ at-enum-told .given .1) (at-outcome .given .0 .0) (at-outcome .given .0 .1 .0) (ap (λ m. reading m .outcome) (third-model (partsOf (at-args .text .now) (at-args .kinds)) (part (at-args .text .now) (at-args .at) (at-args .end)) (at-first-fields .result) (at-first-fields .ensures) (sym (at-check-line .ensures) ∙ at-enum-told .given .1)) ∙ sym (ap (λ r. r .outcome) (c .before .before .before .before .read-model .ensures)) ∙ at-outcome .given .1))
+    is-bad (at-args .text .now) (at-args .kinds) (at-args .at) (at-args .end) _ (Model (at-outcome .given .0 .0)) (c .bad-line2 .ensures) (line-model (partsOf (at-args .text .now) (at-args .kinds)) (part (at-args .text .now) (at-args .at) (at-args .end)) (sym (at-check-line .ensures) ∙ at-enum-told .given .1) (at-outcome .given .0 .0) (at-outcome .given .0 .1 .0) (ap (λ m. reading m .outcome) (third-model (partsOf (at-args .text .now) (at-args .kinds)) (part (at-args .text .now) (at-args .at) (at-args .end)) (at-first-fields .result) (at-first-fields .ensures .0) (sym (at-check-line .ensures) ∙ at-enum-told .given .1)) ∙ sym (ap (λ r. r .outcome) (c .before .before .before .before .read-model .ensures)) ∙ at-outcome .given .1))
 
 add-place-in : tie.Need-add-place-in
 add-place-in c =
     let k = c .before .before .before .before .before .before .before .before in
     let f = k .before in
     let a = f .before .before .before in
-    omega (arith, heads-fit (a .args .text .now) (a .args .kinds) (a .args .at) (a .args .end) (a .pre) (f .first-fields .result) (f .first-fields .ensures) (sym (k .check-line .ensures) ∙ c .before .before .before .before .before .before .enum-told .given .1))
+    omega (arith, heads-fit (a .args .text .now) (a .args .kinds) (a .args .at) (a .args .end) (a .pre) (f .first-fields .result) (f .first-fields .ensures .0) (sym (k .check-line .ensures) ∙ c .before .before .before .before .before .before .enum-told .given .1))
 
 place-in-requires : tie.Need-place-in-requires
 place-in-requires c κs =
     let k = c .before .before .before .before .before .before .before .before in
     let f = k .before in
     let a = f .before .before .before in
-    let s = heads-fit (a .args .text .now) (a .args .kinds) (a .args .at) (a .args .end) (a .pre) (f .first-fields .result) (f .first-fields .ensures) (sym (k .check-line .ensures) ∙ c .before .before .before .before .before .before .enum-told .given .1) in (omega (arith, s), omega (arith, s))
+    let s = heads-fit (a .args .text .now) (a .args .kinds) (a .args .at) (a .args .end) (a .pre) (f .first-fields .result) (f .first-fields .ensures .0) (sym (k .check-line .ensures) ∙ c .before .before .before .before .before .before .enum-told .given .1) in (omega (arith, s), omega (arith, s))
 
 add-place-in-2 : tie.Need-add-place-in-2
 add-place-in-2 c =
     let k = c .before .before .before .before .before .before .before .before .before in
     let f = k .before in
     let a = f .before .before .before in
-    omega (arith, heads-fit (a .args .text .now) (a .args .kinds) (a .args .at) (a .args .end) (a .pre) (f .first-fields .result) (f .first-fields .ensures) (sym (k .check-line .ensures) ∙ c .before .before .before .before .before .before .before .enum-told .given .1))
+    omega (arith, heads-fit (a .args .text .now) (a .args .kinds) (a .args .at) (a .args .end) (a .pre) (f .first-fields .result) (f .first-fields .ensures .0) (sym (k .check-line .ensures) ∙ c .before .before .before .before .before .before .before .enum-told .given .1))
 
 place-in-requires-2 : tie.Need-place-in-requires-2
 place-in-requires-2 c κs =
     let k = c .before .before .before .before .before .before .before .before .before in
     let f = k .before in
     let a = f .before .before .before in
-    let s = heads-fit (a .args .text .now) (a .args .kinds) (a .args .at) (a .args .end) (a .pre) (f .first-fields .result) (f .first-fields .ensures) (sym (k .check-line .ensures) ∙ c .before .before .before .before .before .before .before .enum-told .given .1) in (omega (arith, s), omega (arith, s))
+    let s = heads-fit (a .args .text .now) (a .args .kinds) (a .args .at) (a .args .end) (a .pre) (f .first-fields .result) (f .first-fields .ensures .0) (sym (k .check-line .ensures) ∙ c .before .before .before .before .before .before .before .enum-told .given .1) in (omega (arith, s), omega (arith, s))
 
 returns-3 : tie.Need-returns-3
 returns-3 c =
@@ -126,9 +126,9 @@ returns-3 c =
     let at-first-fields = c .before .before .before .before .before .before .before .before .before .before .before .first-fields in
     let at-read-model = c .before .before .before .before .before .before .read-model in
     record {
-      checked-is = sym (line-read (partsOf (at-args .text .now) (at-args .kinds)) (part (at-args .text .now) (at-args .at) (at-args .end)) (sym (at-check-line .ensures) ∙ at-enum-told .given .1) (ap (λ m. reading m .outcome) (third-model (partsOf (at-args .text .now) (at-args .kinds)) (part (at-args .text .now) (at-args .at) (at-args .end)) (at-first-fields .result) (at-first-fields .ensures) (sym (at-check-line .ensures) ∙ at-enum-told .given .1)) ∙ sym (ap (λ r. r .outcome) (at-read-model .ensures)) ∙ c .before .before .before .before .enum-told2 .given .1));
-      kind-is = λ e. kind-at ∙ line-kind (partsOf (at-args .text .now) (at-args .kinds)) (part (at-args .text .now) (at-args .at) (at-args .end)) (at-first-fields .result) (at-first-fields .ensures) (sym (at-check-line .ensures) ∙ at-enum-told .given .1) (at-args .at);
-      entry-is = λ e. rw model-at (line-entry (partsOf (at-args .text .now) (at-args .kinds)) (part (at-args .text .now) (at-args .at) (at-args .end)) (at-first-fields .result) (at-first-fields .ensures) (sym (at-check-line .ensures) ∙ at-enum-told .given .1) (at-args .at) (at-read-model .result) (at-read-model .ensures));
+      checked-is = sym (line-read (partsOf (at-args .text .now) (at-args .kinds)) (part (at-args .text .now) (at-args .at) (at-args .end)) (sym (at-check-line .ensures) ∙ at-enum-told .given .1) (ap (λ m. reading m .outcome) (third-model (partsOf (at-args .text .now) (at-args .kinds)) (part (at-args .text .now) (at-args .at) (at-args .end)) (at-first-fields .result) (at-first-fields .ensures .0) (sym (at-check-line .ensures) ∙ at-enum-told .given .1)) ∙ sym (ap (λ r. r .outcome) (at-read-model .ensures)) ∙ c .before .before .before .before .enum-told2 .given .1));
+      kind-is = λ e. kind-at ∙ line-kind (partsOf (at-args .text .now) (at-args .kinds)) (part (at-args .text .now) (at-args .at) (at-args .end)) (at-first-fields .result) (at-first-fields .ensures .0) (sym (at-check-line .ensures) ∙ at-enum-told .given .1) (at-args .at);
+      entry-is = λ e. rw model-at (line-entry (partsOf (at-args .text .now) (at-args .kinds)) (part (at-args .text .now) (at-args .at) (at-args .end)) (at-first-fields .result) (at-first-fields .ensures .0) (sym (at-check-line .ensures) ∙ at-enum-told .given .1) (at-args .at) (at-read-model .result) (at-read-model .ensures));
     }
 
 pub read-line-spec : {M : Type 1} → statement M
