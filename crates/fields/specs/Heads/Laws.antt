@@ -19,7 +19,8 @@ module _ (l : Text) where
   pub more-none : (e : ℕ) → length l ≤ e → more l tab e ≡ []
   more-none e h = rw (le-ltb e (length l) h)
 
-  pub heads-are : (a b d : ℕ) → a ≡ partEnd l tab 0 → b ≡ fieldBehind l a → d ≡ fieldBehind l b → _≡_ {A = Heads} (record { first = a; second = b; third = d }) (headsOf l)
+  pub heads-are : (a b d : ℕ) → a ≡ partEnd l tab 0 → b ≡ fieldBehind l a → d ≡ fieldBehind l b
+      → _≡_ {A = Heads} (record { first = a; second = b; third = d }) (headsOf l)
   heads-are a b d p q r = rw (r, q, p)
 
 -- what the ends of the first three fields tell of a line that has them
@@ -76,7 +77,10 @@ module _ (l : Text) where
 
   module _ (a b d : ℕ) (p : a ≡ partEnd l tab 0) (q : b ≡ fieldBehind l a) (r : d ≡ fieldBehind l b) (k : b < length l) where
     inside : a < length l
-    inside = by-test (ltb a (length l)) (λ t. ltb-true a (length l) t) (λ t. let c = behind-none a b (ltb-false a (length l) t) q in absurd (omega (arith, ltb-false a (length l) t)))
+    inside =
+        by-test (ltb a (length l))
+        (λ t. ltb-true a (length l) t)
+        (λ t. let n = ltb-false a (length l) t in let c = behind-none a b n q in absurd (omega arith))
 
     three : fields l ≡ part l 0 a ∷ (part l (suc a) b ∷ (part l (suc b) d ∷ more l tab d))
     three = two a b p q inside ∙ ap (λ s. part l 0 a ∷ (part l (suc a) b ∷ s)) (next-part b d k r)
