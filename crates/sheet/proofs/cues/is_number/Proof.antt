@@ -28,9 +28,6 @@ sized c = number-sized (text c) (c .if1 .left)
 returns : tie.Need-returns Inv μ
 returns c = sym (number-refused (c .before .before .args .text .now) (c .if1 .taken))
 
-shared-slice-read-if2 : tie.Need-shared-slice-read-if2 Inv μ
-shared-slice-read-if2 c = omega (arith, sized (c .before))
-
 returns-2 : tie.Need-returns-2 Inv μ
 returns-2 c = sym (number-zero (text (c .before .before)) (c .if2 .taken))
 
@@ -59,7 +56,7 @@ is-number-spec =
     Inv
     μ
     returns
-    shared-slice-read-if2
+    (λ c. omega (arith, sized (c .before)))
     returns-2
     loop-holds
     (λ c. search needs)

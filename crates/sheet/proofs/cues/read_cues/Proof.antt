@@ -44,32 +44,11 @@ loop-holds c =
     let e = sym (c .before .is-ended .ensures) ∙ c .if2 .taken in
     (stand-start x (same-text (behind x) [] .0 e), omega arith, h, cues-begin x h e)
 
-sub-read-line : tie.Need-sub-read-line Inv μ
-sub-read-line c = omega (arith, next c)
-
-part-read-line-start : tie.Need-part-read-line-start Inv μ
-part-read-line-start c = omega (arith, next c)
-
-part-read-line-end : tie.Need-part-read-line-end Inv μ
-part-read-line-end c = omega (arith, next c)
-
-add-t19 : tie.Need-add-t19 Inv μ
-add-t19 c = omega (arith, next (end (c .before .before .before)))
-
 returns-3 : tie.Need-returns-3 Inv μ
 returns-3 c =
     let r = c .before .before .before in
     let l = loop (end r) .loop in
     sym (l .inv .3 ∙ cues-bad (next (end r)) (l .number) (sym (r .read-line .ensures) ∙ c .before .f .given .1))
-
-add-n : tie.Need-add-n Inv μ
-add-n c = omega (arith, next (end (c .before .before .before)))
-
-add-at : tie.Need-add-at Inv μ
-add-at c = omega (arith, next (end (c .before .before .before)))
-
-loop-less : tie.Need-loop-less Inv μ
-loop-less c = omega (arith, next (end (c .before .before .before)))
 
 loop-again : tie.Need-loop-again Inv μ
 loop-again c =
@@ -92,16 +71,16 @@ read-cues-spec =
     returns-2
     loop-holds
     (λ c κs. search needs)
-    sub-read-line
-    part-read-line-start
-    part-read-line-end
+    (λ c. omega (arith, next c))
+    (λ c. omega (arith, next c))
+    (λ c. omega (arith, next c))
     (λ c κs. search needs)
     (λ c. search needs)
     (λ c. search needs)
-    add-t19
+    (λ c. omega (arith, next (end (c .before .before .before))))
     returns-3
-    add-n
-    add-at
-    loop-less
+    (λ c. omega (arith, next (end (c .before .before .before))))
+    (λ c. omega (arith, next (end (c .before .before .before))))
+    (λ c. omega (arith, next (end (c .before .before .before))))
     loop-again
     returns-4)

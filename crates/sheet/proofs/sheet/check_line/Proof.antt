@@ -38,22 +38,10 @@ returns c = let s = c .before .before .before in checked-few (kinds s) (s .args 
 returns-2 : tie.Need-returns-2
 returns-2 c = checked-many (kinds (start (c .before))) (three (c .before)) (c .if2 .left)
 
-part-same-bytes-end : tie.Need-part-same-bytes-end
-part-same-bytes-end c = omega (arith, three (c .before) .ascending)
-
 returns-3 : tie.Need-returns-3
 returns-3 c =
     let t = c .before .before .before .before in
     checked-word (kinds (start (t .before))) (three (t .before)) (t .if2 .taken) (sym (c .before .same-bytes .ensures) ∙ c .if3 .left)
-
-add-kind : tie.Need-add-kind
-add-kind c = omega (arith, three (then1 c) .ascending)
-
-sub-kind : tie.Need-sub-kind
-sub-kind c = omega (arith, three (then1 c) .ascending)
-
-part-kind-start : tie.Need-part-kind-start
-part-kind-start c = omega (arith, three (then1 c) .ascending)
 
 returns-4 : tie.Need-returns-4
 returns-4 c =
@@ -82,13 +70,13 @@ check-line-spec =
     returns-2
     (λ c. search needs)
     (λ c. search needs)
-    part-same-bytes-end
+    (λ c. omega (arith, three (c .before) .ascending))
     (λ c. search needs)
     (λ c κs. search needs)
     returns-3
-    add-kind
-    sub-kind
-    part-kind-start
+    (λ c. omega (arith, three (then1 c) .ascending))
+    (λ c. omega (arith, three (then1 c) .ascending))
+    (λ c. omega (arith, three (then1 c) .ascending))
     (λ c. search needs)
     (λ c κs. search needs)
     returns-4

@@ -30,25 +30,10 @@ fits : (c : tie.After-enum-told)
     (h .first + 1 ≤ h .second) × (h .second + 1 ≤ h .third) × (h .third ≤ length (part (a .text .now) (a .at) (a .end))) × (a .at + h .third ≤ maxFile))
 fits c = let s = start (ends c) in heads-fit (s .args .text .now) (s .args .kinds) (s .pre) (ends c .first-fields .ensures .0) (good c)
 
-check-line-requires : tie.Need-check-line-requires
-check-line-requires c κs = c .first-fields .ensures .0
-
 returns : tie.Need-returns
 returns c =
     let m = c .before .before .before in
     check-refused (c .bad-line .ensures) (sym (m .before .check-line .ensures) ∙ c .before .before .f .given .1)
-
-add-read-model : tie.Need-add-read-model
-add-read-model c = omega (arith, fits c)
-
-sub-read-model : tie.Need-sub-read-model
-sub-read-model c = omega (arith, fits c)
-
-part-read-model-start : tie.Need-part-read-model-start
-part-read-model-start c = omega (arith, fits c)
-
-part-read-model-end : tie.Need-part-read-model-end
-part-read-model-end c = omega (arith, fits c)
 
 returns-2 : tie.Need-returns-2
 returns-2 c =
@@ -57,14 +42,8 @@ returns-2 c =
     let k = m .before .before in
     model-refused (ends k .first-fields .ensures .0) (good k) (m .read-model .ensures) (o .outcome .given .1) (c .bad-line2 .ensures)
 
-add-place-in : tie.Need-add-place-in
-add-place-in c = omega (arith, fits (checked c))
-
 place-in-requires : tie.Need-place-in-requires
 place-in-requires c κs = let s = fits (checked c) in (omega arith, omega arith)
-
-add-place-in-2 : tie.Need-add-place-in-2
-add-place-in-2 c = omega (arith, fits (checked (c .before)))
 
 place-in-requires-2 : tie.Need-place-in-requires-2
 place-in-requires-2 c κs = let s = fits (checked (c .before)) in (omega arith, omega arith)
@@ -85,22 +64,22 @@ read-line-spec =
     (λ c. search needs)
     (λ c. search needs)
     (λ c κs. search needs)
-    check-line-requires
+    (λ c κs. c .first-fields .ensures .0)
     (λ c. search needs)
     (λ c. search needs)
     (λ c κs. search needs)
     returns
-    add-read-model
-    sub-read-model
-    part-read-model-start
-    part-read-model-end
+    (λ c. omega (arith, fits c))
+    (λ c. omega (arith, fits c))
+    (λ c. omega (arith, fits c))
+    (λ c. omega (arith, fits c))
     (λ c κs. search needs)
     (λ c. search needs)
     (λ c. search needs)
     (λ c κs. search needs)
     returns-2
-    add-place-in
+    (λ c. omega (arith, fits (checked c)))
     place-in-requires
-    add-place-in-2
+    (λ c. omega (arith, fits (checked (c .before))))
     place-in-requires-2
     returns-3)

@@ -33,9 +33,6 @@ room c = omega (arith, loop c .loop .inv .0 .few, c .before .if1 .left)
 loop-holds : tie.Need-loop-holds Inv μ
 loop-holds c = let p = c .before .before .before .before .pre in (gone-start (c .before .before .no-rules .ensures) (p .1), p .0)
 
-add-refused : tie.Need-add-refused Inv μ
-add-refused c = omega (arith, c .before .before .loop .inv .0 .few)
-
 returns : tie.Need-returns Inv μ
 returns c =
     let i = c .before .before in
@@ -44,9 +41,6 @@ returns c =
 read-line-requires : tie.Need-read-line-requires Inv μ
 read-line-requires c κs = (bounds c .0, bounds c .1, loop c .loop .inv .1)
 
-add-refused-2 : tie.Need-add-refused-2 Inv μ
-add-refused-2 c = omega (arith, room (c .before .before .before .before))
-
 returns-2 : tie.Need-returns-2 Inv μ
 returns-2 c =
     let r = c .before .before .before .before in
@@ -54,27 +48,6 @@ returns-2 c =
     not-loaded (c .refused2 .ensures)
     (gone-bad (loop e .loop .inv .0) (room e) (e .before .before .loop-test .taken) (e .part-end .ensures) (r .read-line .ensures)
     (c .before .before .checked .given .1))
-
-mul-kind : tie.Need-mul-kind Inv μ
-mul-kind c = omega (arith, room (line c .before))
-
-element-set-from-kind : tie.Need-element-set-from-kind Inv μ
-element-set-from-kind c = omega (arith, room (line c .before))
-
-mul-entries : tie.Need-mul-entries Inv μ
-mul-entries c = omega (arith, room (line c .before))
-
-array-set-from-entries : tie.Need-array-set-from-entries Inv μ
-array-set-from-entries c = omega (arith, room (line c .before))
-
-add-n : tie.Need-add-n Inv μ
-add-n c = omega (arith, room (line c .before))
-
-add-at : tie.Need-add-at Inv μ
-add-at c = omega (arith, bounds (line c .before), loop (line c .before) .loop .inv .1)
-
-loop-less : tie.Need-loop-less Inv μ
-loop-less c = omega (arith, bounds (line c .before))
 
 loop-again : tie.Need-loop-again Inv μ
 loop-again c =
@@ -95,22 +68,22 @@ read-lines-spec =
     μ
     (λ c κs. search needs)
     loop-holds
-    add-refused
+    (λ c. omega (arith, c .before .before .loop .inv .0 .few))
     (λ c κs. search needs)
     returns
     (λ c κs. search needs)
     read-line-requires
     (λ c. search needs)
     (λ c. search needs)
-    add-refused-2
+    (λ c. omega (arith, room (c .before .before .before .before)))
     (λ c κs. search needs)
     returns-2
-    mul-kind
-    element-set-from-kind
-    mul-entries
-    array-set-from-entries
-    add-n
-    add-at
-    loop-less
+    (λ c. omega (arith, room (line c .before)))
+    (λ c. omega (arith, room (line c .before)))
+    (λ c. omega (arith, room (line c .before)))
+    (λ c. omega (arith, room (line c .before)))
+    (λ c. omega (arith, room (line c .before)))
+    (λ c. omega (arith, bounds (line c .before), loop (line c .before) .loop .inv .1))
+    (λ c. omega (arith, bounds (line c .before)))
     loop-again
     returns-3)
