@@ -1,11 +1,11 @@
 -- The first three fields of a line, by where each ends.
 use mathlib.Core.{Path._≡_, Path.ap, Path.sym, Path._∙_, Bool.true, Bool.false, List.[], List._∷_}
-use Prim.Native.Nat.{ℕ, suc, _+_, _≤_, _<_}
+use Prim.Native.Nat.{ℕ, suc, _+_, _≤_, _<_, min}
 use native.Mathlib.{Omega.arith, Numerals.add-one}
 use lib.{Dec.ltb, ListN.length, ListN.drop, ListN.getD}
 use borrow.Author.Tests.{ltb-true, ltb-false, lt-ltb, le-ltb}
 use Rattle.fields.specs.{Tests.by-test, Bytes.Text, declared.split.Heads.Heads, Split.Laws.part-at, Split.Laws.end-bounds, Heads.fieldBehind}
-use Rattle.fields.specs.{Heads.headsOf}
+use Rattle.fields.specs.{Heads.headsOf, Heads.Ascending}
 use Rattle.fields.specs.Split.{tab, split, fields, field, part, partEnd, more}
 
 module _ (l : Text) where
@@ -19,7 +19,8 @@ module _ (l : Text) where
   pub more-none : (e : ℕ) → length l ≤ e → more l tab e ≡ []
   more-none e h = rw (le-ltb e (length l) h)
 
-  pub heads-are : (a b d : ℕ) → a ≡ partEnd l tab 0 → b ≡ fieldBehind l a → d ≡ fieldBehind l b → _≡_ {A = Heads} (record { first = a; second = b; third = d }) (headsOf l)
+  pub heads-are : (a b d : ℕ) → a ≡ partEnd l tab 0 → b ≡ fieldBehind l a → d ≡ fieldBehind l b
+      → _≡_ {A = Heads} (record { first = a; second = b; third = d }) (headsOf l)
   heads-are a b d p q r = rw (r, q, p)
 
 -- what the ends of the first three fields tell of a line that has them
@@ -48,6 +49,20 @@ module _ (l : Text) where
       let k = end-bounds l tab (suc a) b h e in
       (omega arith, k .1)
 
+  behind-bounds : (a b : ℕ) → a ≤ length l → b ≡ fieldBehind l a → (min (a + 1) (length l) ≤ b) × (b ≤ length l)
+  behind-bounds a b h q =
+      by-test (ltb a (length l))
+      (λ t. let k = behind-after a b (ltb-true a (length l) t) q in (omega arith, k .1))
+      (λ t. let k = behind-none a b (ltb-false a (length l) t) q in (omega (arith, ltb-false a (length l) t), omega arith))
+
+  -- the bounds of what `headsOf` gives
+  pub heads-ascend : (a b d : ℕ) → a ≡ partEnd l tab 0 → b ≡ fieldBehind l a → d ≡ fieldBehind l b
+      → Ascending l (record { first = a; second = b; third = d })
+  heads-ascend a b d p q r =
+      let i = behind-bounds a b (end-bounds l tab 0 a (omega arith) p .1) q in
+      let j = behind-bounds b d (i .1) r in
+      record { second-behind = i .0; third-behind = j .0; third-within = j .1 }
+
   two : (a b : ℕ) → a ≡ partEnd l tab 0 → b ≡ fieldBehind l a → a < length l → fields l ≡ part l 0 a ∷ (part l (suc a) b ∷ more l tab b)
   two a b p q h = first-part a p ∙ ap (λ r. part l 0 a ∷ r) (next-part a b h q)
 
@@ -62,7 +77,10 @@ module _ (l : Text) where
 
   module _ (a b d : ℕ) (p : a ≡ partEnd l tab 0) (q : b ≡ fieldBehind l a) (r : d ≡ fieldBehind l b) (k : b < length l) where
     inside : a < length l
-    inside = by-test (ltb a (length l)) (λ t. ltb-true a (length l) t) (λ t. let c = behind-none a b (ltb-false a (length l) t) q in absurd (omega (arith, ltb-false a (length l) t)))
+    inside =
+        by-test (ltb a (length l))
+        (λ t. ltb-true a (length l) t)
+        (λ t. let n = ltb-false a (length l) t in let c = behind-none a b n q in absurd (omega arith))
 
     three : fields l ≡ part l 0 a ∷ (part l (suc a) b ∷ (part l (suc b) d ∷ more l tab d))
     three = two a b p q inside ∙ ap (λ s. part l 0 a ∷ (part l (suc a) b ∷ s)) (next-part b d k r)

@@ -47,7 +47,9 @@ all-good : (n p m : ℕ) (ls : List Text) → cueLines n p ls ≡ Count m → (i
 all-good n p m [] e i h = absurd (omega arith)
 all-good n p m (l ∷ ls) e i h = go (cueLine p l) (λ q. all-good (suc n) q m ls) refl e i h
   where
-    go : (c : CueLine) → ((q : ℕ) → cueLines (suc n) q ls ≡ Count m → (j : ℕ) → j < length ls → LineGood (getD ls j [])) → cueLine p l ≡ c → byLine c (λ q. cueLines (suc n) q ls) (λ f. Refused f (suc n)) ≡ Count m → (i : ℕ) → i < suc (length ls) → LineGood (getD (l ∷ ls) i [])
+    go : (c : CueLine) → ((q : ℕ) → cueLines (suc n) q ls ≡ Count m → (j : ℕ) → j < length ls → LineGood (getD ls j [])) → cueLine p l ≡ c
+        → byLine c (λ q. cueLines (suc n) q ls) (λ f. Refused f (suc n)) ≡ Count m
+        → (i : ℕ) → i < suc (length ls) → LineGood (getD (l ∷ ls) i [])
     go (Number q) r g k zero o = line-good p q l g
     go (Number q) r g k (suc i) o = r q k i (omega arith)
     go (Bad f) r g k i o = let z : _≡_ {A = ℕ} 0 1 = cc k in absurd (omega arith)
@@ -84,7 +86,8 @@ good-cues c n e =
     record {
       ended = same-text (behind c) [] .0 b;
       short = s;
-      fit = λ i h. let g = all-good 0 0 n (lines c) k i h in record { enough = g .enough; few = g .few; short = omega (arith, but-last (split 10 c) i, part-short 10 c i) };
+      fit = λ i h. let g = all-good 0 0 n (lines c) k i h in
+          record { enough = g .enough; few = g .few; short = omega (arith, but-last (split 10 c) i, part-short 10 c i) };
       named = λ i h. all-good 0 0 n (lines c) k i h .named;
     })
     (λ b. no (rw (a, b) at e)))

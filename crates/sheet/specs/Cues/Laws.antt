@@ -1,12 +1,13 @@
 -- How the numbers and the lines of a cue list are read.
-use mathlib.Core.{Path._≡_, Path.ap, Path.sym, Path._∙_, List.List, List.[], List._∷_}
-use mathlib.Core.Bool.{true, false, _&&_, _||_, and-false, true≢false, false≢true}
+use mathlib.Core.{Path._≡_, Path.ap, Path.sym, Path._∙_, List.[], List._∷_}
+use mathlib.Core.Bool.{true, false, cond, _&&_, _||_, and-false, true≢false, false≢true}
 use Prim.Native.Nat.{ℕ, zero, suc, _+_, _*_, _-_, _≤_, _<_}
 use native.Mathlib.{Omega.arith, Numerals.add-one}
 use lib.{Dec.leb, Dec.ltb, Dec.eqb, ListN.length, ListN.take, ListN.drop, ListN.getD, Seq.take-suc, Seq.drop-cons, Seq.drop-length}
 use borrow.Author.Tests.{eqb-true, eqb-false, eq-eqb, ne-eqb, ltb-true, ltb-false, lt-ltb, le-ltb, le-leb, lt-leb, leb-true}
 use Rattle.fields.specs.{Tests.by-test, Stack.drop-back, Bytes.Laws.value-snoc, Limits.maxRow, Limits.maxFile, declared.fault.CueFault.CueFault}
-use Rattle.fields.specs.{declared.split.Heads.Heads, Split.Laws.split-count, Split.Laws.part-rest, Heads.Laws.Three, Children.allNames}
+use Rattle.fields.specs.{declared.split.Heads.Heads, Split.Laws.split-count, Split.Laws.part-rest, Heads.headsOf, Children.allNames}
+use Rattle.fields.specs.{Split.Laws.Stand, Split.Laws.Next, Split.Laws.stand-stop, Heads.Laws.Three, Heads.Laws.fields-few}
 use Rattle.fields.specs.Bytes.{Text, bytes, isDigit, all, value, sameText}
 use Rattle.fields.specs.declared.fault.CueFault.the-variants.{LongFile, Unended, BadFields, BadNumber, NotAbove, NoName, ManyChildren}
 use Rattle.fields.specs.Split.{tab, split, lines, behind, fields, field, part, times}
@@ -56,10 +57,6 @@ limit-small (suc (suc (suc (suc zero)))) h = omega arith
 limit-small (suc (suc (suc (suc (suc zero))))) h = omega arith
 limit-small (suc (suc (suc (suc (suc (suc i)))))) h = absurd (omega arith)
 
--- what is said of a line, test by test
-pub line-few : (p : ℕ) (l : Text) → ltb (length (fields l)) 3 ≡ true → Bad BadFields ≡ cueLine p l
-line-few p l t = rw t
-
 module _ (l : Text) (h : Heads) where
   abbrev pub numberPart : Text
   numberPart = part l (h .first + 1) (h .second)
@@ -77,41 +74,55 @@ module _ (l : Text) (h : Heads) where
   pub children-count : Three l h → length (children l) ≡ times tab namesPart
   children-count t = omega (arith, ap length (rest-named t), split-count tab namesPart)
 
-module _ (p : ℕ) (l : Text) (h : Heads) (t : Three l h) where
-  pub line-word : sameText (part l 0 (h .first)) (bytes "cue") ≡ false → Bad BadFields ≡ cueLine p l
-  line-word w = rw (t .enough, t .first-is, w)
+-- a line of three fields or more, `cue` and a number first
+pub record NumberedLine (l : Text) (h : Heads) : Type 0 where
+  pub three : Three l h
+  pub word : sameText (part l 0 (h .first)) (bytes "cue") ≡ true
+  pub number : isCueNumber (numberPart l h) ≡ true
 
-  module _ (w : sameText (part l 0 (h .first)) (bytes "cue") ≡ true) where
-    pub line-number : isCueNumber (numberPart l h) ≡ false → Bad BadNumber ≡ cueLine p l
-    line-number n = rw (t .enough, t .first-is, w, t .second-is, n)
+-- what is said of a line, test by test
+pub line-few : (p : ℕ) (l : Text) {h : Heads} → h ≡ headsOf l → length l ≤ h .second → Bad BadFields ≡ cueLine p l
+line-few p l {h} e k = rw (fields-few l h e k)
 
-    module _ (n : isCueNumber (numberPart l h) ≡ true) (v : ℕ) (e : v ≡ value (numberPart l h)) where
-      pub line-above : v ≤ p → Bad NotAbove ≡ cueLine p l
-      line-above a = rw (t .enough, t .first-is, w, t .second-is, n, ← e, le-leb v p a)
+module _ (p : ℕ) {l : Text} {h : Heads} where
+  module _ (t : Three l h) where
+    pub line-word : sameText (part l 0 (h .first)) (bytes "cue") ≡ false → Bad BadFields ≡ cueLine p l
+    line-word w = rw (t .enough, t .first-is, w)
 
-      module _ (a : p < v) where
-        pub line-names : allNames (split tab (namesPart l h)) ≡ false → Bad NoName ≡ cueLine p l
-        line-names s = rw (t .enough, t .first-is, w, t .second-is, n, ← e, lt-leb v p a, names-are l h t, s)
+    pub line-number : sameText (part l 0 (h .first)) (bytes "cue") ≡ true → isCueNumber (numberPart l h) ≡ false → Bad BadNumber ≡ cueLine p l
+    line-number w n = rw (t .enough, t .first-is, w, t .second-is, n)
 
-        module _ (s : allNames (split tab (namesPart l h)) ≡ true) (k : ℕ) (c : k ≡ times tab (namesPart l h)) where
-          pub line-many : maxRow < k → Bad ManyChildren ≡ cueLine p l
-          line-many m = rw (t .enough, t .first-is, w, t .second-is, n, ← e, lt-leb v p a, names-are l h t, s, children-count l h t, ← c, lt-ltb maxRow k m)
+  module _ (q : NumberedLine l h) {v : ℕ} (e : v ≡ value (numberPart l h)) where
+    t : Three l h
+    t = q .three
 
-          pub line-good : k ≤ maxRow → Number v ≡ cueLine p l
-          line-good m = rw (t .enough, t .first-is, w, t .second-is, n, ← e, lt-leb v p a, names-are l h t, s, children-count l h t, ← c, le-ltb maxRow k m)
+    pub line-above : v ≤ p → Bad NotAbove ≡ cueLine p l
+    line-above a = rw (t .enough, t .first-is, q .word, t .second-is, q .number, ← e, le-leb v p a)
+
+    module _ (a : p < v) where
+      pub line-names : allNames (split tab (namesPart l h)) ≡ false → Bad NoName ≡ cueLine p l
+      line-names s = rw (t .enough, t .first-is, q .word, t .second-is, q .number, ← e, lt-leb v p a, names-are l h t, s)
+
+      module _ (s : allNames (split tab (namesPart l h)) ≡ true) {k : ℕ} (c : k ≡ times tab (namesPart l h)) where
+        counted : cueLine p l ≡ cond (ltb maxRow k) (Bad ManyChildren) (Number v)
+        counted = rw (t .enough, t .first-is, q .word, t .second-is, q .number, ← e, lt-leb v p a, names-are l h t, s, children-count l h t, ← c)
+
+        pub line-many : maxRow < k → Bad ManyChildren ≡ cueLine p l
+        line-many m = sym (counted ∙ rw (lt-ltb maxRow k m))
+
+        pub line-good : k ≤ maxRow → Number v ≡ cueLine p l
+        line-good m = sym (counted ∙ rw (le-ltb maxRow k m))
 
 -- what is said of a text, line by line
-module _ (ls : List Text) (n p : ℕ) where
-  pub cues-next : (l : Text) (q : ℕ) → n < length ls → getD ls n [] ≡ l → cueLine p l ≡ Number q
-      → cueLines n p (drop n ls) ≡ cueLines (n + 1) q (drop (n + 1) ls)
-  cues-next l q h e g = rw (drop-cons ls n [] h, e, g, add-one)
+module _ {x : Text} {n at e : ℕ} (w : Next x n at e) (p : ℕ) where
+  pub cues-next : {q : ℕ} → cueLine p (part x at e) ≡ Number q → cueLines n p (drop n (lines x)) ≡ cueLines (n + 1) q (drop (n + 1) (lines x))
+  cues-next g = rw (drop-cons (lines x) n [] (w .counted), w .line-is, g, add-one)
 
-  pub cues-bad : (l : Text) (f : CueFault) → n < length ls → getD ls n [] ≡ l → cueLine p l ≡ Bad f
-      → cueLines n p (drop n ls) ≡ Refused f (n + 1)
-  cues-bad l f h e g = rw (drop-cons ls n [] h, e, g, add-one)
+  pub cues-bad : {f : CueFault} → cueLine p (part x at e) ≡ Bad f → cueLines n p (drop n (lines x)) ≡ Refused f (n + 1)
+  cues-bad g = rw (drop-cons (lines x) n [] (w .counted), w .line-is, g, add-one)
 
-  pub cues-end : n ≡ length ls → cueLines n p (drop n ls) ≡ Count n
-  cues-end e = rw (e, drop-length ls)
+pub cues-end : {x : Text} {n at : ℕ} → Stand x n at → (p : ℕ) → length x ≤ at → cueLines n p (drop n (lines x)) ≡ Count n
+cues-end {x} {n} {at} w p h = rw (stand-stop x n at w h, drop-length (lines x))
 
 module _ (x : Text) where
   pub cues-long : maxFile < length x → Refused LongFile 0 ≡ cuesRead x

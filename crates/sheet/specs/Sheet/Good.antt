@@ -31,8 +31,10 @@ all-accepted n ks (l ∷ ls) e i h =
     (λ t. not-read ManyRules (suc n) (rw t at e))
     (λ t. go (lineFault ks l) refl (all-accepted (suc n) (ks ++ (kind l ∷ [])) ls) (rw t at e) i h)
   where
-    go : (f : Option SheetFault) → lineFault ks l ≡ f → (sheetLines (suc n) (ks ++ (kind l ∷ [])) ls ≡ Read → (j : ℕ) → j < length ls → Accepted (model (getD ls j [])))
-        → byFault f (sheetLines (suc n) (ks ++ (kind l ∷ [])) ls) (λ g. Refused g (suc n)) ≡ Read → (i : ℕ) → i < suc (length ls) → Accepted (model (getD (l ∷ ls) i []))
+    go : (f : Option SheetFault) → lineFault ks l ≡ f
+        → (sheetLines (suc n) (ks ++ (kind l ∷ [])) ls ≡ Read → (j : ℕ) → j < length ls → Accepted (model (getD ls j [])))
+        → byFault f (sheetLines (suc n) (ks ++ (kind l ∷ [])) ls) (λ g. Refused g (suc n)) ≡ Read
+        → (i : ℕ) → i < suc (length ls) → Accepted (model (getD (l ∷ ls) i []))
     go none q r k zero o = answer-accepted (model l) (fault-none ks l q)
     go none q r k (suc i) o = r k i (omega arith)
     go (some f) q r k i o = not-read f (suc n) k

@@ -35,8 +35,12 @@ pub record LoadedBy (s : Text) (o : SheetRead) (r : SheetRead) : Type 0 where
   pub loaded : r .outcome ≡ Read → Loaded s (r .sheet)
 
 -- a refused sheet is not loaded
-pub not-loaded : (s : Text) (r : SheetRead) (f : SheetFault) (n : ℕ) → r ≡ sheetBy [] (Refused f n) → r .outcome ≡ Read → Loaded s (r .sheet)
-not-loaded s r f n e g = let z : _≡_ {A = ℕ} 0 1 = cc (ap (λ q. q .outcome) e, g) in absurd (omega arith)
+pub not-loaded : {s : Text} {o r : SheetRead} {f : SheetFault} {n : ℕ} → r ≡ sheetBy [] (Refused f n) → sheetBy [] (Refused f n) ≡ o → LoadedBy s o r
+not-loaded e q =
+    record {
+      reads = e ∙ q;
+      loaded = λ g. let z : _≡_ {A = ℕ} 0 1 = cc (ap (λ r. r .outcome) e, g) in absurd (omega arith);
+    }
 
 -- what the loop holds before line n, which begins at `at`
 pub record Gone (x : Text) (kinds : Names) (entries : List Entry) (n at : ℕ) : Type 0 where
@@ -51,12 +55,16 @@ pub record Gone (x : Text) (kinds : Names) (entries : List Entry) (n at : ℕ) :
   pub entries-good : (k : ℕ) (d : Entry) → k < n → EntryGood x (getD entries k d) (getD (lines x) k [])
   pub answer : sheetLines 0 [] (lines x) ≡ sheetLines n (map kind (take n (lines x))) (drop n (lines x))
 
+-- stands for a line behind the last
+abbrev nowhere : Placed
+nowhere = record { start = 0; line = [] }
+
 placed-length : (p : ℕ) (ls : List Text) → length (placedFrom p ls) ≡ length ls
 placed-length p [] = refl
 placed-length p (l ∷ ls) = ap suc (placed-length (p + suc (length l)) ls)
 
-pub gone-start : (x : Text) (s : Sheet) → s ≡ sheetWith [] → behind x ≡ [] → Gone x (s .kinds) (s .entries) 0 0
-gone-start x s e b =
+pub gone-start : {x : Text} {s : Sheet} → s ≡ sheetWith [] → behind x ≡ [] → Gone x (s .kinds) (s .entries) 0 0
+gone-start {x} e b =
     record {
       stand = stand-start x b;
       few = omega arith;
@@ -75,7 +83,7 @@ entry-good : (x : Text) (at end : ℕ) → at ≤ end → end ≤ length x → (
     → EntryGood x (entryOf (record { start = at; line = part x at end })) (part x at end)
 entry-good x at end o h ks e = let m = line-model-is x at end o h ks e in record { inside = m .1; model-is = m .0 }
 
-module _ (x : Text) (kinds : Names) (entries : List Entry) (n at : ℕ) (w : Gone x kinds entries n at) where
+module _ {x : Text} {kinds : Names} {entries : List Entry} {n at : ℕ} (w : Gone x kinds entries n at) where
   ps : List Placed
   ps = placedFrom 0 (lines x)
 
@@ -88,12 +96,14 @@ module _ (x : Text) (kinds : Names) (entries : List Entry) (n at : ℕ) (w : Gon
       ap (map (partAt x)) t ∙ w .kinds-are
 
   -- a 65th line
-  pub gone-many : n ≡ 64 → at < length x → sheetLines 0 [] (lines x) ≡ Refused ManyRules (n + 1)
+  pub gone-many : n ≡ 64 → at < length x → sheetBy [] (Refused ManyRules (n + 1)) ≡ sheetBy x (sheetLines 0 [] (lines x))
   gone-many e h =
       let v = stand-next x n at (w .stand) (partEnd x lineFeed at) h refl in
-      w .answer ∙ rw (drop-cons (lines x) n [] (v .counted), le-leb maxRules n (omega arith), add-one)
+      let a : sheetLines 0 [] (lines x) ≡ Refused ManyRules (n + 1) =
+      w .answer ∙ rw (drop-cons (lines x) n [] (v .counted), le-leb maxRules n (omega arith), add-one) in
+      ap (sheetBy x) (sym a)
 
-  module _ (end : ℕ) (o : n < 64) (h : at < length x) (e : end ≡ partEnd x lineFeed at) (r : LineRead) (i : LineIs x kinds at end r) where
+  module _ (o : n < 64) (h : at < length x) {end : ℕ} (e : end ≡ partEnd x lineFeed at) {r : LineRead} (i : LineIs x kinds at end r) where
     v : Next x n at end
     v = stand-next x n at (w .stand) end h e
 
@@ -108,10 +118,12 @@ module _ (x : Text) (kinds : Names) (entries : List Entry) (n at : ℕ) (w : Gon
     some-of none g e = let z : _≡_ {A = ℕ} 0 1 = cc e in absurd (omega arith)
     some-of (some f) g e = let z : g ≡ f = cc e in ap some (sym z)
 
-    pub gone-bad : (f : SheetFault) → r .checked ≡ Bad f → sheetLines 0 [] (lines x) ≡ Refused f (n + 1)
-    gone-bad f b =
+    pub gone-bad : {f : SheetFault} → r .checked ≡ Bad f → sheetBy [] (Refused f (n + 1)) ≡ sheetBy x (sheetLines 0 [] (lines x))
+    gone-bad {f} b =
         let z = some-of (lineFault (map kind (take n (lines x))) (part x at end)) f (sym b ∙ fault-is) in
-        w .answer ∙ rw (drop-cons (lines x) n [] (v .counted), lt-leb maxRules n o, v .line-is, z, add-one)
+        let a : sheetLines 0 [] (lines x) ≡ Refused f (n + 1) =
+        w .answer ∙ rw (drop-cons (lines x) n [] (v .counted), lt-leb maxRules n o, v .line-is, z, add-one) in
+        ap (sheetBy x) (sym a)
 
     module _ (g : r .checked ≡ Good) where
       here : drop n ps ≡ record { start = at; line = part x at end } ∷ placedFrom (end + 1) (drop (suc n) (lines x))
@@ -125,11 +137,11 @@ module _ (x : Text) (kinds : Names) (entries : List Entry) (n at : ℕ) (w : Gon
       unfolding ps
       inside = omega (arith, placed-length 0 (lines x), v .counted)
 
-      at-n : getD ps n (record { start = 0; line = [] }) ≡ record { start = at; line = part x at end }
-      at-n = head-eq-of-cons-eq (sym (drop-cons ps n (record { start = 0; line = [] }) inside) ∙ here)
+      at-n : getD ps n nowhere ≡ record { start = at; line = part x at end }
+      at-n = head-eq-of-cons-eq (sym (drop-cons ps n nowhere inside) ∙ here)
 
       one-more : take (n + 1) ps ≡ take n ps ++ (record { start = at; line = part x at end } ∷ [])
-      one-more = rw add-one (take-suc ps n (record { start = 0; line = [] }) inside ∙ ap (λ p. take n ps ++ (p ∷ [])) at-n)
+      one-more = rw add-one (take-suc ps n nowhere inside ∙ ap (λ p. take n ps ++ (p ∷ [])) at-n)
 
       line-more : map kind (take (n + 1) (lines x)) ≡ map kind (take n (lines x)) ++ (kind (part x at end) ∷ [])
       line-more = rw (add-one, take-suc (lines x) n [] (v .counted), map-append, v .line-is)
@@ -143,23 +155,25 @@ module _ (x : Text) (kinds : Names) (entries : List Entry) (n at : ℕ) (w : Gon
       gone-next =
           let z = none-of (lineFault (map kind (take n (lines x))) (part x at end)) (sym g ∙ fault-is) in
           let b = end-bounds x lineFeed at end (omega arith) e in
-          let q = line-kind-is x at end (b .0) (b .1) (partsOf x kinds) (sym (i .checked-is) ∙ g) in
+          let c = sym (i .checked-is) ∙ g in
+          let q = line-kind-is x at end (b .0) (b .1) (partsOf x kinds) c in
           record {
             stand = v .stand;
             few = omega arith;
             below = omega (arith, w .below, b);
-            places-are = ap₂ (λ l k. set l n k) (w .places-are) (i .kind-is g ∙ ap kindPlace (sym at-n)) ∙ fill-turn kindPlace noPlace ps 64 n (record { start = 0; line = [] }) o inside;
+            places-are = ap₂ (λ l k. set l n k) (w .places-are) (i .kind-is g ∙ ap kindPlace (sym at-n)) ∙ fill-turn kindPlace noPlace ps 64 n nowhere o inside;
             count-is = refl;
-            entries-are = ap₂ (λ l k. set l n k) (w .entries-are) (i .entry-is g ∙ ap entryOf (sym at-n)) ∙ fill-turn entryOf noEntry ps 64 n (record { start = 0; line = [] }) o inside;
-            ahead = rw (add-one n) (tail-eq-of-cons-eq (sym (drop-cons ps n (record { start = 0; line = [] }) inside) ∙ here));
+            entries-are = ap₂ (λ l k. set l n k) (w .entries-are) (i .entry-is g ∙ ap entryOf (sym at-n)) ∙ fill-turn entryOf noEntry ps 64 n nowhere o inside;
+            ahead = rw (add-one n) (tail-eq-of-cons-eq (sym (drop-cons ps n nowhere inside) ∙ here));
             entries-good = λ k d h. by-cases (decLt k n)
                 (λ o′. rw (getD-set-other entries n k (r .entry) d (λ q. omega (arith, q))) (w .entries-good k d o′))
-                (λ o′. let q : k ≡ n = omega arith in rw (q, getD-set-same entries n (r .entry) d long, v .line-is, i .entry-is g) (entry-good x at end (b .0) (b .1) (partsOf x kinds) (sym (i .checked-is) ∙ g)));
+                (λ o′. let q : k ≡ n = omega arith in
+                rw (q, getD-set-same entries n (r .entry) d long, v .line-is, i .entry-is g) (entry-good x at end (b .0) (b .1) (partsOf x kinds) c));
             kinds-are = rw (one-more, map-append, map-append, line-more, w .kinds-are, q);
             answer = w .answer ∙ rw (drop-cons (lines x) n [] (v .counted), lt-leb maxRules n o, v .line-is, z, line-more, add-one);
           }
 
-  pub gone-loaded : length x ≤ at → Loaded x (record { kinds = kinds; entries = entries })
+  gone-loaded : length x ≤ at → Loaded x (record { kinds = kinds; entries = entries })
   gone-loaded h =
       let c = stand-stop x n at (w .stand) h in
       record {
@@ -168,15 +182,24 @@ module _ (x : Text) (kinds : Names) (entries : List Entry) (n at : ℕ) (w : Gon
         entries-good = λ k d o. w .entries-good k d (omega arith);
       }
 
-  pub gone-end : length x ≤ at → _≡_ {A = SheetRead} (record { outcome = Read; sheet = record { kinds = kinds; entries = entries } }) (sheetBy x (sheetLines 0 [] (lines x)))
+  abbrev read : SheetRead
+  read = record { outcome = Read; sheet = record { kinds = kinds; entries = entries } }
+
+  end-is : length x ≤ at → read ≡ sheetBy x (sheetLines 0 [] (lines x))
   unfolding ps
-  gone-end h =
+  end-is h =
       let c = stand-stop x n at (w .stand) h in
       let m : n ≡ length ps = c ∙ sym (placed-length 0 (lines x)) in
       let t : take n ps ≡ ps = take-all n ps (omega arith) in
       let a : sheetLines 0 [] (lines x) ≡ Read = w .answer ∙ rw (c, drop-length (lines x)) in
       let l : length (map kindPlace ps) ≡ n = length-map ps kindPlace ∙ sym m in
-      let p : kinds .places ≡ map kindPlace ps ++ replicate (64 - n) noPlace = w .places-are ∙ ap (λ q. map kindPlace q ++ replicate (64 - n) noPlace) t in
-      let k : kinds ≡ namesWith (map kindPlace ps) = ap (λ j. record { places = kinds .places; len = j }) (w .count-is) ∙ names-filled (map kindPlace ps) (kinds .places) n l p in
-      let f : entries ≡ map entryOf ps ++ replicate (maxRules - length ps) noEntry = w .entries-are ∙ ap₂ (λ q j. map entryOf q ++ replicate (64 - j) noEntry) t m in
+      let p : kinds .places ≡ map kindPlace ps ++ replicate (64 - n) noPlace =
+      w .places-are ∙ ap (λ q. map kindPlace q ++ replicate (64 - n) noPlace) t in
+      let k : kinds ≡ namesWith (map kindPlace ps) =
+      ap (λ j. record { places = kinds .places; len = j }) (w .count-is) ∙ names-filled (map kindPlace ps) (kinds .places) n l p in
+      let f : entries ≡ map entryOf ps ++ replicate (maxRules - length ps) noEntry =
+      w .entries-are ∙ ap₂ (λ q j. map entryOf q ++ replicate (64 - j) noEntry) t m in
       rw (a, k, f)
+
+  pub gone-end : length x ≤ at → LoadedBy x (sheetBy x (sheetLines 0 [] (lines x))) read
+  gone-end h = record { reads = end-is h; loaded = λ _. gone-loaded h }

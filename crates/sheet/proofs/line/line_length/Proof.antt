@@ -15,21 +15,21 @@ add-times-in : tie.Need-add-times-in
 add-times-in c =
     let at-args = c .before .before .args in
     let at-first-fields = c .first-fields in
-    let t = fields-three (at-args .cue .now) (at-first-fields .result) (at-first-fields .ensures) (enough (at-args .cue .now) (at-first-fields .result) (at-first-fields .ensures) (c .before .before .pre .enough)) in
+    let t = fields-three (at-args .cue .now) (at-first-fields .result) (at-first-fields .ensures .0) (enough (at-args .cue .now) (at-first-fields .result) (at-first-fields .ensures .0) (c .before .before .pre .enough)) in
     omega arith
 
 sub-times-in : tie.Need-sub-times-in
 sub-times-in c =
     let at-args = c .before .before .args in
     let at-first-fields = c .first-fields in
-    let t = fields-three (at-args .cue .now) (at-first-fields .result) (at-first-fields .ensures) (enough (at-args .cue .now) (at-first-fields .result) (at-first-fields .ensures) (c .before .before .pre .enough)) in
+    let t = fields-three (at-args .cue .now) (at-first-fields .result) (at-first-fields .ensures .0) (enough (at-args .cue .now) (at-first-fields .result) (at-first-fields .ensures .0) (c .before .before .pre .enough)) in
     omega arith
 
 part-times-in-start : tie.Need-part-times-in-start
 part-times-in-start c =
     let at-args = c .before .before .args in
     let at-first-fields = c .first-fields in
-    let t = fields-three (at-args .cue .now) (at-first-fields .result) (at-first-fields .ensures) (enough (at-args .cue .now) (at-first-fields .result) (at-first-fields .ensures) (c .before .before .pre .enough)) in
+    let t = fields-three (at-args .cue .now) (at-first-fields .result) (at-first-fields .ensures .0) (enough (at-args .cue .now) (at-first-fields .result) (at-first-fields .ensures .0) (c .before .before .pre .enough)) in
     omega arith
 
 part-times-in-end : tie.Need-part-times-in-end
@@ -42,14 +42,14 @@ sub-fields : tie.Need-sub-fields
 sub-fields c =
     let at-args = c .before .before .before .before .before .args in
     let at-first-fields = c .before .before .before .first-fields in
-    let t = fields-three (at-args .cue .now) (at-first-fields .result) (at-first-fields .ensures) (enough (at-args .cue .now) (at-first-fields .result) (at-first-fields .ensures) (c .before .before .before .before .before .pre .enough)) in
+    let t = fields-three (at-args .cue .now) (at-first-fields .result) (at-first-fields .ensures .0) (enough (at-args .cue .now) (at-first-fields .result) (at-first-fields .ensures .0) (c .before .before .before .before .before .pre .enough)) in
     omega arith
 
 sub-fields-2 : tie.Need-sub-fields-2
 sub-fields-2 c =
     let at-args = c .before .before .before .before .before .args in
     let at-first-fields = c .before .before .before .first-fields in
-    let t = fields-three (at-args .cue .now) (at-first-fields .result) (at-first-fields .ensures) (enough (at-args .cue .now) (at-first-fields .result) (at-first-fields .ensures) (c .before .before .before .before .before .pre .enough)) in
+    let t = fields-three (at-args .cue .now) (at-first-fields .result) (at-first-fields .ensures .0) (enough (at-args .cue .now) (at-first-fields .result) (at-first-fields .ensures .0) (c .before .before .before .before .before .pre .enough)) in
     omega arith
 
 word-length-requires : tie.Need-word-length-requires
@@ -60,7 +60,7 @@ add-result c =
     let at-args = c .before .before .before .before .before .before .args in
     let at-first-fields = c .before .before .before .before .first-fields in
     let at-pre = c .before .before .before .before .before .before .pre in
-    let t = fields-three (at-args .cue .now) (at-first-fields .result) (at-first-fields .ensures) (enough (at-args .cue .now) (at-first-fields .result) (at-first-fields .ensures) (at-pre .enough)) in
+    let t = fields-three (at-args .cue .now) (at-first-fields .result) (at-first-fields .ensures .0) (enough (at-args .cue .now) (at-first-fields .result) (at-first-fields .ensures .0) (at-pre .enough)) in
     omega (arith, c .word-length .ensures, word-short (at-args .said), at-pre .short)
 
 number-length-requires : tie.Need-number-length-requires
@@ -68,7 +68,7 @@ number-length-requires c κs =
     let at-args = c .before .before .before .before .before .before .args in
     let at-first-fields = c .before .before .before .before .first-fields in
     let at-pre = c .before .before .before .before .before .before .pre in
-    let t = fields-three (at-args .cue .now) (at-first-fields .result) (at-first-fields .ensures) (enough (at-args .cue .now) (at-first-fields .result) (at-first-fields .ensures) (at-pre .enough)) in
+    let t = fields-three (at-args .cue .now) (at-first-fields .result) (at-first-fields .ensures .0) (enough (at-args .cue .now) (at-first-fields .result) (at-first-fields .ensures .0) (at-pre .enough)) in
     omega (arith, c .before .before .times-in .ensures, children-count (at-args .cue .now) (at-first-fields .result) t, at-pre .few)
 
 add-result-2 : tie.Need-add-result-2
@@ -76,7 +76,7 @@ add-result-2 c =
     let at-args = c .before .before .before .before .before .before .before .args in
     let at-first-fields = c .before .before .before .before .before .first-fields in
     let at-pre = c .before .before .before .before .before .before .before .pre in
-    let t = fields-three (at-args .cue .now) (at-first-fields .result) (at-first-fields .ensures) (enough (at-args .cue .now) (at-first-fields .result) (at-first-fields .ensures) (at-pre .enough)) in
+    let t = fields-three (at-args .cue .now) (at-first-fields .result) (at-first-fields .ensures .0) (enough (at-args .cue .now) (at-first-fields .result) (at-first-fields .ensures .0) (at-pre .enough)) in
     omega (arith, c .before .word-length .ensures, word-short (at-args .said), at-pre .short, c .number-length .ensures, digits-length (c .before .before .before .times-in .result))
 
 add-result-3 : tie.Need-add-result-3
@@ -84,7 +84,7 @@ add-result-3 c =
     let at-args = c .before .before .before .before .before .before .before .args in
     let at-first-fields = c .before .before .before .before .before .first-fields in
     let at-pre = c .before .before .before .before .before .before .before .pre in
-    let t = fields-three (at-args .cue .now) (at-first-fields .result) (at-first-fields .ensures) (enough (at-args .cue .now) (at-first-fields .result) (at-first-fields .ensures) (at-pre .enough)) in
+    let t = fields-three (at-args .cue .now) (at-first-fields .result) (at-first-fields .ensures .0) (enough (at-args .cue .now) (at-first-fields .result) (at-first-fields .ensures .0) (at-pre .enough)) in
     omega (arith, c .before .word-length .ensures, word-short (at-args .said), at-pre .short, c .number-length .ensures, digits-length (c .before .before .before .times-in .result))
 
 returns : tie.Need-returns
@@ -92,7 +92,7 @@ returns c =
     let at-args = c .before .before .before .before .before .before .before .args in
     let at-first-fields = c .before .before .before .before .before .first-fields in
     let at-times-in = c .before .before .before .times-in in
-    let t = fields-three (at-args .cue .now) (at-first-fields .result) (at-first-fields .ensures) (enough (at-args .cue .now) (at-first-fields .result) (at-first-fields .ensures) (c .before .before .before .before .before .before .before .pre .enough)) in
+    let t = fields-three (at-args .cue .now) (at-first-fields .result) (at-first-fields .ensures .0) (enough (at-args .cue .now) (at-first-fields .result) (at-first-fields .ensures .0) (c .before .before .before .before .before .before .before .pre .enough)) in
     let n = at-times-in .ensures ∙ sym (children-count (at-args .cue .now) (at-first-fields .result) t) in
     rw (c .before .word-length .ensures, c .number-length .ensures) (sym (line-length (at-args .cue .now) (at-first-fields .result) (at-args .said) (at-times-in .result) t n))
 

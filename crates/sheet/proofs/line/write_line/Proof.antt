@@ -15,21 +15,21 @@ add-times-in : tie.Need-add-times-in
 add-times-in c =
     let at-args = c .before .before .before .args in
     let at-first-fields = c .first-fields in
-    let t = fields-three (at-args .cue .now) (at-first-fields .result) (at-first-fields .ensures) (enough (at-args .cue .now) (at-first-fields .result) (at-first-fields .ensures) (c .before .before .before .pre .0 .enough)) in
+    let t = fields-three (at-args .cue .now) (at-first-fields .result) (at-first-fields .ensures .0) (enough (at-args .cue .now) (at-first-fields .result) (at-first-fields .ensures .0) (c .before .before .before .pre .0 .enough)) in
     omega arith
 
 sub-times-in : tie.Need-sub-times-in
 sub-times-in c =
     let at-args = c .before .before .before .args in
     let at-first-fields = c .first-fields in
-    let t = fields-three (at-args .cue .now) (at-first-fields .result) (at-first-fields .ensures) (enough (at-args .cue .now) (at-first-fields .result) (at-first-fields .ensures) (c .before .before .before .pre .0 .enough)) in
+    let t = fields-three (at-args .cue .now) (at-first-fields .result) (at-first-fields .ensures .0) (enough (at-args .cue .now) (at-first-fields .result) (at-first-fields .ensures .0) (c .before .before .before .pre .0 .enough)) in
     omega arith
 
 part-times-in-start : tie.Need-part-times-in-start
 part-times-in-start c =
     let at-args = c .before .before .before .args in
     let at-first-fields = c .first-fields in
-    let t = fields-three (at-args .cue .now) (at-first-fields .result) (at-first-fields .ensures) (enough (at-args .cue .now) (at-first-fields .result) (at-first-fields .ensures) (c .before .before .before .pre .0 .enough)) in
+    let t = fields-three (at-args .cue .now) (at-first-fields .result) (at-first-fields .ensures .0) (enough (at-args .cue .now) (at-first-fields .result) (at-first-fields .ensures .0) (c .before .before .before .pre .0 .enough)) in
     omega arith
 
 part-times-in-end : tie.Need-part-times-in-end
@@ -42,28 +42,28 @@ add-put : tie.Need-add-put
 add-put c =
     let at-args = c .before .before .before .before .before .before .args in
     let at-first-fields = c .before .before .before .first-fields in
-    let t = fields-three (at-args .cue .now) (at-first-fields .result) (at-first-fields .ensures) (enough (at-args .cue .now) (at-first-fields .result) (at-first-fields .ensures) (c .before .before .before .before .before .before .pre .0 .enough)) in
+    let t = fields-three (at-args .cue .now) (at-first-fields .result) (at-first-fields .ensures .0) (enough (at-args .cue .now) (at-first-fields .result) (at-first-fields .ensures .0) (c .before .before .before .before .before .before .pre .0 .enough)) in
     omega arith
 
 sub-put : tie.Need-sub-put
 sub-put c =
     let at-args = c .before .before .before .before .before .before .args in
     let at-first-fields = c .before .before .before .first-fields in
-    let t = fields-three (at-args .cue .now) (at-first-fields .result) (at-first-fields .ensures) (enough (at-args .cue .now) (at-first-fields .result) (at-first-fields .ensures) (c .before .before .before .before .before .before .pre .0 .enough)) in
+    let t = fields-three (at-args .cue .now) (at-first-fields .result) (at-first-fields .ensures .0) (enough (at-args .cue .now) (at-first-fields .result) (at-first-fields .ensures .0) (c .before .before .before .before .before .before .pre .0 .enough)) in
     omega arith
 
 part-put-start : tie.Need-part-put-start
 part-put-start c =
     let at-args = c .before .before .before .before .before .before .args in
     let at-first-fields = c .before .before .before .first-fields in
-    let t = fields-three (at-args .cue .now) (at-first-fields .result) (at-first-fields .ensures) (enough (at-args .cue .now) (at-first-fields .result) (at-first-fields .ensures) (c .before .before .before .before .before .before .pre .0 .enough)) in
+    let t = fields-three (at-args .cue .now) (at-first-fields .result) (at-first-fields .ensures .0) (enough (at-args .cue .now) (at-first-fields .result) (at-first-fields .ensures .0) (c .before .before .before .before .before .before .pre .0 .enough)) in
     omega arith
 
 part-put-end : tie.Need-part-put-end
 part-put-end c =
     let at-args = c .before .before .before .before .before .before .args in
     let at-first-fields = c .before .before .before .first-fields in
-    let t = fields-three (at-args .cue .now) (at-first-fields .result) (at-first-fields .ensures) (enough (at-args .cue .now) (at-first-fields .result) (at-first-fields .ensures) (c .before .before .before .before .before .before .pre .0 .enough)) in
+    let t = fields-three (at-args .cue .now) (at-first-fields .result) (at-first-fields .ensures .0) (enough (at-args .cue .now) (at-first-fields .result) (at-first-fields .ensures .0) (c .before .before .before .before .before .before .pre .0 .enough)) in
     omega arith
 
 put-requires : tie.Need-put-requires
@@ -72,7 +72,7 @@ put-requires c κs =
     let at-first-fields = c .before .before .before .before .first-fields in
     let at-pre = c .before .before .before .before .before .before .before .pre in
     let at-times-in = c .before .before .times-in in
-    let t = fields-three (at-args .cue .now) (at-first-fields .result) (at-first-fields .ensures) (enough (at-args .cue .now) (at-first-fields .result) (at-first-fields .ensures) (at-pre .0 .enough)) in
+    let t = fields-three (at-args .cue .now) (at-first-fields .result) (at-first-fields .ensures .0) (enough (at-args .cue .now) (at-first-fields .result) (at-first-fields .ensures .0) (at-pre .0 .enough)) in
     let n = at-times-in .ensures ∙ sym (children-count (at-args .cue .now) (at-first-fields .result) t) in
     omega (arith, at-pre .1, line-sum (at-args .cue .now) (at-first-fields .result) (at-args .said) (at-times-in .result) t n, word-sum (at-args .said))
 
@@ -86,7 +86,7 @@ put-requires-2 c κs =
     let at-pre = c .before .before .before .before .before .before .before .before .before .before .before .before .pre in
     let at-times-in = c .before .before .before .before .before .before .before .times-in in
     let at-put = c .before .before .before .before .put in
-    let t = fields-three (at-args .cue .now) (at-first-fields .result) (at-first-fields .ensures) (enough (at-args .cue .now) (at-first-fields .result) (at-first-fields .ensures) (at-pre .0 .enough)) in
+    let t = fields-three (at-args .cue .now) (at-first-fields .result) (at-first-fields .ensures .0) (enough (at-args .cue .now) (at-first-fields .result) (at-first-fields .ensures .0) (at-pre .0 .enough)) in
     let n = at-times-in .ensures ∙ sym (children-count (at-args .cue .now) (at-first-fields .result) t) in
     omega (arith, at-pre .1, line-sum (at-args .cue .now) (at-first-fields .result) (at-args .said) (at-times-in .result) t n, word-sum (at-args .said), at-put .ensures .end-is, put-length (at-put .ensures))
 
@@ -94,28 +94,28 @@ add-put-2 : tie.Need-add-put-2
 add-put-2 c =
     let at-args = c .before .before .before .before .before .before .before .before .before .before .before .before .before .before .before .before .args in
     let at-first-fields = c .before .before .before .before .before .before .before .before .before .before .before .before .before .first-fields in
-    let t = fields-three (at-args .cue .now) (at-first-fields .result) (at-first-fields .ensures) (enough (at-args .cue .now) (at-first-fields .result) (at-first-fields .ensures) (c .before .before .before .before .before .before .before .before .before .before .before .before .before .before .before .before .pre .0 .enough)) in
+    let t = fields-three (at-args .cue .now) (at-first-fields .result) (at-first-fields .ensures .0) (enough (at-args .cue .now) (at-first-fields .result) (at-first-fields .ensures .0) (c .before .before .before .before .before .before .before .before .before .before .before .before .before .before .before .before .pre .0 .enough)) in
     omega arith
 
 sub-put-2 : tie.Need-sub-put-2
 sub-put-2 c =
     let at-args = c .before .before .before .before .before .before .before .before .before .before .before .before .before .before .before .before .args in
     let at-first-fields = c .before .before .before .before .before .before .before .before .before .before .before .before .before .first-fields in
-    let t = fields-three (at-args .cue .now) (at-first-fields .result) (at-first-fields .ensures) (enough (at-args .cue .now) (at-first-fields .result) (at-first-fields .ensures) (c .before .before .before .before .before .before .before .before .before .before .before .before .before .before .before .before .pre .0 .enough)) in
+    let t = fields-three (at-args .cue .now) (at-first-fields .result) (at-first-fields .ensures .0) (enough (at-args .cue .now) (at-first-fields .result) (at-first-fields .ensures .0) (c .before .before .before .before .before .before .before .before .before .before .before .before .before .before .before .before .pre .0 .enough)) in
     omega arith
 
 part-put-start-2 : tie.Need-part-put-start-2
 part-put-start-2 c =
     let at-args = c .before .before .before .before .before .before .before .before .before .before .before .before .before .before .before .before .args in
     let at-first-fields = c .before .before .before .before .before .before .before .before .before .before .before .before .before .first-fields in
-    let t = fields-three (at-args .cue .now) (at-first-fields .result) (at-first-fields .ensures) (enough (at-args .cue .now) (at-first-fields .result) (at-first-fields .ensures) (c .before .before .before .before .before .before .before .before .before .before .before .before .before .before .before .before .pre .0 .enough)) in
+    let t = fields-three (at-args .cue .now) (at-first-fields .result) (at-first-fields .ensures .0) (enough (at-args .cue .now) (at-first-fields .result) (at-first-fields .ensures .0) (c .before .before .before .before .before .before .before .before .before .before .before .before .before .before .before .before .pre .0 .enough)) in
     omega arith
 
 part-put-end-2 : tie.Need-part-put-end-2
 part-put-end-2 c =
     let at-args = c .before .before .before .before .before .before .before .before .before .before .before .before .before .before .before .before .args in
     let at-first-fields = c .before .before .before .before .before .before .before .before .before .before .before .before .before .first-fields in
-    let t = fields-three (at-args .cue .now) (at-first-fields .result) (at-first-fields .ensures) (enough (at-args .cue .now) (at-first-fields .result) (at-first-fields .ensures) (c .before .before .before .before .before .before .before .before .before .before .before .before .before .before .before .before .pre .0 .enough)) in
+    let t = fields-three (at-args .cue .now) (at-first-fields .result) (at-first-fields .ensures .0) (enough (at-args .cue .now) (at-first-fields .result) (at-first-fields .ensures .0) (c .before .before .before .before .before .before .before .before .before .before .before .before .before .before .before .before .pre .0 .enough)) in
     omega arith
 
 put-requires-3 : tie.Need-put-requires-3
@@ -126,7 +126,7 @@ put-requires-3 c κs =
     let at-times-in = c .before .before .before .before .before .before .before .before .before .before .before .before .times-in in
     let at-put = c .before .before .before .before .before .before .before .before .before .put in
     let at-put2 = c .before .before .before .before .put2 in
-    let t = fields-three (at-args .cue .now) (at-first-fields .result) (at-first-fields .ensures) (enough (at-args .cue .now) (at-first-fields .result) (at-first-fields .ensures) (at-pre .0 .enough)) in
+    let t = fields-three (at-args .cue .now) (at-first-fields .result) (at-first-fields .ensures .0) (enough (at-args .cue .now) (at-first-fields .result) (at-first-fields .ensures .0) (at-pre .0 .enough)) in
     let n = at-times-in .ensures ∙ sym (children-count (at-args .cue .now) (at-first-fields .result) t) in
     omega (arith, at-pre .1, line-sum (at-args .cue .now) (at-first-fields .result) (at-args .said) (at-times-in .result) t n, word-sum (at-args .said), at-put .ensures .end-is, put-length (at-put .ensures), at-put2 .ensures .end-is, put-length (at-put2 .ensures))
 
@@ -139,7 +139,7 @@ put-word-requires c κs =
     let at-put = c .before .before .before .before .before .before .before .before .before .before .before .before .before .put in
     let at-put2 = c .before .before .before .before .before .before .before .before .put2 in
     let at-put3 = c .before .before .before .put3 in
-    let t = fields-three (at-args .cue .now) (at-first-fields .result) (at-first-fields .ensures) (enough (at-args .cue .now) (at-first-fields .result) (at-first-fields .ensures) (at-pre .0 .enough)) in
+    let t = fields-three (at-args .cue .now) (at-first-fields .result) (at-first-fields .ensures .0) (enough (at-args .cue .now) (at-first-fields .result) (at-first-fields .ensures .0) (at-pre .0 .enough)) in
     let n = at-times-in .ensures ∙ sym (children-count (at-args .cue .now) (at-first-fields .result) t) in
     omega (arith, at-pre .1, line-sum (at-args .cue .now) (at-first-fields .result) (at-args .said) (at-times-in .result) t n, word-sum (at-args .said), at-put .ensures .end-is, put-length (at-put .ensures), at-put2 .ensures .end-is, put-length (at-put2 .ensures), at-put3 .ensures .end-is, put-length (at-put3 .ensures))
 
@@ -153,8 +153,8 @@ put-number-requires c κs =
     let at-put2 = c .before .before .before .before .before .before .before .before .before .before .before .before .put2 in
     let at-put3 = c .before .before .before .before .before .before .before .put3 in
     let at-put-word = c .before .before .before .put-word in (
-      let t = fields-three (at-args .cue .now) (at-first-fields .result) (at-first-fields .ensures) (enough (at-args .cue .now) (at-first-fields .result) (at-first-fields .ensures) (at-pre .0 .enough)) in let n = at-times-in .ensures ∙ sym (children-count (at-args .cue .now) (at-first-fields .result) t) in omega (arith, n, at-pre .0 .few),
-      let t = fields-three (at-args .cue .now) (at-first-fields .result) (at-first-fields .ensures) (enough (at-args .cue .now) (at-first-fields .result) (at-first-fields .ensures) (at-pre .0 .enough)) in
+      let t = fields-three (at-args .cue .now) (at-first-fields .result) (at-first-fields .ensures .0) (enough (at-args .cue .now) (at-first-fields .result) (at-first-fields .ensures .0) (at-pre .0 .enough)) in let n = at-times-in .ensures ∙ sym (children-count (at-args .cue .now) (at-first-fields .result) t) in omega (arith, n, at-pre .0 .few),
+      let t = fields-three (at-args .cue .now) (at-first-fields .result) (at-first-fields .ensures .0) (enough (at-args .cue .now) (at-first-fields .result) (at-first-fields .ensures .0) (at-pre .0 .enough)) in
           let n = at-times-in .ensures ∙ sym (children-count (at-args .cue .now) (at-first-fields .result) t) in
           omega (arith, at-pre .1, line-sum (at-args .cue .now) (at-first-fields .result) (at-args .said) (at-times-in .result) t n, word-sum (at-args .said), at-put .ensures .end-is, put-length (at-put .ensures), at-put2 .ensures .end-is, put-length (at-put2 .ensures), at-put3 .ensures .end-is, put-length (at-put3 .ensures), at-put-word .ensures .end-is, put-length (at-put-word .ensures)),
     )
@@ -173,7 +173,7 @@ put-requires-4 c κs =
     let at-put3 = c .before .before .before .before .before .before .before .before .before .before .before .before .put3 in
     let at-put-word = c .before .before .before .before .before .before .before .before .put-word in
     let at-put-number = c .before .before .before .before .put-number in
-    let t = fields-three (at-args .cue .now) (at-first-fields .result) (at-first-fields .ensures) (enough (at-args .cue .now) (at-first-fields .result) (at-first-fields .ensures) (at-pre .0 .enough)) in
+    let t = fields-three (at-args .cue .now) (at-first-fields .result) (at-first-fields .ensures .0) (enough (at-args .cue .now) (at-first-fields .result) (at-first-fields .ensures .0) (at-pre .0 .enough)) in
     let n = at-times-in .ensures ∙ sym (children-count (at-args .cue .now) (at-first-fields .result) t) in
     omega (arith, at-pre .1, line-sum (at-args .cue .now) (at-first-fields .result) (at-args .said) (at-times-in .result) t n, word-sum (at-args .said), at-put .ensures .end-is, put-length (at-put .ensures), at-put2 .ensures .end-is, put-length (at-put2 .ensures), at-put3 .ensures .end-is, put-length (at-put3 .ensures), at-put-word .ensures .end-is, put-length (at-put-word .ensures), at-put-number .ensures .end-is, put-length (at-put-number .ensures))
 
@@ -185,7 +185,7 @@ returns c =
     let at-args = c .before .before .before .before .before .before .before .before .before .before .before .before .before .before .before .before .before .before .before .before .before .before .before .before .before .before .before .before .before .before .before .before .before .args in
     let at-first-fields = c .before .before .before .before .before .before .before .before .before .before .before .before .before .before .before .before .before .before .before .before .before .before .before .before .before .before .before .before .before .before .first-fields in
     let at-times-in = c .before .before .before .before .before .before .before .before .before .before .before .before .before .before .before .before .before .before .before .before .before .before .before .before .before .before .before .before .times-in in
-    let t = fields-three (at-args .cue .now) (at-first-fields .result) (at-first-fields .ensures) (enough (at-args .cue .now) (at-first-fields .result) (at-first-fields .ensures) (c .before .before .before .before .before .before .before .before .before .before .before .before .before .before .before .before .before .before .before .before .before .before .before .before .before .before .before .before .before .before .before .before .before .pre .0 .enough)) in
+    let t = fields-three (at-args .cue .now) (at-first-fields .result) (at-first-fields .ensures .0) (enough (at-args .cue .now) (at-first-fields .result) (at-first-fields .ensures .0) (c .before .before .before .before .before .before .before .before .before .before .before .before .before .before .before .before .before .before .before .before .before .before .before .before .before .before .before .before .before .before .before .before .before .pre .0 .enough)) in
     let n = at-times-in .ensures ∙ sym (children-count (at-args .cue .now) (at-first-fields .result) t) in
     rw (← line-is (at-args .cue .now) (at-first-fields .result) (at-args .said) (at-times-in .result) t n)
     (put-then (put-then (put-then (put-then (put-then (c .before .before .before .before .before .before .before .before .before .before .before .before .before .before .before .before .before .before .before .before .before .before .before .before .before .put .ensures) (c .before .before .before .before .before .before .before .before .before .before .before .before .before .before .before .before .before .before .before .before .put2 .ensures)) (c .before .before .before .before .before .before .before .before .before .before .before .before .before .before .before .put3 .ensures)) (c .before .before .before .before .before .before .before .before .before .before .before .put-word .ensures)) (c .before .before .before .before .before .before .before .put-number .ensures)) (c .before .before .put4 .ensures))

@@ -11,22 +11,22 @@ first-fields-requires c κs = search needs
 
 add-number-of : tie.Need-add-number-of
 add-number-of c =
-    let t = cue-three (c .before .before .before .args .cue .now) (c .first-fields .result) (c .first-fields .ensures) (c .before .before .before .pre .enough) in
+    let t = cue-three (c .before .before .before .args .cue .now) (c .first-fields .result) (c .first-fields .ensures .0) (c .before .before .before .pre .enough) in
     omega arith
 
 sub-number-of : tie.Need-sub-number-of
 sub-number-of c =
-    let t = cue-three (c .before .before .before .args .cue .now) (c .first-fields .result) (c .first-fields .ensures) (c .before .before .before .pre .enough) in
+    let t = cue-three (c .before .before .before .args .cue .now) (c .first-fields .result) (c .first-fields .ensures .0) (c .before .before .before .pre .enough) in
     omega arith
 
 part-number-of-start : tie.Need-part-number-of-start
 part-number-of-start c =
-    let t = cue-three (c .before .before .before .args .cue .now) (c .first-fields .result) (c .first-fields .ensures) (c .before .before .before .pre .enough) in
+    let t = cue-three (c .before .before .before .args .cue .now) (c .first-fields .result) (c .first-fields .ensures .0) (c .before .before .before .pre .enough) in
     omega arith
 
 part-number-of-end : tie.Need-part-number-of-end
 part-number-of-end c =
-    let t = cue-three (c .before .before .before .args .cue .now) (c .first-fields .result) (c .first-fields .ensures) (c .before .before .before .pre .enough) in
+    let t = cue-three (c .before .before .before .args .cue .now) (c .first-fields .result) (c .first-fields .ensures .0) (c .before .before .before .pre .enough) in
     omega arith
 
 number-of-requires : tie.Need-number-of-requires
@@ -38,7 +38,7 @@ cast-result c = search needs
 returns : tie.Need-returns
 returns c =
     let at-first-fields = c .before .before .before .first-fields in
-    let t = cue-three (c .before .before .before .before .before .before .args .cue .now) (at-first-fields .result) (at-first-fields .ensures) (c .before .before .before .before .before .before .pre .enough) in
+    let t = cue-three (c .before .before .before .before .before .before .args .cue .now) (at-first-fields .result) (at-first-fields .ensures .0) (c .before .before .before .before .before .before .pre .enough) in
     c .before .number-of .ensures ∙ rw (t .third-is)
 
 pub line-of-spec : {M : Type 1} → statement M

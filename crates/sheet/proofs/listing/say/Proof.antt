@@ -48,7 +48,7 @@ said-from-requires c κs = search needs
 returns : tie.Need-returns
 returns c =
     let start = c .before .before .before .before .before .before .before .before .before .before in
-    c .said-from .ensures ∙ ap saidFrom (c .before .judge-children .ensures) ∙ say-some (start .args .sheet .now) _ (start .args .place) (start .args .cue .now) (start .pre) (part-at-place (start .args .sheet .now) (start .args .place)) _ (c .before .before .before .before .first-fields .ensures) (c .before .before .before .if1 .taken)
+    c .said-from .ensures ∙ ap saidFrom (c .before .judge-children .ensures) ∙ say-some (start .args .sheet .now) _ (start .args .place) (start .args .cue .now) (start .pre) (part-at-place (start .args .sheet .now) (start .args .place)) _ (c .before .before .before .before .first-fields .ensures .0) (c .before .before .before .if1 .taken)
 
 slice-aggregate-judge-children : tie.Need-slice-aggregate-judge-children
 slice-aggregate-judge-children c = search needs
@@ -62,7 +62,7 @@ said-from-requires-2 c κs = search needs
 returns-2 : tie.Need-returns-2
 returns-2 c =
     let start = c .before .before .before .before .before .before .before .before .before .before in
-    c .said-from2 .ensures ∙ ap saidFrom (c .before .judge-children2 .ensures) ∙ say-none (start .args .sheet .now) _ (start .args .place) (start .args .cue .now) (start .pre) (part-at-place (start .args .sheet .now) (start .args .place)) _ (c .before .before .before .before .first-fields .ensures) (c .before .before .before .if1 .left)
+    c .said-from2 .ensures ∙ ap saidFrom (c .before .judge-children2 .ensures) ∙ say-none (start .args .sheet .now) _ (start .args .place) (start .args .cue .now) (start .pre) (part-at-place (start .args .sheet .now) (start .args .place)) _ (c .before .before .before .before .first-fields .ensures .0) (c .before .before .before .if1 .left)
 
 pub say-spec : {M : Type 1} → statement M
 say-spec =

@@ -4,13 +4,5 @@ use borrow.Author.Needs.{needs}
 use Rattle.sheet.proofs.sheet.refused.Statement.{statement}
 use Rattle.sheet.proofs.sheet.refused.Tie as tie
 
-no-rules-requires : tie.Need-no-rules-requires
-no-rules-requires c κs = search needs
-
-returns : tie.Need-returns
-returns c =
-    let at-args = c .before .args in
-    refused-made _ (at-args .fault) (at-args .line) (c .no-rules .ensures)
-
 pub refused-spec : {M : Type 1} → statement M
-refused-spec = tie.close (tie.spec no-rules-requires returns)
+refused-spec = tie.close (tie.spec (λ c κs. search needs) (λ c. refused-made (c .no-rules .ensures)))
