@@ -66,7 +66,7 @@ abbrev pub Coded : Text → Text → List ℕ → Type 0
 Coded s c codes = CodedUpTo (length (lines c)) s c codes
 
 -- a sheet and a cue list that were read, the byte of each cue, and how long the listing is
-pub record Ready (s c : Text) (codes : List ℕ) (total : ℕ) : Type 0 where
+pub record ListingReady (s c : Text) (codes : List ℕ) (total : ℕ) : Type 0 where
   pub sheet-read : sheetRead s .outcome ≡ Read
   pub count : ℕ
   pub cues-read : cuesRead c ≡ Count count

@@ -26,7 +26,7 @@ use Rattle.sheet.specs.declared.cues.CuesRead.the-variants.{Count as Cue
 use Rattle.sheet.specs.declared.listing.Listed.the-variants.{Written, SheetRefused, CueRefused, TooLong}
 use Rattle.sheet.specs.Listing.{listingLine, listingBy, saidBy, saidOf, said, listing, listed, bySheet, byCues, bufferAfter}
 use Rattle.sheet.specs.Listing.Laws.{cue-three, line-length, word-short}
-use Rattle.sheet.specs.Coded.{saidFrom, codeOf, decoded, listingCoded, CueReady, GoodCues, AtLine, Cue, CodedUpTo, Ready}
+use Rattle.sheet.specs.Coded.{saidFrom, codeOf, decoded, listingCoded, CueReady, GoodCues, AtLine, Cue, CodedUpTo, ListingReady}
 
 -- of children that are good, the judge's answer says what the model says
 said-judged : (m c : Text) → length c ≤ maxFile → allNames (childrenIn c) ≡ true → length (childrenIn c) ≤ maxRow
@@ -106,8 +106,8 @@ before-cue {c} {n} {at} {end} b h e =
       next = record { stand = v .stand; below = omega (arith, b .below, k .0); good = b .good };
     }
 
-pub cues-end : {c : Text} {n at : ℕ} → AtLine c n at → length c ≤ at → n ≡ length (lines c)
-cues-end b h = stand-stop _ _ _ (b .stand) h
+pub cues-passed : {c : Text} {n at : ℕ} → AtLine c n at → length c ≤ at → n ≡ length (lines c)
+cues-passed b h = stand-stop _ _ _ (b .stand) h
 
 -- one line more of the listing
 pub coded-next : (vs : List ℕ) {v : Said} {c : Text} {n at end : ℕ} → Cue c n at end → v ≡ decoded (getD vs n 0)
@@ -115,7 +115,7 @@ pub coded-next : (vs : List ℕ) {v : Said} {c : Text} {n at end : ℕ} → Cue 
 coded-next vs {v} {c} {n} m d = rw (drop-cons (lines c) n [] (m .counted), m .line-is, add-one, d)
 
 pub coded-end : (vs : List ℕ) {c : Text} {n at : ℕ} → AtLine c n at → length c ≤ at → listingCoded vs n (drop n (lines c)) ≡ []
-coded-end vs {c} b h = rw (cues-end b h, drop-length (lines c))
+coded-end vs {c} b h = rw (cues-passed b h, drop-length (lines c))
 
 -- what the sheet says of a cue, by the number of its kind
 module _ {s : Text} {rules : Sheet} {kinds : Names} {c : Text} {n at end k : ℕ} (w : Loaded s rules) (z : kinds ≡ rules .kinds) (m : Cue c n at end)
@@ -171,7 +171,7 @@ module _ (s c : Text) (room : ℕ) where
   pub listed-cues : {f : CueFault} {n : ℕ} → sheetRead s .outcome ≡ Read → cuesRead c ≡ CuesRefused f n → CueRefused f n ≡ listed s c room
   listed-cues {f} {n} e k = let g : sheetOutcome s ≡ Read = sym (outcome-is s) ∙ e in rw (g, k)
 
-module _ {s c : Text} {codes : List ℕ} {total : ℕ} (r : Ready s c codes total) where
+module _ {s c : Text} {codes : List ℕ} {total : ℕ} (r : ListingReady s c codes total) where
   sheet-good : sheetOutcome s ≡ Read
   sheet-good = sym (outcome-is s) ∙ r .sheet-read
 

@@ -2,7 +2,7 @@
 use mathlib.Core.Path.{_≡_, refl, sym, ap, _∙_}
 use lib.ListN.{length}
 use Rattle.sheet.specs.declared.{cues.CuesRead.the-variants.Count, sheet.SheetOutcome.the-variants.Read}
-use Rattle.sheet.specs.{Cues.cuesRead, Cues.Good.good-cues, Sheet.sheetRead, Coded.GoodCues, Coded.Ready}
+use Rattle.sheet.specs.{Cues.cuesRead, Cues.Good.good-cues, Sheet.sheetRead, Coded.GoodCues, Coded.ListingReady}
 use Rattle.sheet.specs.Coded.Laws.{listed-sheet, listed-cues, listed-long, listed-written, buffer-written}
 use native.Mathlib.Omega.{arith}
 use borrow.Author.Needs.{needs}
@@ -44,7 +44,7 @@ long c =
 
 ready : (c : tie.After-total-length)
     → let a = at-start (said c) .args in
-    Ready (a .sheet .now) (a .cues .now) (said c .say-all .last .1 .1 .1 .0) (c .total-length .result)
+    ListingReady (a .sheet .now) (a .cues .now) (said c .say-all .last .1 .1 .1 .0) (c .total-length .result)
 ready c =
     record {
       sheet-read = sheet-read (sheet-good (cues-good (said c)));

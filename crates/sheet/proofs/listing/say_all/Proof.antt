@@ -3,7 +3,7 @@ use mathlib.Core.Path.{_≡_, refl, sym, _∙_}
 use Prim.Native.Nat.{_-_, _<_}
 use lib.ListN.{length, length-set}
 use Rattle.sheet.specs.{Sheet.Walk.Loaded, Coded.AtLine, Coded.Cue, Coded.CodedUpTo}
-use Rattle.sheet.specs.Coded.Laws.{rule-few, code-said, place-ready, coded-set, before-first, before-cue, cues-end}
+use Rattle.sheet.specs.Coded.Laws.{rule-few, code-said, place-ready, coded-set, before-first, before-cue, cues-passed}
 use borrow.Author.Needs.{needs}
 use native.Mathlib.Omega.{arith}
 use Rattle.sheet.proofs.listing.say_all.Statement.{statement}
@@ -100,7 +100,7 @@ same-length c = c .before .loop .inv .3 ∙ sym (start (c .before) .pre .2)
 returns : tie.Need-returns Inv-loop μ-loop
 returns c =
     let inv = c .before .loop .inv in
-    λ i h. inv .4 i (omega (arith, cues-end (inv .0) (c .loop-test .left)))
+    λ i h. inv .4 i (omega (arith, cues-passed (inv .0) (c .loop-test .left)))
 
 pub say-all-spec : {M : Type 1} → statement M
 say-all-spec =
