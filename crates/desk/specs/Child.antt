@@ -5,6 +5,7 @@ pub mod Code
 use mathlib.Core.{Path._≡_, List.List, List.[], List._∷_}
 use Prim.Native.Nat.{ℕ, zero, suc, _+_, _-_}
 use lib.{Dec.T, ListN.length, ListN.take, ListN.drop, ListN.getD}
+use mir.Mem.{Loc}
 use Rattle.fields.specs.Bytes.{Text}
 use Rattle.model.specs.{Syntax.Syntax, Syntax.writtenNames, Syntax.numberIn, Fault.nameAt, Fault.nameFrom, Fault.places}
 use Rattle.desk.specs.{declared.child.Located.Located, Desk.replyNumber}
@@ -74,6 +75,13 @@ lengthOf (ofChildren p n) = n
 -- its bytes
 abbrev pub bytesOf : Part → Text → Text → Text
 bytesOf p m c = take (lengthOf p) (drop (startOf p) (textOf p m c))
+
+-- what `child` hands back of the texts m and c, which stand at these places: it is of the text that the part of child k belongs to, begins where
+-- that part begins, and has its bytes
+pub record Hands (m c : Text) (k : ℕ) (model children : Loc) (bytes : Text) (place : Loc) : Type 0 where
+  pub text-is : place .0 ≡ textOf (childPart m c k) (model .0) (children .0)
+  pub start-is : place .1 ≡ textOf (childPart m c k) (model .1) (children .1) + startOf (childPart m c k)
+  pub bytes-are : bytes ≡ bytesOf (childPart m c k) m c
 
 -- as the code hands it on
 abbrev pub located : Reply Part → Located

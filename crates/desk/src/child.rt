@@ -1,10 +1,10 @@
 // Child look-up: the part of a text where a child's name stands.
 
 ghost use mathlib.Core.Path.{_≡_};
-ghost use Prim.Native.Nat.{_+_, _-_, _≤_};
+ghost use Prim.Native.Nat.{_-_, _≤_};
 ghost use lib.ListN.{length};
 ghost use Rattle.fields.specs.{Limits.maxFile, Split.tab, Split.split};
-ghost use Rattle.desk.specs.Child.{startIn, found, located, childPart, childRefusal, textOf, startOf, bytesOf};
+ghost use Rattle.desk.specs.Child.{startIn, found, located, childRefusal, Hands};
 ghost use Rattle.desk.specs.Child.Code.{ChildReached, askedOf, locatedIn, locatedRead};
 use fields::children::Children;
 use fields::children::count_children;
@@ -109,7 +109,7 @@ fn locate(model: &[u8], children: &[u8], k: usize) -> Located
 // The part of the model text where the name of child k stands, or, for a name that the model lacks, the part of the children text. Where
 // `child_refusal` gives a number, the empty part at the beginning of the children text.
 pub fn child<'a>(model: &'a [u8], children: &'a [u8], k: usize) -> &'a [u8]
-    ensures { λ r. ⌜ (r .ptr .0 ≡ textOf (childPart (now (model .entry)) (now (children .entry)) k) (model .entry .ptr .0) (children .entry .ptr .0)) × (r .ptr .1 ≡ textOf (childPart (now (model .entry)) (now (children .entry)) k) (model .entry .ptr .1) (children .entry .ptr .1) + startOf (childPart (now (model .entry)) (now (children .entry)) k)) × (now r ≡ bytesOf (childPart (now (model .entry)) (now (children .entry)) k) (now (model .entry)) (now (children .entry))) ⌝ }
+    ensures { λ r. ⌜ Hands (now (model .entry)) (now (children .entry)) k (model .entry .ptr) (children .entry .ptr) (now r) (r .ptr) ⌝ }
 {
     match locate(model, children, k) {
         Located::InModel(start, len) => {

@@ -8,6 +8,7 @@ use Rattle.judge.specs.{declared.reading.NamePlace.NamePlace, declared.verdict.
 use Rattle.judge.specs.declared.verdict.ChildrenJudged.the-variants.{Verdict, ModelRefused, ChildrenRefused}
 use Rattle.sheet.specs.{declared.line.Said.Said, Cues.children, Put.Fits, Listing.wordOf, Listing.listingLine, Listing.said}
 use Rattle.sheet.specs.declared.line.Said.the-variants.{Complete, Open, Dead, NoSheet}
+use Rattle.sheet.specs.{declared.cues.CuesRead.the-variants.Count, declared.sheet.SheetOutcome.the-variants.Read, Cues.cuesRead, Sheet.sheetRead}
 
 -- by what `judge_children` answers
 abbrev pub saidFrom : ChildrenJudged → Said
@@ -57,5 +58,17 @@ pub record Cue (c : Text) (n at end : ℕ) : Type 0 where
   pub named : T (allNames (children (part c at end)))
   pub next : AtLine c (n + 1) (end + 1)
 
+-- the bytes of the first n cue lines
+abbrev pub CodedUpTo : ℕ → Text → Text → List ℕ → Type 0
+CodedUpTo n s c codes = (i : ℕ) → i < n → getD codes i 0 ≡ codeOf (said (lines s) (getD (lines c) i []))
+
 abbrev pub Coded : Text → Text → List ℕ → Type 0
-Coded s c codes = (i : ℕ) → i < length (lines c) → getD codes i 0 ≡ codeOf (said (lines s) (getD (lines c) i []))
+Coded s c codes = CodedUpTo (length (lines c)) s c codes
+
+-- a sheet and a cue list that were read, the byte of each cue, and how long the listing is
+pub record ListingReady (s c : Text) (codes : List ℕ) (total : ℕ) : Type 0 where
+  pub sheet-read : sheetRead s .outcome ≡ Read
+  pub count : ℕ
+  pub cues-read : cuesRead c ≡ Count count
+  pub coded : Coded s c codes
+  pub total-is : total ≡ length (listingCoded codes 0 (lines c))

@@ -1,9 +1,8 @@
 -- Bytes written into a buffer at a place, the others as they were.
-use mathlib.Core.{Path._≡_, Path.ap, Path.sym, Path._∙_, List.[], List._∷_, List._++_, List.append-assoc}
-use Prim.Native.Nat.{ℕ, _+_, _≤_, _<_}
-use native.Mathlib.{Omega.arith, Numerals.add-one}
-use lib.ListN.{length, take, drop, set, length-append, length-take, length-drop}
-use lib.Seq.{take-at, drop-at, drop-drop, set-split, paste, take-length}
+pub mod Laws
+use mathlib.Core.{Path._≡_, List._++_}
+use Prim.Native.Nat.{ℕ, _+_, _≤_}
+use lib.ListN.{length, take, drop}
 use Rattle.fields.specs.{Bytes.Text, Limits.maxRow, Limits.maxFile, Split.fields}
 use Rattle.sheet.specs.Cues.{children}
 
@@ -18,32 +17,9 @@ pub record Put (old new : Text) (at : ℕ) (s : Text) (end : ℕ) : Type 0 where
   pub end-is : end ≡ at + length s
   pub text-is : new ≡ take at old ++ (s ++ drop (at + length s) old)
 
-pub put-length : {old new : Text} {at : ℕ} {s : Text} {end : ℕ} → Put old new at s end → length new ≡ length old
-put-length {old} {new} {at} {s} {end} p =
-    rw (p .text-is, length-append, length-append, length-take, length-drop) (omega (arith, p .fits))
-
--- two writes, the second behind the first
-pub put-then : {old mid new : Text} {at a b : ℕ} {s t : Text} → Put old mid at s a → Put mid new a t b → Put old new at (s ++ t) b
-put-then {old} {mid} {new} {at} {a} {b} {s} {t} p q =
-    let k = put-length p in
-    let f : length (take at old ++ s) ≡ a = rw (length-append, length-take) (omega (arith, p .fits, p .end-is)) in
-    let m : mid ≡ (take at old ++ s) ++ drop (at + length s) old = p .text-is ∙ sym (append-assoc (take at old) s (drop (at + length s) old)) in
-    let x : take a mid ≡ take at old ++ s = ap (take a) m ∙ take-at (take at old ++ s) (drop (at + length s) old) a f in
-    let y : drop a mid ≡ drop (at + length s) old = ap (drop a) m ∙ drop-at (take at old ++ s) (drop (at + length s) old) a f in
-    let g : (at + length s) + length t ≡ at + length (s ++ t) = rw length-append (omega arith) in
-    let z : drop (a + length t) mid ≡ drop (at + length (s ++ t)) old =
-    sym (drop-drop (length t) a mid) ∙ ap (drop (length t)) y ∙ drop-drop (length t) (at + length s) old ∙ ap (λ n. drop n old) g in
-    record {
-      fits = rw length-append (omega (arith, p .fits, q .fits, p .end-is));
-      end-is = rw length-append (omega (arith, q .end-is, p .end-is));
-      text-is = q .text-is ∙ rw (x, z, append-assoc, append-assoc);
-    }
-
-pub put-one : (old : Text) (at b : ℕ) → at < length old → Put old (set old at b) at (b ∷ []) (at + 1)
-put-one old at b h = record { fits = omega arith; end-is = omega arith; text-is = set-split old at b h ∙ ap (λ n. take at old ++ (b ∷ drop n old)) (sym (add-one at)) }
-
--- what a loop that copies byte by byte ends in
-pub put-whole : (old new : Text) (at : ℕ) (s : Text) (i : ℕ) → i ≤ length s → length s ≤ i → at + length s ≤ length old → new ≡ paste old at s i → Put old new at s (at + i)
-put-whole old new at s i h k f e =
-    let n : i ≡ length s = omega arith in
-    record { fits = f; end-is = omega arith; text-is = e ∙ rw (n, take-length s) (append-assoc (take at old) s (drop (at + length s) old)) }
+-- the first bytes of a text, up to `at`, were written at the start of a buffer; the rest is yet to be written
+pub record Begun (old buffer whole : Text) (at : ℕ) (rest : Text) : Type 0 where
+  pub room : length whole ≤ length old
+  pub inside : at ≤ length whole
+  pub ahead : drop at whole ≡ rest
+  pub so-far : buffer ≡ take at whole ++ drop at old

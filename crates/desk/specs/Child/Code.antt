@@ -14,9 +14,10 @@ use Rattle.fields.specs.declared.children.Children.the-variants.{Count, Refused
 use Rattle.fields.specs.Split.{tab, split, part, partEnd, more}
 use Rattle.fields.specs.Split.Laws.{rejoined, joined-split, part-at, end-within}
 use Rattle.model.specs.{declared.fault.ModelFault.ModelFault, Syntax.Syntax, Syntax.writtenNames, Syntax.numberIn, Answer.answer, Answer.answered}
-use Rattle.model.specs.{Fault.Answered.name-inside}
+use Rattle.model.specs.{Fault.Answered.name-inside, Syntax.Number.number-below}
 use Rattle.model.specs.Fault.{modelNumber, Answer, Answers, refused, accepted, places}
 use Rattle.judge.specs.{declared.reading.Names.Names, declared.reading.Reading.Reading, Reading.Laws.names-are, Reading.Search.name-fits}
+use Rattle.judge.specs.{Reading.Search.parts-many}
 use Rattle.judge.specs.{Reply.Children.Laws.children-some, Reply.Judged.childrenGive}
 use Rattle.judge.specs.declared.reading.Outcome.the-variants.{Read, Refused as Unread}
 use Rattle.judge.specs.Reading.{noPlace, namesOf, readingBy, reading, partsOf}
@@ -47,19 +48,19 @@ module _ (c : Text) (k : ℕ) where
       go [] h = by-test (leb 1 k) (λ e. rw (e, lt-leb k 0 (omega (arith, leb-true 1 k e)))) (λ e. rw e)
       go (b ∷ y) h = absurd (omega arith)
 
-  module _ (size : length c ≤ maxFile) (some : length c ≡ 0 → ⊥) (x : Children) (e : x ≡ childrenOf (split tab c)) where
+  module _ (size : length c ≤ maxFile) (some : length c ≡ 0 → ⊥) {x : Children} (e : x ≡ childrenOf (split tab c)) where
     asked-some : askedOf c k ≡ askedCount x k
     unfolding askedOf
     asked-some = rw (le-ltb maxFile (length c) size, children-some c some, ← e)
 
-    pub asked-there : (n : ℕ) → x ≡ Count n → leb 1 k && leb k n ≡ true → Count n ≡ askedOf c k
-    asked-there n d t = sym (asked-some ∙ rw (d, t))
+    pub asked-there : {n : ℕ} → x ≡ Count n → leb 1 k && leb k n ≡ true → Count n ≡ askedOf c k
+    asked-there d t = sym (asked-some ∙ rw (d, t))
 
-    pub asked-missing : (n : ℕ) → x ≡ Count n → leb 1 k && leb k n ≡ false → Refused NoChild ≡ askedOf c k
-    asked-missing n d t = sym (asked-some ∙ rw (d, t))
+    pub asked-missing : {n : ℕ} → x ≡ Count n → leb 1 k && leb k n ≡ false → Refused NoChild ≡ askedOf c k
+    asked-missing d t = sym (asked-some ∙ rw (d, t))
 
-    pub asked-bad : (f : CueFault) → x ≡ Refused f → Refused f ≡ askedOf c k
-    asked-bad f d = sym (asked-some ∙ rw d)
+    pub asked-bad : {f : CueFault} → x ≡ Refused f → Refused f ≡ askedOf c k
+    asked-bad d = sym (asked-some ∙ rw d)
 
   kids-asked : {A : Type 0} (v : A) → childrenBy (child k) c v ≡ childrenGive (askedOf c k) v
   unfolding askedOf
@@ -72,9 +73,9 @@ module _ (c : Text) (k : ℕ) where
       (λ n. rw (e, n)))
 
   -- a child that is asked for and counted is there
-  pub asked-within : (n : ℕ) → askedOf c k ≡ Count n → (1 ≤ k) × (k ≤ length (split tab c)) × (length c ≤ maxFile) × (length c ≡ 0 → ⊥)
+  pub asked-within : {n : ℕ} → askedOf c k ≡ Count n → (1 ≤ k) × (k ≤ length (split tab c)) × (length c ≤ maxFile) × (length c ≡ 0 → ⊥)
   unfolding askedOf
-  asked-within n e =
+  asked-within {n} e =
       by-test (ltb maxFile (length c))
       (λ t. let z : Refused LongFile ≡ Count n = rw t at e in let o : _≡_ {A = ℕ} 0 1 = cc in absurd (omega arith))
       (λ t. go c (ltb-false maxFile (length c) t) (rw t at e))
@@ -90,7 +91,8 @@ module _ (c : Text) (k : ℕ) where
           (λ b. let z : Refused ManyChildren ≡ Count n = rw (a, b) at d in let o : _≡_ {A = ℕ} 0 1 = cc in absurd (omega arith)))
           (λ a. let z : Refused NoName ≡ Count n = rw a at d in let o : _≡_ {A = ℕ} 0 1 = cc in absurd (omega arith))
 
-      go : (y : Text) → length y ≤ maxFile → askedCount (childrenOf (childrenIn y)) k ≡ Count n → (1 ≤ k) × (k ≤ length (split tab y)) × (length y ≤ maxFile) × (length y ≡ 0 → ⊥)
+      go : (y : Text) → length y ≤ maxFile → askedCount (childrenOf (childrenIn y)) k ≡ Count n
+          → (1 ≤ k) × (k ≤ length (split tab y)) × (length y ≤ maxFile) × (length y ≡ 0 → ⊥)
       go [] l d = let h = there [] d in absurd (omega (arith, h .0, h .1))
       go (b ∷ y) l d = let h = there (split tab (b ∷ y)) d in (h .0, h .1, l, λ z. omega arith)
 
@@ -116,30 +118,35 @@ start-next (p ∷ l) zero h = go l
     go (q ∷ l) = omega arith
 start-next (p ∷ l) (suc i) h = omega (arith, start-next l i (omega arith))
 
-module _ (c : Text) (i at : ℕ) (r : ChildReached c i at) (h : i < length (split tab c)) where
+-- child i, from `at` to `end`
+pub record ChildEnds (c : Text) (i at end : ℕ) : Type 0 where
+  pub bounds : (at ≤ end) × (end ≤ length c)
+  pub name-is : take (end - at) (drop at c) ≡ getD (split tab c) i []
+  pub long : end - at ≡ length (getD (split tab c) i [])
+
+module _ {c : Text} {i at : ℕ} (r : ChildReached c i at) (h : i < length (split tab c)) where
   here-is : (part c at (partEnd c tab at) ≡ getD (split tab c) i []) × (more c tab (partEnd c tab at) ≡ drop (suc i) (split tab c))
   here-is =
-      let g : part c at (partEnd c tab at) ∷ more c tab (partEnd c tab at) ≡ getD (split tab c) i [] ∷ drop (suc i) (split tab c) = sym (part-at c tab at (r .within)) ∙ r .left ∙ drop-cons (split tab c) i [] h in
+      let g = sym (part-at c tab at (r .within)) ∙ r .left ∙ drop-cons (split tab c) i [] h in
       (head-eq-of-cons-eq g, tail-eq-of-cons-eq g)
 
-  pub reached-name : (e : ℕ) → e ≡ partEnd c tab at → take (e - at) (drop at c) ≡ getD (split tab c) i []
-  reached-name e k = rw k (here-is .0)
+  pub reached-end : {e : ℕ} → e ≡ partEnd c tab at → ChildEnds c i at e
+  reached-end {e} k =
+      let name : take (e - at) (drop at c) ≡ getD (split tab c) i [] = rw k (here-is .0) in
+      let b : (at ≤ e) × (e ≤ length c) = (omega (arith, k), rw k (end-within c tab at (r .within))) in
+      record {
+        bounds = b;
+        name-is = name;
+        long = sym (ap length (sym name) ∙ length-take (e - at) (drop at c) ∙ omega (arith, length-drop at c, b .0, b .1));
+      }
 
-  pub reached-bounds : (e : ℕ) → e ≡ partEnd c tab at → (at ≤ e) × (e ≤ length c)
-  reached-bounds e k = (omega (arith, k), rw k (end-within c tab at (r .within)))
-
-  pub reached-long : (e : ℕ) → e ≡ partEnd c tab at → e - at ≡ length (getD (split tab c) i [])
-  reached-long e k =
-      let b = reached-bounds e k in
-      sym (ap length (sym (reached-name e k)) ∙ length-take (e - at) (drop at c) ∙ omega (arith, length-drop at c, b .0, b .1))
-
-  pub reached-next : suc i < length (split tab c) → (e : ℕ) → e ≡ partEnd c tab at → ChildReached c (i + 1) (e + 1)
-  reached-next l e k =
-      let b = reached-bounds e k in
+  pub reached-next : {e : ℕ} → suc i < length (split tab c) → e ≡ partEnd c tab at → ChildReached c (i + 1) (e + 1)
+  reached-next {e} l k =
+      let b = reached-end k in
       let m = here-is .1 in
       by-test (ltb e (length c))
       (λ t. record {
-        at-is = rw (add-one i) (omega (arith, start-next (split tab c) i h, r .at-is, reached-long e k, b .0));
+        at-is = rw (add-one i) (omega (arith, start-next (split tab c) i h, r .at-is, b .long, b .bounds));
         within = omega (arith, ltb-true e (length c) t);
         left = rw (add-one e, add-one i) (rw (← k, t) at m);
       })
@@ -154,7 +161,8 @@ locatedIn ns (suc n) at len = InModel (getD (ns .places) n noPlace .start) (getD
 pub located-none : (ns : Names) (n at len : ℕ) → n ≡ 0 → InChildren at len ≡ locatedIn ns n at len
 located-none ns n at len e = rw e
 
-pub located-some : (ns : Names) (n at len : ℕ) → (n ≡ 0 → ⊥) → InModel (getD (ns .places) (n - 1) noPlace .start) (getD (ns .places) (n - 1) noPlace .len) ≡ locatedIn ns n at len
+pub located-some : (ns : Names) (n at len : ℕ) → (n ≡ 0 → ⊥)
+    → InModel (getD (ns .places) (n - 1) noPlace .start) (getD (ns .places) (n - 1) noPlace .len) ≡ locatedIn ns n at len
 located-some ns zero at len o = absurd (o refl)
 located-some ns (suc n) at len o = let z : suc n - 1 ≡ n = omega arith in rw z
 
@@ -166,16 +174,20 @@ unfoldable pub locatedRead : Text → Names → Text → ℕ → Located
 locatedRead m ns c k = locatedBy m ns c k (askedOf c k)
 
 module _ (m : Text) (ns : Names) (c : Text) (k : ℕ) where
-  pub read-missing : (f : CueFault) → askedOf c k ≡ Refused f → ChildrenRefused f ≡ locatedRead m ns c k
+  pub read-missing : {f : CueFault} → askedOf c k ≡ Refused f → ChildrenRefused f ≡ locatedRead m ns c k
   unfolding locatedRead
-  read-missing f e = rw e
+  read-missing e = rw e
 
-  pub read-there : (x : Located) (n number at len : ℕ) (name : Text) → x ≡ locatedIn ns number at len → askedOf c k ≡ Count n → number ≡ numberIn (partsOf m ns) name
-      → name ≡ getD (split tab c) (k - 1) [] → at ≡ startIn (split tab c) (k - 1) → len ≡ length (getD (split tab c) (k - 1) []) → x ≡ locatedRead m ns c k
+  pub read-there : {x : Located} {n number at end : ℕ} → askedOf c k ≡ Count n → at ≡ startIn (split tab c) (k - 1) → ChildEnds c (k - 1) at end
+      → number ≡ numberIn (partsOf m ns) (take (end - at) (drop at c)) → x ≡ locatedIn ns number at (end - at) → x ≡ locatedRead m ns c k
   unfolding locatedRead
-  read-there x n number at len name i e p d q l =
-      let s = children-some c (asked-within c k n e .3) in
-      i ∙ rw (e, s, p, q, l, d)
+  read-there {at = at} e q b p i =
+      let s = children-some c (asked-within c k e .3) in
+      i ∙ rw (e, s, p, b .name-is, b .long, q)
+
+-- a number of a name is at most how many places there are
+pub number-few : (m : Text) (ns : Names) (name : Text) {n : ℕ} → length (ns .places) ≡ 64 → n ≡ numberIn (partsOf m ns) name → n ≤ 64
+number-few m ns name l e = omega (arith, e, number-below 0 (partsOf m ns) name, parts-many m ns name l)
 
 -- what the code finds is what is meant
 module _ (m c : Text) (k : ℕ) where
@@ -195,21 +207,21 @@ module _ (m c : Text) (k : ℕ) where
       go (Count n) = rw (names-are m t h) (by-number (numberIn (writtenNames t) (childName c k)) refl)
       go (Refused f) = refl
 
-  module _ (x : Reading) (e : x ≡ reading m) where
-    pub located-read : (y : Located) → y ≡ locatedRead m (x .names) c k → x .outcome ≡ Read → y ≡ located (found m c k)
-    located-read y = rw e (go (answer m) refl)
+  module _ {x : Reading} (e : x ≡ reading m) where
+    pub located-read : {y : Located} → y ≡ locatedRead m (x .names) c k → x .outcome ≡ Read → y ≡ located (found m c k)
+    located-read {y} = rw e (go (answer m) refl)
       where
         go : (a : Answer) → answer m ≡ a → y ≡ locatedRead m (readingBy m a .names) c k → readingBy m a .outcome ≡ Read → y ≡ located (found m c k)
         go (refused f p) d i o = let z : _≡_ {A = ℕ} 0 1 = cc in absurd (omega arith)
         go (accepted t) d i o = i ∙ located-is t (rw d at (answered m)) d
 
-    pub located-unread : (f : ModelFault) (p : ℕ) → x .outcome ≡ Unread f p → ModelRefused f ≡ located (found m c k)
+    pub located-unread : {f : ModelFault} {p : ℕ} → x .outcome ≡ Unread f p → ModelRefused f ≡ located (found m c k)
     unfolding found
-    located-unread = rw e (go (answer m) refl)
+    located-unread {f} {p} = rw e (go (answer m) refl)
       where
-        go : (a : Answer) → answer m ≡ a → (f : ModelFault) (p : ℕ) → readingBy m a .outcome ≡ Unread f p → ModelRefused f ≡ located (found m c k)
-        go (refused g q) d f p o = let z : f ≡ g = cc in rw (d, z)
-        go (accepted t) d f p o = let z : _≡_ {A = ℕ} 0 1 = cc in absurd (omega arith)
+        go : (a : Answer) → answer m ≡ a → readingBy m a .outcome ≡ Unread f p → ModelRefused f ≡ located (found m c k)
+        go (refused g q) d o = let z : f ≡ g = cc in rw (d, z)
+        go (accepted t) d o = let z : _≡_ {A = ℕ} 0 1 = cc in absurd (omega arith)
 
 -- a child lies inside the children text
 start-within : (l : List Text) (i : ℕ) → i < length l → startIn l i + length (getD l i []) ≤ length (rejoined tab l)
@@ -242,7 +254,7 @@ Inside m c (InChildren s n) = s + n ≤ length c
 Inside m c (ModelRefused f) = Unit {0}
 Inside m c (ChildrenRefused f) = Unit {0}
 
-module _ (m c : Text) (k : ℕ) (x y : Located) (e : x ≡ located (found m c k)) (d : x ≡ y) where
+module _ (m c : Text) (k : ℕ) {x y : Located} (e : x ≡ located (found m c k)) (d : x ≡ y) where
   is : located (found m c k) ≡ y
   is = sym e ∙ d
 

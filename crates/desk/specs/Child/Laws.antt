@@ -27,7 +27,8 @@ module _ (m c : Text) (k : ℕ) (t : Syntax) (h : Answers m (accepted t)) where
   stands-by (suc n) e = let f = name-here n e in (f .1, f .2, refl)
 
   -- no name stands at two places
-  only-place : (p n : ℕ) → T (nameAt m p) → nameFrom m p ≡ childName c k → numberIn (writtenNames t) (childName c k) ≡ suc n → getD (places m (length m)) n 0 ≡ p
+  only-place : (p n : ℕ) → T (nameAt m p) → nameFrom m p ≡ childName c k → numberIn (writtenNames t) (childName c k) ≡ suc n
+      → getD (places m (length m)) n 0 ≡ p
   only-place p n a e d =
       let f = name-here n d in
       let q = getD (places m (length m)) n 0 in
@@ -43,7 +44,9 @@ module _ (m c : Text) (k : ℕ) (t : Syntax) (h : Answers m (accepted t)) where
       from-none 0 (writtenNames t) (childName c k) (tally (nameAt (text t)) p) z (f .0) (f .1 ∙ ap (λ y. nameFrom y p) (h .1 .spelt) ∙ e)
 
   agrees : (v : Part) → (partIn m c k t ≡ v) ↔ PartStands m c k t v
-  agrees v = (λ e. subst (PartStands m c k t) e (stands-by (numberIn (writtenNames t) (childName c k)) refl), λ s. back v s (numberIn (writtenNames t) (childName c k)) refl)
+  agrees v =
+      let n = numberIn (writtenNames t) (childName c k) in
+      (λ e. subst (PartStands m c k t) e (stands-by n refl), λ s. back v s n refl)
     where
       back : (v : Part) → PartStands m c k t v → (n : ℕ) → numberIn (writtenNames t) (childName c k) ≡ n → partBy m c k n ≡ v
       back (ofModel p l) s zero e = absurd (is-there p (s .0) (s .1) e)

@@ -65,8 +65,8 @@ judgedNumber (Said v) = verdictNumber v
 judgedNumber (ModelRefused f) = modelNumber f
 judgedNumber (ChildrenRefused f) = cueNumber f
 
-pub judged-number : (m c : Text) (x y : ChildrenJudged) → x ≡ judgedOf (childrenReply m c) → x ≡ y → judgedNumber y ≡ deskAnswer m c
-judged-number m c x y e d = sym (ap judgedNumber d) ∙ ap judgedNumber e ∙ go (childrenReply m c)
+pub judged-number : (m c : Text) {x y : ChildrenJudged} → x ≡ judgedOf (childrenReply m c) → x ≡ y → judgedNumber y ≡ deskAnswer m c
+judged-number m c e d = sym (ap judgedNumber d) ∙ ap judgedNumber e ∙ go (childrenReply m c)
   where
     go : (r : Reply Verdict) → judgedNumber (judgedOf r) ≡ replyNumber verdictNumber r
     go (modelRefused f) = refl

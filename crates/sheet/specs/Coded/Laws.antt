@@ -1,18 +1,17 @@
 -- How a listing is made: what is said of a cue, the verdicts as bytes, and the lines one behind the other.
 use mathlib.Core.{Path._≡_, Path.refl, Path.ap, Path.ap₂, Path.sym, Path._∙_, Logic.by-cases, Bool.Bool, Bool.true, Bool.false, Bool.cond}
-use mathlib.Core.List.{List, [], _∷_, _++_, map, append-assoc, append-nil}
+use mathlib.Core.List.{List, [], _∷_, _++_, map}
 use Prim.Native.Nat.{ℕ, suc, _+_, _-_, _≤_, _<_}
 use native.Mathlib.{Decide.decLt, Omega.arith, Numerals.add-one}
 use lib.Dec.{eqb, leb}
-use lib.ListN.{length, take, drop, getD, set, length-append, length-map, length-take, length-drop, drop-of-length-le}
-use lib.Seq.{take-at, drop-at, take-all, take-add, drop-cons, drop-drop, drop-length, take-length, getD-set-same, getD-set-other}
+use lib.ListN.{length, take, drop, getD, set, length-map, length-take, length-drop}
+use lib.Seq.{drop-cons, drop-length, getD-set-same, getD-set-other}
 use borrow.Author.Tests.{eqb-true, eqb-false, leb-true, le-leb, lt-leb, le-ltb, lt-ltb}
-use borrow.Rule.Slice.PartMut.{putMid}
 use Rattle.fields.specs.{Tests.by-test, Bytes.Text, Bytes.Laws.T-true, Limits.maxRow, Limits.maxFile, declared.fault.CueFault.CueFault}
 use Rattle.fields.specs.{declared.split.Heads.Heads, Heads.headsOf, Children.allNames, Bytes.Numeral.digits-length}
 use Rattle.fields.specs.Split.{lineFeed, tab, split, lines, field, part, partEnd}
-use Rattle.fields.specs.Split.Laws.{stand-start, stand-next, end-bounds, part-rest}
-use Rattle.fields.specs.Heads.Laws.{fields-three, Three, more-none}
+use Rattle.fields.specs.Split.Laws.{stand-start, stand-stop, stand-next, end-bounds, part-rest}
+use Rattle.fields.specs.Heads.Laws.{Three, more-none}
 use Rattle.judge.specs.{declared.reading.NamePlace.NamePlace, declared.reading.Names.Names, Reading.partAt, Reading.partsOf}
 use Rattle.judge.specs.Reply.{childrenIn, row, replyBy, rowIn, childrenReply, judgedOf}
 use Rattle.model.specs.{Syntax.numberIn, Fault.Answer, Fault.refused, Fault.accepted, Answer.answer, Model.modelOf, Model.typeOf, Verdict.verdict}
@@ -21,13 +20,13 @@ use Rattle.sheet.specs.{declared.line.Said.Said, declared.sheet.Entry.En
 use Rattle.sheet.specs.{Sheet.Walk.Loaded, declared.sheet.SheetFault.SheetFault, declared.sheet.SheetOutcome.SheetOutcome}
 use Rattle.sheet.specs.{declared.cues.CuesRead.CuesRead, Put.Put, Put.Fits}
 use Rattle.sheet.specs.declared.line.Said.the-variants.{Complete, Open, Dead, NoSheet}
-use Rattle.sheet.specs.Sheet.{kind, model, sheetOutcome, sheetBy, sheetRead}
+use Rattle.sheet.specs.Sheet.{kind, sheetOutcome, sheetBy, sheetRead}
 use Rattle.sheet.specs.declared.sheet.SheetOutcome.the-variants.{Read, Refused as SheetIsRefused}
 use Rattle.sheet.specs.declared.cues.CuesRead.the-variants.{Count as CuesCount, Refused as CuesRefused}
 use Rattle.sheet.specs.declared.listing.Listed.the-variants.{Written, SheetRefused, CueRefused, TooLong}
 use Rattle.sheet.specs.Listing.{listingLine, listingBy, saidBy, saidOf, said, listing, listed, bySheet, byCues, bufferAfter}
-use Rattle.sheet.specs.Listing.Laws.{enough, cue-three, line-length, word-short}
-use Rattle.sheet.specs.Coded.{saidFrom, codeOf, decoded, listingCoded, CueReady, GoodCues, AtLine, Cue, Coded}
+use Rattle.sheet.specs.Listing.Laws.{cue-three, line-length, word-short}
+use Rattle.sheet.specs.Coded.{saidFrom, codeOf, decoded, listingCoded, CueReady, GoodCues, AtLine, Cue, CodedUpTo, ListingReady}
 
 -- of children that are good, the judge's answer says what the model says
 said-judged : (m c : Text) → length c ≤ maxFile → allNames (childrenIn c) ≡ true → length (childrenIn c) ≤ maxRow
@@ -45,14 +44,16 @@ children-in [] n = let z : _≡_ {A = ℕ} 0 1 = cc n in absurd (omega arith)
 children-in (b ∷ c) n = refl
 
 -- what the model m says of a cue line
-module _ (s m : Text) (p : NamePlace) (l : Text) (r : CueReady s p l) (e : m ≡ partAt s p) (h : Heads) (i : h ≡ headsOf l) where
+module _ {s m : Text} {p : NamePlace} {l : Text} {h : Heads} (r : CueReady s p l) (e : m ≡ partAt s p) (i : h ≡ headsOf l) where
   ready-three : Three l h
-  ready-three = cue-three l h i (r .fits .enough)
+  ready-three = cue-three i (r .fits)
+
+  ready-named : allNames (children l) ≡ true
+  ready-named = T-true (allNames (children l)) (r .named)
 
   say : (c : Text) → childrenIn c ≡ children l → length c ≤ length l → saidFrom (judgedOf (childrenReply m c)) ≡ saidOf (partAt s p) (children l)
   say c q k =
-      said-judged m c (omega (arith, r .fits .short)) (ap allNames q ∙ T-true (allNames (children l)) (r .named)) (omega (arith, ap length q, r .fits .few))
-      ∙ ap₂ saidOf e q
+      said-judged m c (omega (arith, r .fits .short)) (ap allNames q ∙ ready-named) (omega (arith, ap length q, r .fits .few)) ∙ ap₂ saidOf e q
 
   pub say-none : length l ≤ h .third → saidFrom (judgedOf (childrenReply m [])) ≡ saidOf (partAt s p) (children l)
   say-none k = say [] (sym (ready-three .behind-is ∙ more-none l (h .third) k)) (omega arith)
@@ -61,7 +62,7 @@ module _ (s m : Text) (p : NamePlace) (l : Text) (r : CueReady s p l) (e : m ≡
   say-some k =
       let c = part l (h .third + 1) (length l) in
       let q : children l ≡ split tab c = ready-three .behind-is ∙ rw (lt-ltb (h .third) (length l) k, part-rest l (h .third + 1), add-one) in
-      say c (children-in c (ap allNames (sym q) ∙ T-true (allNames (children l)) (r .named)) ∙ sym q) (rw (length-take, length-drop) (omega arith))
+      say c (children-in c (ap allNames (sym q) ∙ ready-named) ∙ sym q) (rw (length-take, length-drop) (omega arith))
 
 -- the bytes give the verdicts back
 pub decoded-code : (v : Said) → decoded (codeOf v) ≡ v
@@ -70,72 +71,20 @@ decoded-code Open = refl
 decoded-code Dead = refl
 decoded-code NoSheet = refl
 
-pub coded-from : (f : Text → Said) (vs : List ℕ) (i : ℕ) (ls : List Text) → ((k : ℕ) → k < length ls → getD vs (i + k) 0 ≡ codeOf (f (getD ls k []))) → listingCoded vs i ls ≡ listingBy f ls
+coded-from : (f : Text → Said) (vs : List ℕ) (i : ℕ) (ls : List Text)
+    → ((k : ℕ) → k < length ls → getD vs (i + k) 0 ≡ codeOf (f (getD ls k []))) → listingCoded vs i ls ≡ listingBy f ls
 coded-from f vs i [] h = refl
 coded-from f vs i (l ∷ ls) h =
     let z : i ≡ i + 0 = omega arith in
     let e : decoded (getD vs i 0) ≡ f l = ap (λ k. decoded (getD vs k 0)) z ∙ ap decoded (h 0 (omega arith)) ∙ decoded-code (f l) in
-    ap₂ (λ a b. a ++ b) (ap (listingLine l) e) (coded-from f vs (suc i) ls (λ k o. let y : suc i + k ≡ i + suc k = omega arith in ap (λ j. getD vs j 0) y ∙ h (suc k) (omega arith)))
-
--- one line more
-pub coded-next : (vs : List ℕ) (ls : List Text) (n : ℕ) (l : Text) → n < length ls → getD ls n [] ≡ l
-    → listingCoded vs n (drop n ls) ≡ listingLine l (decoded (getD vs n 0)) ++ listingCoded vs (n + 1) (drop (n + 1) ls)
-coded-next vs ls n l h e = rw (drop-cons ls n [] h, e, add-one)
-
-pub coded-end : (vs : List ℕ) (ls : List Text) (n : ℕ) → n ≡ length ls → listingCoded vs n (drop n ls) ≡ []
-coded-end vs ls n e = rw (e, drop-length ls)
+    ap₂ (λ a b. a ++ b) (ap (listingLine l) e)
+    (coded-from f vs (suc i) ls (λ k o. let y : suc i + k ≡ i + suc k = omega arith in ap (λ j. getD vs j 0) y ∙ h (suc k) (omega arith)))
 
 -- no line is longer than this
-pub line-short : (l : Text) (v : Said) → Fits l → length (listingLine l v) ≤ 66000
-line-short l v f =
-    let h = headsOf l in
-    let t = fields-three l h refl (enough l h refl (f .enough)) in
-    omega (arith, line-length l h v (length (children l)) t refl, t .ascending, word-short v, digits-length (length (children l)), f .short)
-
--- a line behind the others, in the part of the buffer that they left free
-module _ (old buffer whole line rest : Text) (at : ℕ) (b : buffer ≡ take at whole ++ drop at old) (k : at ≤ length whole) (m : length whole ≤ length old) (w : drop at whole ≡ line ++ rest) where
-  front-length : length (take at whole) ≡ at
-  front-length = length-take at whole ∙ omega arith
-
-  pub buffer-length : length buffer ≡ length old
-  buffer-length = rw (b, length-append, front-length, length-drop) (omega arith)
-
-  rest-free : drop at buffer ≡ drop at old
-  rest-free = ap (drop at) b ∙ drop-at (take at whole) (drop at old) at front-length
-
-  pub line-fits : at + length line ≤ length whole
-  line-fits = omega (arith, length-drop at whole, ap length w, length-append line rest)
-
-  pub room-left : length line ≤ length (take (length buffer - at) (drop at buffer))
-  room-left = rw (length-take, length-drop) (omega (arith, buffer-length, line-fits))
-
-  pub lines-ahead : drop (at + length line) whole ≡ rest
-  lines-ahead = sym (drop-drop (length line) at whole) ∙ ap (drop (length line)) w ∙ drop-at line rest (length line) refl
-
-  pub line-put : (y : Text) (n : ℕ) → Put (take (length buffer - at) (drop at buffer)) y 0 line n
-      → putMid at (length buffer - at) buffer y ≡ take (at + n) whole ++ drop (at + n) old
-  line-put y n p =
-      let a : take (length buffer - at) (drop at buffer) ≡ drop at old = take-all (length buffer - at) (drop at buffer) (rw length-drop (omega arith)) ∙ rest-free in
-      let n-is : n ≡ length line = p .end-is ∙ omega arith in
-      let z : y ≡ line ++ drop (at + length line) old = p .text-is ∙ ap (λ r. line ++ drop (0 + length line) r) a ∙ ap (λ r. line ++ r) (drop-drop (0 + length line) at old ∙ ap (λ j. drop j old) (omega-at at (length line))) in
-      let f : take at buffer ≡ take at whole = ap (take at) b ∙ take-at (take at whole) (drop at old) at front-length in
-      let t : take (at + length line) whole ≡ take at whole ++ line = take-add at (length line) whole ∙ ap (λ r. take at whole ++ r) (ap (take (length line)) w ∙ take-at line rest (length line) refl) in
-      rest-put buffer y at ∙ rw (f, z, n-is, t, append-assoc)
-    where
-      omega-at : (i j : ℕ) → i + (0 + j) ≡ i + j
-      omega-at i j = omega arith
-
-      rest-put : (l z : Text) (i : ℕ) → putMid i (length l - i) l z ≡ take i l ++ z
-      rest-put l z i =
-          ap (λ r. take i l ++ (z ++ r)) (drop-of-length-le (drop i l) {i = length l - i} (rw length-drop (omega arith))) ∙ ap (λ r. take i l ++ r) (append-nil z)
-
-pub put-all : (old new whole : Text) (at : ℕ) → length whole ≤ length old → at ≤ length whole → drop at whole ≡ [] → new ≡ take at whole ++ drop at old → Put old new 0 whole (length whole)
-put-all old new whole at m k e b =
-    let j : at ≡ length whole = omega (arith, length-drop at whole, ap length e) in
-    record { fits = omega arith; end-is = omega arith; text-is = b ∙ rw (j, take-length whole) (ap (λ i. whole ++ drop i old) (omega-zero (length whole))) }
-  where
-    omega-zero : (i : ℕ) → i ≡ 0 + i
-    omega-zero i = omega arith
+pub line-short : {l : Text} (v : Said) → Fits l → length (listingLine l v) ≤ 66000
+line-short {l} v f =
+    let t = cue-three {l = l} {h = headsOf l} refl f in
+    omega (arith, line-length v t refl, t .ascending, word-short v, digits-length (length (children l)), f .short)
 
 pub part-at-place : (s : Text) (p : NamePlace) → part s (p .start) (p .start + p .len) ≡ partAt s p
 part-at-place s p = let e : (p .start + p .len) - p .start ≡ p .len = omega arith in ap (λ n. take n (drop (p .start) s)) e
@@ -157,6 +106,17 @@ before-cue {c} {n} {at} {end} b h e =
       next = record { stand = v .stand; below = omega (arith, b .below, k .0); good = b .good };
     }
 
+pub cues-passed : {c : Text} {n at : ℕ} → AtLine c n at → length c ≤ at → n ≡ length (lines c)
+cues-passed b h = stand-stop _ _ _ (b .stand) h
+
+-- one line more of the listing
+pub coded-next : (vs : List ℕ) {v : Said} {c : Text} {n at end : ℕ} → Cue c n at end → v ≡ decoded (getD vs n 0)
+    → listingCoded vs n (drop n (lines c)) ≡ listingLine (part c at end) v ++ listingCoded vs (n + 1) (drop (n + 1) (lines c))
+coded-next vs {v} {c} {n} m d = rw (drop-cons (lines c) n [] (m .counted), m .line-is, add-one, d)
+
+pub coded-end : (vs : List ℕ) {c : Text} {n at : ℕ} → AtLine c n at → length c ≤ at → listingCoded vs n (drop n (lines c)) ≡ []
+coded-end vs {c} b h = rw (cues-passed b h, drop-length (lines c))
+
 -- what the sheet says of a cue, by the number of its kind
 module _ {s : Text} {rules : Sheet} {kinds : Names} {c : Text} {n at end k : ℕ} (w : Loaded s rules) (z : kinds ≡ rules .kinds) (m : Cue c n at end)
     (e : k ≡ numberIn (partsOf s kinds) (field 2 (part c at end))) where
@@ -174,9 +134,11 @@ module _ {s : Text} {rules : Sheet} {kinds : Names} {c : Text} {n at end k : ℕ
   rule-inside : (k ≡ 0 → ⊥) → k - 1 < length (lines s)
   rule-inside o = omega (arith, o, number-is, number-below 0 (map kind (lines s)) (field 2 cue), length-map (lines s) kind)
 
-  pub code-said : (d : Entry) (code : ℕ) → code ≡ cond (eqb k 0) 3 (codeOf (saidOf (partAt s (getD (rules .entries) (k - 1) d .model)) (children (part c at end)))) → code ≡ codeOf (said (lines s) (getD (lines c) n []))
+  pub code-said : (d : Entry) {code : ℕ}
+      → code ≡ cond (eqb k 0) 3 (codeOf (saidOf (partAt s (getD (rules .entries) (k - 1) d .model)) (children (part c at end))))
+      → code ≡ codeOf (said (lines s) (getD (lines c) n []))
   unfolding cue
-  code-said d code q =
+  code-said d q =
       by-test (eqb k 0)
       (λ o. let y : numberIn (map kind (lines s)) (field 2 cue) ≡ 0 = sym number-is ∙ eqb-true k 0 o in q ∙ rw (m .line-is, o, y))
       (λ o. let y : numberIn (map kind (lines s)) (field 2 cue) ≡ suc (k - 1) = sym number-is ∙ omega (arith, eqb-false k 0 o) in
@@ -187,55 +149,59 @@ module _ {s : Text} {rules : Sheet} {kinds : Names} {c : Text} {n at end k : ℕ
   place-ready d o = record { inside = w .entries-good (k - 1) d (rule-inside o) .inside; fits = m .fits; named = m .named }
 
 -- one byte more
-pub coded-set : (f : Text → Said) (ls : List Text) (vs : List ℕ) (n v : ℕ) → n < length vs → ((i : ℕ) → i < n → getD vs i 0 ≡ codeOf (f (getD ls i []))) → v ≡ codeOf (f (getD ls n []))
-    → (i : ℕ) → i < n + 1 → getD (set vs n v) i 0 ≡ codeOf (f (getD ls i []))
-coded-set f ls vs n v o h e i k =
+pub coded-set : (s c : Text) (vs : List ℕ) (n : ℕ) {v : ℕ} → n < length vs → CodedUpTo n s c vs → v ≡ codeOf (said (lines s) (getD (lines c) n []))
+    → CodedUpTo (n + 1) s c (set vs n v)
+coded-set s c vs n {v} o h e i k =
     by-cases (decLt i n)
     (λ q. rw (getD-set-other vs n i v 0 (λ y. omega (arith, y))) (h i q))
     (λ q. let y : i ≡ n = omega arith in rw (y, getD-set-same vs n v 0 o) e)
 
 -- what the listing is answered
+outcome-is : (s : Text) → sheetRead s .outcome ≡ sheetOutcome s
+outcome-is s = go (sheetOutcome s)
+  where
+    go : (o : SheetOutcome) → sheetBy s o .outcome ≡ o
+    go Read = refl
+    go (SheetIsRefused f n) = refl
+
 module _ (s c : Text) (room : ℕ) where
-  outcome-is : sheetRead s .outcome ≡ sheetOutcome s
-  outcome-is = go (sheetOutcome s)
-    where
-      go : (o : SheetOutcome) → sheetBy s o .outcome ≡ o
-      go Read = refl
-      go (SheetIsRefused f n) = refl
+  pub listed-sheet : {f : SheetFault} {n : ℕ} → sheetRead s .outcome ≡ SheetIsRefused f n → SheetRefused f n ≡ listed s c room
+  listed-sheet {f} {n} e = let k : sheetOutcome s ≡ SheetIsRefused f n = sym (outcome-is s) ∙ e in rw k
 
-  pub listed-sheet : (f : SheetFault) (n : ℕ) → sheetRead s .outcome ≡ SheetIsRefused f n → SheetRefused f n ≡ listed s c room
-  listed-sheet f n e = let k : sheetOutcome s ≡ SheetIsRefused f n = sym outcome-is ∙ e in rw k
+  pub listed-cues : {f : CueFault} {n : ℕ} → sheetRead s .outcome ≡ Read → cuesRead c ≡ CuesRefused f n → CueRefused f n ≡ listed s c room
+  listed-cues {f} {n} e k = let g : sheetOutcome s ≡ Read = sym (outcome-is s) ∙ e in rw (g, k)
 
-  module _ (e : sheetRead s .outcome ≡ Read) where
-    sheet-good : sheetOutcome s ≡ Read
-    sheet-good = sym outcome-is ∙ e
+module _ {s c : Text} {codes : List ℕ} {total : ℕ} (r : ListingReady s c codes total) where
+  sheet-good : sheetOutcome s ≡ Read
+  sheet-good = sym (outcome-is s) ∙ r .sheet-read
 
-    pub listed-cues : (f : CueFault) (n : ℕ) → cuesRead c ≡ CuesRefused f n → CueRefused f n ≡ listed s c room
-    listed-cues f n k = rw (sheet-good, k)
+  coded-listing : listingCoded codes 0 (lines c) ≡ listing s c
+  coded-listing =
+      coded-from (said (lines s)) codes 0 (lines c) (λ i h. let z : 0 + i ≡ i = omega arith in ap (λ j. getD codes j 0) z ∙ r .coded i h)
 
-    module _ (m : ℕ) (k : cuesRead c ≡ CuesCount m) (codes : List ℕ) (v : Coded s c codes) (total : ℕ) (t : total ≡ length (listingCoded codes 0 (lines c))) where
-      pub coded-listing : listingCoded codes 0 (lines c) ≡ listing s c
-      coded-listing = coded-from (said (lines s)) codes 0 (lines c) (λ i h. let z : 0 + i ≡ i = omega arith in ap (λ j. getD codes j 0) z ∙ v i h)
+  total-listing : total ≡ length (listing s c)
+  total-listing = r .total-is ∙ ap length coded-listing
 
-      total-is : total ≡ length (listing s c)
-      total-is = t ∙ ap length coded-listing
+  pub listed-long : (room : ℕ) → room < total → TooLong ≡ listed s c room
+  listed-long room h = rw (sheet-good, r .cues-read, lt-leb (length (listing s c)) room (omega (arith, total-listing)))
 
-      pub listed-long : room < total → TooLong ≡ listed s c room
-      listed-long h = rw (sheet-good, k, lt-leb (length (listing s c)) room (omega (arith, total-is)))
+  pub listed-written : (room : ℕ) → total ≤ room → Written total ≡ listed s c room
+  listed-written room h = rw (sheet-good, r .cues-read, le-leb (length (listing s c)) room (omega (arith, total-listing)), total-listing)
 
-      pub listed-written : total ≤ room → Written total ≡ listed s c room
-      listed-written h = rw (sheet-good, k, le-leb (length (listing s c)) room (omega (arith, total-is)), total-is)
-
-      pub buffer-written : (old new : Text) → Put old new 0 (listingCoded codes 0 (lines c)) (length (listingCoded codes 0 (lines c))) → new ≡ bufferAfter (Written total) (listing s c) old
-      buffer-written old new p =
-          let z : 0 + length (listingCoded codes 0 (lines c)) ≡ total = omega (arith, t) in
-          p .text-is ∙ ap₂ (λ w j. w ++ drop j old) coded-listing z
+  pub buffer-written : {old new : Text} → Put old new 0 (listingCoded codes 0 (lines c)) (length (listingCoded codes 0 (lines c)))
+      → new ≡ bufferAfter (Written total) (listing s c) old
+  buffer-written {old} p =
+      let z : 0 + length (listingCoded codes 0 (lines c)) ≡ total = omega (arith, r .total-is) in
+      p .text-is ∙ ap₂ (λ w j. w ++ drop j old) coded-listing z
 
 -- what is written is no longer than the buffer
-pub written-fits : (s c : Text) (room n : ℕ) → Written n ≡ listed s c room → n ≤ room
-written-fits s c room n e = go (sheetOutcome s) (cuesRead c) (leb (length (listing s c)) room) (length (listing s c)) (leb-true (length (listing s c)) room) e
+pub written-fits : (s c : Text) (room : ℕ) {n : ℕ} → Written n ≡ listed s c room → n ≤ room
+written-fits s c room {n} e =
+    let m = length (listing s c) in
+    go (sheetOutcome s) (cuesRead c) (leb m room) m (leb-true m room) e
   where
-    go : (o : SheetOutcome) (q : CuesRead) (t : Bool) (m : ℕ) → (t ≡ true → m ≤ room) → Written n ≡ bySheet o (byCues q (cond t (Written m) TooLong)) → n ≤ room
+    go : (o : SheetOutcome) (q : CuesRead) (t : Bool) (m : ℕ) → (t ≡ true → m ≤ room)
+        → Written n ≡ bySheet o (byCues q (cond t (Written m) TooLong)) → n ≤ room
     go (SheetIsRefused f k) q t m h e = let z : _≡_ {A = ℕ} 0 1 = cc e in absurd (omega arith)
     go Read (CuesRefused f k) t m h e = let z : _≡_ {A = ℕ} 0 1 = cc e in absurd (omega arith)
     go Read (CuesCount k) false m h e = let z : _≡_ {A = ℕ} 0 1 = cc e in absurd (omega arith)

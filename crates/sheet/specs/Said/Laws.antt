@@ -20,8 +20,8 @@ module _ (s : Text) (e : sheetOutcome s ≡ Read) where
   -- no two lines have one kind: 25
   kinds-apart : (i j : ℕ) → i < j → j < length (map kind ls) → ¬ getD (map kind ls) i [] ≡ getD (map kind ls) j []
   kinds-apart i j h k q =
-      sheet-is s Read .0 e Repeated (suc j)
-      ((omega arith, omega (arith, k, length-map ls kind)), (suc i, omega arith, omega arith, sym (List·getD-map kind ls i []) ∙ q ∙ List·getD-map kind ls j []))
+      let same = sym (List·getD-map kind ls i []) ∙ q ∙ List·getD-map kind ls j [] in
+      sheet-is s Read .0 e Repeated (suc j) ((omega arith, omega (arith, k, length-map ls kind)), (suc i, omega arith, omega arith, same))
 
   module _ (l : Text) where
     -- what the sheet's line of that kind says
@@ -46,7 +46,8 @@ module _ (s : Text) (e : sheetOutcome s ≡ Read) where
         rw (← answer-is m (accepted t) a)
         (by-line k o p t a (verdict A w) (verdict-says A (type-conflict-free (modelOf t) (accepted-counts m t a)) w))
 
-    no-line : (m : ℕ) → numberIn (map kind ls) (field 2 l) ≡ m → ((k : ℕ) → k < length ls → ¬ kind (getD ls k []) ≡ field 2 l) → saidAt ls m (children l) ≡ NoSheet
+    no-line : (m : ℕ) → numberIn (map kind ls) (field 2 l) ≡ m → ((k : ℕ) → k < length ls → ¬ kind (getD ls k []) ≡ field 2 l)
+        → saidAt ls m (children l) ≡ NoSheet
     no-line zero q n = refl
     no-line (suc k) q n =
         let f = from-found 0 (map kind ls) (field 2 l) k q in
@@ -56,8 +57,8 @@ module _ (s : Text) (e : sheetOutcome s ≡ Read) where
     unfolding line-says no-line
     said-once a (lacking n) = no-line (numberIn (map kind ls) (field 2 l)) refl n
     said-once a (by-line k o p t h v d) =
-        line-says k o p t h
-        ∙ ap wordOf (verdict-is (typeOf (modelOf t)) (type-conflict-free (modelOf t) (accepted-counts (model (getD ls k [])) t h)) (rowOf (writtenNames t) (children l)) v .1 d)
+        let free = type-conflict-free (modelOf t) (accepted-counts (model (getD ls k [])) t h) in
+        line-says k o p t h ∙ ap wordOf (verdict-is (typeOf (modelOf t)) free (rowOf (writtenNames t) (children l)) v .1 d)
 
     pub cue-is : (a : Said) → (said ls l ≡ a) ↔ CueSaid ls l a
     unfolding by-number said-once

@@ -1,110 +1,101 @@
 -- The part lies inside its text, and stands where the look-up says.
 use mathlib.Core.Path.{refl}
+use Prim.Native.Nat.{_+_, _≤_}
 use native.Mathlib.Omega.{arith}
+use lib.ListN.{length}
 use Rattle.desk.specs.Child.Code.{part-is, inside, part-sized}
 use borrow.Author.Needs.{needs}
 use Rattle.desk.proofs.child.child.Statement.{statement}
 use Rattle.desk.proofs.child.child.Tie as tie
-use Rattle.desk.proofs.child.child.Reads as reads
-use Rattle.desk.proofs.child.child.Lts as lts
-use Rattle.desk.proofs.child.locate.Reads as locate-reads
 
-locate-requires : tie.Need-locate-requires
-locate-requires c κs = search needs
+abbrev start : tie.After-locate → tie.Start
+start l = l .before .before .before
 
-enum-known-start : tie.Need-enum-known-start
-enum-known-start c = search needs
+in-model : (c : tie.After-start) → c .start .given .0 .0 + c .start .given .0 .1 .0 ≤ length (start (c .before .before) .args .model .now)
+in-model c =
+    let l = c .before .before in
+    let a = start l .args in
+    inside (a .model .now) (a .children .now) (a .k) (l .locate .ensures) (c .start .given .1)
+
+in-children : (c : tie.After-start2) → c .start2 .given .0 .0 + c .start2 .given .0 .1 .0 ≤ length (start (c .before .before) .args .children .now)
+in-children c =
+    let l = c .before .before in
+    let a = start l .args in
+    inside (a .model .now) (a .children .now) (a .k) (l .locate .ensures) (c .start2 .given .1)
 
 add-end : tie.Need-add-end
-add-end c = let a = c .before .before .before .before .before .before .args in omega (arith, inside (a .model .now) (a .children .now) (a .k) (c .before .before .before .locate .result) _ (c .before .before .before .locate .ensures) (c .before .start .given .1))
-
-sub-result : tie.Need-sub-result
-sub-result c = search needs
-
-part-result-start : tie.Need-part-result-start
-part-result-start c = search needs
+add-end c = omega (arith, in-model (c .before))
 
 part-result-end : tie.Need-part-result-end
-part-result-end c = let a = c .before .before .before .before .before .before .args in inside (a .model .now) (a .children .now) (a .k) (c .before .before .before .locate .result) _ (c .before .before .before .locate .ensures) (c .before .start .given .1)
-
-enum-known-start-2 : tie.Need-enum-known-start-2
-enum-known-start-2 c = search needs
+part-result-end c = in-model (c .before)
 
 add-end-2 : tie.Need-add-end-2
-add-end-2 c = let a = c .before .before .before .before .before .before .args in omega (arith, inside (a .model .now) (a .children .now) (a .k) (c .before .before .before .locate .result) _ (c .before .before .before .locate .ensures) (c .before .start2 .given .1))
-
-sub-result-2 : tie.Need-sub-result-2
-sub-result-2 c = search needs
-
-part-result-start-2 : tie.Need-part-result-start-2
-part-result-start-2 c = search needs
+add-end-2 c = omega (arith, in-children (c .before))
 
 part-result-end-2 : tie.Need-part-result-end-2
-part-result-end-2 c = let a = c .before .before .before .before .before .before .args in inside (a .model .now) (a .children .now) (a .k) (c .before .before .before .locate .result) _ (c .before .before .before .locate .ensures) (c .before .start2 .given .1)
-
-enum-told : tie.Need-enum-told
-enum-told c = search needs
-
-sub-result-3 : tie.Need-sub-result-3
-sub-result-3 c = search needs
-
-part-result-start-3 : tie.Need-part-result-start-3
-part-result-start-3 c = search needs
-
-part-result-end-3 : tie.Need-part-result-end-3
-part-result-end-3 c = search needs
-
-enum-told-2 : tie.Need-enum-told-2
-enum-told-2 c = search needs
-
-sub-result-4 : tie.Need-sub-result-4
-sub-result-4 c = search needs
-
-part-result-start-4 : tie.Need-part-result-start-4
-part-result-start-4 c = search needs
-
-part-result-end-4 : tie.Need-part-result-end-4
-part-result-end-4 c = search needs
+part-result-end-2 c = in-children (c .before)
 
 returns : tie.Need-returns
-returns c = let a = c .before .before .before .before .before .before .before .args in let g = part-is (a .model .now) (a .children .now) (a .k) (c .before .before .before .before .locate .result) _ (c .before .before .before .before .locate .ensures) (c .before .before .start .given .1) in
-    rw g (refl, omega arith, part-sized (a .model .now) (c .before .before .start .given .0 .0) (c .before .before .start .given .0 .1 .0))
+returns c =
+    let p = c .before .before in
+    let l = p .before .before in
+    let a = start l .args in
+    let g = part-is (a .model .now) (a .children .now) (a .k) (l .locate .ensures) (p .start .given .1) in
+    record {
+      text-is = rw g refl;
+      start-is = rw g (omega arith);
+      bytes-are = rw g (part-sized (a .model .now) (p .start .given .0 .0) (p .start .given .0 .1 .0));
+    }
 
 returns-2 : tie.Need-returns-2
-returns-2 c = let a = c .before .before .before .before .before .before .before .args in let g = part-is (a .model .now) (a .children .now) (a .k) (c .before .before .before .before .locate .result) _ (c .before .before .before .before .locate .ensures) (c .before .before .start2 .given .1) in
-    rw g (refl, omega arith, part-sized (a .children .now) (c .before .before .start2 .given .0 .0) (c .before .before .start2 .given .0 .1 .0))
+returns-2 c =
+    let p = c .before .before in
+    let l = p .before .before in
+    let a = start l .args in
+    let g = part-is (a .model .now) (a .children .now) (a .k) (l .locate .ensures) (p .start2 .given .1) in
+    record {
+      text-is = rw g refl;
+      start-is = rw g (omega arith);
+      bytes-are = rw g (part-sized (a .children .now) (p .start2 .given .0 .0) (p .start2 .given .0 .1 .0));
+    }
 
 returns-3 : tie.Need-returns-3
-returns-3 c = let a = c .before .before .before .before .before .before .args in let g = part-is (a .model .now) (a .children .now) (a .k) (c .before .before .before .locate .result) _ (c .before .before .before .locate .ensures) (c .before .enum-told .given .1) in
-    rw g (refl, omega arith, refl)
+returns-3 c =
+    let l = c .before .before .before in
+    let a = start l .args in
+    let g = part-is (a .model .now) (a .children .now) (a .k) (l .locate .ensures) (c .before .enum-told .given .1) in
+    record { text-is = rw g refl; start-is = rw g (omega arith); bytes-are = rw g refl }
 
 returns-4 : tie.Need-returns-4
-returns-4 c = let a = c .before .before .before .before .before .before .args in let g = part-is (a .model .now) (a .children .now) (a .k) (c .before .before .before .locate .result) _ (c .before .before .before .locate .ensures) (c .before .enum-told2 .given .1) in
-    rw g (refl, omega arith, refl)
+returns-4 c =
+    let l = c .before .before .before in
+    let a = start l .args in
+    let g = part-is (a .model .now) (a .children .now) (a .k) (l .locate .ensures) (c .before .enum-told2 .given .1) in
+    record { text-is = rw g refl; start-is = rw g (omega arith); bytes-are = rw g refl }
 
 pub child-spec : {M : Type 1} → statement M
 child-spec =
     tie.close
     (tie.spec
-    locate-requires
-    enum-known-start
+    (λ c κs. search needs)
+    (λ c. search needs)
     add-end
-    sub-result
-    part-result-start
+    (λ c. search needs)
+    (λ c. search needs)
     part-result-end
-    enum-known-start-2
+    (λ c. search needs)
     add-end-2
-    sub-result-2
-    part-result-start-2
+    (λ c. search needs)
+    (λ c. search needs)
     part-result-end-2
-    enum-told
-    sub-result-3
-    part-result-start-3
-    part-result-end-3
-    enum-told-2
-    sub-result-4
-    part-result-start-4
-    part-result-end-4
+    (λ c. search needs)
+    (λ c. search needs)
+    (λ c. search needs)
+    (λ c. search needs)
+    (λ c. search needs)
+    (λ c. search needs)
+    (λ c. search needs)
+    (λ c. search needs)
     returns
     returns-2
     returns-3

@@ -17,26 +17,11 @@ abbrev μ-loop : tie.MeasureT-loop
 loop-holds : tie.Need-loop-holds Inv-loop μ-loop
 loop-holds c = (refl, search needs, fill-none _ free)
 
-mul-trail : tie.Need-mul-trail Inv-loop μ-loop
-mul-trail c = search needs
-
-slice-write-trail : tie.Need-slice-write-trail Inv-loop μ-loop
-slice-write-trail c = search needs
-
-add-i : tie.Need-add-i Inv-loop μ-loop
-add-i c = search needs
-
-loop-less : tie.Need-loop-less Inv-loop μ-loop
-loop-less c = search needs
-
 loop-again : tie.Need-loop-again Inv-loop μ-loop
 loop-again c =
     let v = c .before .loop in
     let d = c .before .before .args .trail .now in
     (simp length-set (v .inv .0), search needs, ap (λ (l : List ℕ). set l (v .i) free) (v .inv .2) ∙ fill-more (v .i) free d (omega arith))
-
-same-length : tie.Need-same-length Inv-loop μ-loop
-same-length c = search needs
 
 returns : tie.Need-returns Inv-loop μ-loop
 returns c =
@@ -52,10 +37,10 @@ free-all-spec =
     Inv-loop
     μ-loop
     loop-holds
-    mul-trail
-    slice-write-trail
-    add-i
-    loop-less
+    (λ c. search needs)
+    (λ c. search needs)
+    (λ c. search needs)
+    (λ c. search needs)
     loop-again
-    same-length
+    (λ c. search needs)
     returns)

@@ -1,114 +1,86 @@
 -- Piece by piece.
-use mathlib.Core.Path.{sym, _∙_}
-use Rattle.fields.specs.{Heads.Laws.fields-three, Bytes.Numeral.digits-length}
-use Rattle.sheet.specs.Listing.Laws.{enough, line-length, word-short}
-use Rattle.sheet.specs.Cues.Laws.{children-count}
+use mathlib.Core.Path.{_≡_, sym, _∙_}
+use lib.ListN.{length}
+use Rattle.fields.specs.{Heads.Laws.Three, Bytes.Numeral.digits-length}
+use Rattle.sheet.specs.{Cues.children, Cues.Laws.children-count}
+use Rattle.sheet.specs.Listing.Laws.{cue-three, line-length, word-short}
 use native.Mathlib.Omega.{arith}
 use borrow.Author.Needs.{needs}
 use Rattle.sheet.proofs.line.line_length.Statement.{statement}
 use Rattle.sheet.proofs.line.line_length.Tie as tie
 
-first-fields-requires : tie.Need-first-fields-requires
-first-fields-requires c κs = search needs
+-- the call, from where the ends of the fields are known; that, from where the children are counted; and that, from the word's length
+abbrev start : tie.After-first-fields → tie.Start
+start c = c .before .before
+
+abbrev ends : tie.After-times-in → tie.After-first-fields
+ends c = c .before .before
+
+abbrev counted : tie.After-word-length → tie.After-times-in
+counted c = c .before .before
+
+three : (c : tie.After-first-fields) → Three (start c .args .cue .now) (c .first-fields .result)
+three c = cue-three (c .first-fields .ensures .0) (start c .pre)
+
+children-are : (c : tie.After-times-in) → c .times-in .result ≡ length (children (start (ends c) .args .cue .now))
+children-are c = c .times-in .ensures ∙ sym (children-count _ _ (three (ends c)))
 
 add-times-in : tie.Need-add-times-in
-add-times-in c =
-    let at-args = c .before .before .args in
-    let at-first-fields = c .first-fields in
-    let t = fields-three (at-args .cue .now) (at-first-fields .result) (at-first-fields .ensures .0) (enough (at-args .cue .now) (at-first-fields .result) (at-first-fields .ensures .0) (c .before .before .pre .enough)) in
-    omega arith
+add-times-in c = omega (arith, three c .ascending)
 
 sub-times-in : tie.Need-sub-times-in
-sub-times-in c =
-    let at-args = c .before .before .args in
-    let at-first-fields = c .first-fields in
-    let t = fields-three (at-args .cue .now) (at-first-fields .result) (at-first-fields .ensures .0) (enough (at-args .cue .now) (at-first-fields .result) (at-first-fields .ensures .0) (c .before .before .pre .enough)) in
-    omega arith
+sub-times-in c = omega (arith, three c .ascending)
 
 part-times-in-start : tie.Need-part-times-in-start
-part-times-in-start c =
-    let at-args = c .before .before .args in
-    let at-first-fields = c .first-fields in
-    let t = fields-three (at-args .cue .now) (at-first-fields .result) (at-first-fields .ensures .0) (enough (at-args .cue .now) (at-first-fields .result) (at-first-fields .ensures .0) (c .before .before .pre .enough)) in
-    omega arith
-
-part-times-in-end : tie.Need-part-times-in-end
-part-times-in-end c = search needs
-
-times-in-requires : tie.Need-times-in-requires
-times-in-requires c κs = search needs
+part-times-in-start c = omega (arith, three c .ascending)
 
 sub-fields : tie.Need-sub-fields
-sub-fields c =
-    let at-args = c .before .before .before .before .before .args in
-    let at-first-fields = c .before .before .before .first-fields in
-    let t = fields-three (at-args .cue .now) (at-first-fields .result) (at-first-fields .ensures .0) (enough (at-args .cue .now) (at-first-fields .result) (at-first-fields .ensures .0) (c .before .before .before .before .before .pre .enough)) in
-    omega arith
+sub-fields c = omega (arith, three (ends (c .before)) .ascending)
 
 sub-fields-2 : tie.Need-sub-fields-2
-sub-fields-2 c =
-    let at-args = c .before .before .before .before .before .args in
-    let at-first-fields = c .before .before .before .first-fields in
-    let t = fields-three (at-args .cue .now) (at-first-fields .result) (at-first-fields .ensures .0) (enough (at-args .cue .now) (at-first-fields .result) (at-first-fields .ensures .0) (c .before .before .before .before .before .pre .enough)) in
-    omega arith
-
-word-length-requires : tie.Need-word-length-requires
-word-length-requires c κs = search needs
+sub-fields-2 c = omega (arith, three (ends (c .before)) .ascending)
 
 add-result : tie.Need-add-result
 add-result c =
-    let at-args = c .before .before .before .before .before .before .args in
-    let at-first-fields = c .before .before .before .before .first-fields in
-    let at-pre = c .before .before .before .before .before .before .pre in
-    let t = fields-three (at-args .cue .now) (at-first-fields .result) (at-first-fields .ensures .0) (enough (at-args .cue .now) (at-first-fields .result) (at-first-fields .ensures .0) (at-pre .enough)) in
-    omega (arith, c .word-length .ensures, word-short (at-args .said), at-pre .short)
+    let e = ends (counted c) in
+    omega (arith, three e .ascending, c .word-length .ensures, word-short (start e .args .said), start e .pre .short)
 
 number-length-requires : tie.Need-number-length-requires
-number-length-requires c κs =
-    let at-args = c .before .before .before .before .before .before .args in
-    let at-first-fields = c .before .before .before .before .first-fields in
-    let at-pre = c .before .before .before .before .before .before .pre in
-    let t = fields-three (at-args .cue .now) (at-first-fields .result) (at-first-fields .ensures .0) (enough (at-args .cue .now) (at-first-fields .result) (at-first-fields .ensures .0) (at-pre .enough)) in
-    omega (arith, c .before .before .times-in .ensures, children-count (at-args .cue .now) (at-first-fields .result) t, at-pre .few)
+number-length-requires c κs = omega (arith, children-are (counted c), start (ends (counted c)) .pre .few)
 
 add-result-2 : tie.Need-add-result-2
 add-result-2 c =
-    let at-args = c .before .before .before .before .before .before .before .args in
-    let at-first-fields = c .before .before .before .before .before .first-fields in
-    let at-pre = c .before .before .before .before .before .before .before .pre in
-    let t = fields-three (at-args .cue .now) (at-first-fields .result) (at-first-fields .ensures .0) (enough (at-args .cue .now) (at-first-fields .result) (at-first-fields .ensures .0) (at-pre .enough)) in
-    omega (arith, c .before .word-length .ensures, word-short (at-args .said), at-pre .short, c .number-length .ensures, digits-length (c .before .before .before .times-in .result))
+    let w = c .before in
+    let e = ends (counted w) in
+    let digits-few = digits-length (counted w .times-in .result) in
+    omega (arith, three e .ascending, w .word-length .ensures, word-short (start e .args .said), start e .pre .short, c .number-length .ensures, digits-few)
 
 add-result-3 : tie.Need-add-result-3
 add-result-3 c =
-    let at-args = c .before .before .before .before .before .before .before .args in
-    let at-first-fields = c .before .before .before .before .before .first-fields in
-    let at-pre = c .before .before .before .before .before .before .before .pre in
-    let t = fields-three (at-args .cue .now) (at-first-fields .result) (at-first-fields .ensures .0) (enough (at-args .cue .now) (at-first-fields .result) (at-first-fields .ensures .0) (at-pre .enough)) in
-    omega (arith, c .before .word-length .ensures, word-short (at-args .said), at-pre .short, c .number-length .ensures, digits-length (c .before .before .before .times-in .result))
+    let w = c .before in
+    let e = ends (counted w) in
+    let digits-few = digits-length (counted w .times-in .result) in
+    omega (arith, three e .ascending, w .word-length .ensures, word-short (start e .args .said), start e .pre .short, c .number-length .ensures, digits-few)
 
 returns : tie.Need-returns
 returns c =
-    let at-args = c .before .before .before .before .before .before .before .args in
-    let at-first-fields = c .before .before .before .before .before .first-fields in
-    let at-times-in = c .before .before .before .times-in in
-    let t = fields-three (at-args .cue .now) (at-first-fields .result) (at-first-fields .ensures .0) (enough (at-args .cue .now) (at-first-fields .result) (at-first-fields .ensures .0) (c .before .before .before .before .before .before .before .pre .enough)) in
-    let n = at-times-in .ensures ∙ sym (children-count (at-args .cue .now) (at-first-fields .result) t) in
-    rw (c .before .word-length .ensures, c .number-length .ensures) (sym (line-length (at-args .cue .now) (at-first-fields .result) (at-args .said) (at-times-in .result) t n))
+    let w = c .before in
+    let e = ends (counted w) in
+    rw (w .word-length .ensures, c .number-length .ensures) (sym (line-length (start e .args .said) (three e) (children-are (counted w))))
 
 pub line-length-spec : {M : Type 1} → statement M
 line-length-spec =
     tie.close
     (tie.spec
-    first-fields-requires
+    (λ c κs. search needs)
     add-times-in
     sub-times-in
     part-times-in-start
-    part-times-in-end
-    times-in-requires
+    (λ c. search needs)
+    (λ c κs. search needs)
     sub-fields
     sub-fields-2
-    word-length-requires
+    (λ c κs. search needs)
     add-result
     number-length-requires
     add-result-2

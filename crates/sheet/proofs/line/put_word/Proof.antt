@@ -4,87 +4,67 @@ use borrow.Author.Needs.{needs}
 use Rattle.sheet.proofs.line.put_word.Statement.{statement}
 use Rattle.sheet.proofs.line.put_word.Tie as tie
 
-enum-told : tie.Need-enum-told
-enum-told c = search needs
-
-slice-aggregate-put : tie.Need-slice-aggregate-put
-slice-aggregate-put c = search needs
-
 put-requires : tie.Need-put-requires
-put-requires c κs = omega (arith, rw (c .before .before .enum-told .given .1) at (c .before .before .before .before .before .pre))
-
-enum-told-2 : tie.Need-enum-told-2
-enum-told-2 c = search needs
-
-slice-aggregate-put-2 : tie.Need-slice-aggregate-put-2
-slice-aggregate-put-2 c = search needs
+put-requires c κs =
+    let m = c .before .before in
+    omega (arith, rw (m .enum-told .given .1) at (m .before .before .before .pre))
 
 put-requires-2 : tie.Need-put-requires-2
-put-requires-2 c κs = omega (arith, rw (c .before .before .enum-told2 .given .1) at (c .before .before .before .before .before .pre))
-
-enum-told-3 : tie.Need-enum-told-3
-enum-told-3 c = search needs
-
-slice-aggregate-put-3 : tie.Need-slice-aggregate-put-3
-slice-aggregate-put-3 c = search needs
+put-requires-2 c κs =
+    let m = c .before .before in
+    omega (arith, rw (m .enum-told2 .given .1) at (m .before .before .before .pre))
 
 put-requires-3 : tie.Need-put-requires-3
-put-requires-3 c κs = omega (arith, rw (c .before .before .enum-told3 .given .1) at (c .before .before .before .before .before .pre))
-
-enum-told-4 : tie.Need-enum-told-4
-enum-told-4 c = search needs
-
-slice-aggregate-put-4 : tie.Need-slice-aggregate-put-4
-slice-aggregate-put-4 c = search needs
+put-requires-3 c κs =
+    let m = c .before .before in
+    omega (arith, rw (m .enum-told3 .given .1) at (m .before .before .before .pre))
 
 put-requires-4 : tie.Need-put-requires-4
-put-requires-4 c κs = omega (arith, rw (c .before .before .enum-told4 .given .1) at (c .before .before .before .before .before .pre))
-
-same-length : tie.Need-same-length
-same-length c = search needs
+put-requires-4 c κs =
+    let m = c .before .before in
+    omega (arith, rw (m .enum-told4 .given .1) at (m .before .before .before .pre))
 
 returns : tie.Need-returns
-returns c = rw (c .before .before .before .before .before .enum-told .given .1) (c .before .before .put .ensures)
-
-same-length-2 : tie.Need-same-length-2
-same-length-2 c = search needs
+returns c =
+    let p = c .before .before in
+    rw (p .before .before .before .enum-told .given .1) (p .put .ensures)
 
 returns-2 : tie.Need-returns-2
-returns-2 c = rw (c .before .before .before .before .before .enum-told2 .given .1) (c .before .before .put2 .ensures)
-
-same-length-3 : tie.Need-same-length-3
-same-length-3 c = search needs
+returns-2 c =
+    let p = c .before .before in
+    rw (p .before .before .before .enum-told2 .given .1) (p .put2 .ensures)
 
 returns-3 : tie.Need-returns-3
-returns-3 c = rw (c .before .before .before .before .before .enum-told3 .given .1) (c .before .before .put3 .ensures)
-
-same-length-4 : tie.Need-same-length-4
-same-length-4 c = search needs
+returns-3 c =
+    let p = c .before .before in
+    rw (p .before .before .before .enum-told3 .given .1) (p .put3 .ensures)
 
 returns-4 : tie.Need-returns-4
-returns-4 c = rw (c .before .before .before .before .before .enum-told4 .given .1) (c .before .before .put4 .ensures)
+returns-4 c =
+    let p = c .before .before in
+    rw (p .before .before .before .enum-told4 .given .1) (p .put4 .ensures)
 
 pub put-word-spec : {M : Type 1} → statement M
 put-word-spec =
     tie.close
     (tie.spec
-    enum-told
-    slice-aggregate-put
+    (λ c. search needs)
+    (λ c. search needs)
     put-requires
-    enum-told-2
-    slice-aggregate-put-2
+    (λ c. search needs)
+    (λ c. search needs)
     put-requires-2
-    enum-told-3
-    slice-aggregate-put-3
+    (λ c. search needs)
+    (λ c. search needs)
     put-requires-3
-    enum-told-4
-    slice-aggregate-put-4
+    (λ c. search needs)
+    (λ c. search needs)
     put-requires-4
-    same-length
+    (λ c. search needs)
     returns
-    same-length-2
+    (λ c. search needs)
     returns-2
-    same-length-3
+    (λ c. search needs)
     returns-3
-    same-length-4
+    (λ c. search needs)
     returns-4)

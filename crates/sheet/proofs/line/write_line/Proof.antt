@@ -1,211 +1,174 @@
 -- Piece behind piece.
-use mathlib.Core.Path.{sym, _∙_}
-use Rattle.fields.specs.Heads.Laws.{fields-three}
-use Rattle.sheet.specs.{Cues.Laws.children-count, Put.put-then, Put.put-length}
-use Rattle.sheet.specs.Listing.Laws.{enough, line-is, line-sum, word-sum}
+use mathlib.Core.Path.{_≡_, sym, _∙_}
+use Prim.Native.Nat.{_≤_}
+use lib.ListN.{length}
+use Rattle.fields.specs.Heads.Laws.{Three}
+use Rattle.sheet.specs.{Cues.children, Cues.Laws.children-count, Put.Laws.put-then, Put.Laws.put-ends}
+use Rattle.sheet.specs.Listing.Laws.{cue-three, piecesLength, line-is, line-sum, word-sum}
 use native.Mathlib.Omega.{arith}
 use borrow.Author.Needs.{needs}
 use Rattle.sheet.proofs.line.write_line.Statement.{statement}
 use Rattle.sheet.proofs.line.write_line.Tie as tie
 
-first-fields-requires : tie.Need-first-fields-requires
-first-fields-requires c κs = search needs
+-- the call, from where the ends of the fields are known; that, from where the children are counted; then back from each piece to the one before it
+abbrev start : tie.After-first-fields → tie.Start
+start c = c .before .before .before
+
+abbrev ends : tie.After-times-in → tie.After-first-fields
+ends c = c .before .before
+
+abbrev counted : tie.After-put → tie.After-times-in
+counted c = c .before .before .before
+
+abbrev put1 : tie.After-put2 → tie.After-put
+put1 c = c .before .before .before .before .before
+
+abbrev put2 : tie.After-put3 → tie.After-put2
+put2 c = c .before .before .before .before .before
+
+abbrev put3 : tie.After-put-word → tie.After-put3
+put3 c = c .before .before .before .before
+
+abbrev word-put : tie.After-put-number → tie.After-put-word
+word-put c = c .before .before .before .before
+
+abbrev number-put : tie.After-put4 → tie.After-put-number
+number-put c = c .before .before .before .before .before
+
+three : (c : tie.After-first-fields) → Three (start c .args .cue .now) (c .first-fields .result)
+three c = cue-three (c .first-fields .ensures .0) (start c .pre .0)
+
+children-are : (c : tie.After-times-in) → c .times-in .result ≡ length (children (start (ends c) .args .cue .now))
+children-are c = c .times-in .ensures ∙ sym (children-count _ _ (three (ends c)))
+
+-- all pieces have room
+room : (c : tie.After-times-in)
+    → let a = start (ends c) .args in
+    piecesLength (a .cue .now) (ends c .first-fields .result) (a .said) (c .times-in .result) ≤ length (a .buffer .now)
+room c =
+    let s = start (ends c) in
+    omega (arith, s .pre .1, line-sum (s .args .said) (three (ends c)) (children-are c))
 
 add-times-in : tie.Need-add-times-in
-add-times-in c =
-    let at-args = c .before .before .before .args in
-    let at-first-fields = c .first-fields in
-    let t = fields-three (at-args .cue .now) (at-first-fields .result) (at-first-fields .ensures .0) (enough (at-args .cue .now) (at-first-fields .result) (at-first-fields .ensures .0) (c .before .before .before .pre .0 .enough)) in
-    omega arith
+add-times-in c = omega (arith, three c .ascending)
 
 sub-times-in : tie.Need-sub-times-in
-sub-times-in c =
-    let at-args = c .before .before .before .args in
-    let at-first-fields = c .first-fields in
-    let t = fields-three (at-args .cue .now) (at-first-fields .result) (at-first-fields .ensures .0) (enough (at-args .cue .now) (at-first-fields .result) (at-first-fields .ensures .0) (c .before .before .before .pre .0 .enough)) in
-    omega arith
+sub-times-in c = omega (arith, three c .ascending)
 
 part-times-in-start : tie.Need-part-times-in-start
-part-times-in-start c =
-    let at-args = c .before .before .before .args in
-    let at-first-fields = c .first-fields in
-    let t = fields-three (at-args .cue .now) (at-first-fields .result) (at-first-fields .ensures .0) (enough (at-args .cue .now) (at-first-fields .result) (at-first-fields .ensures .0) (c .before .before .before .pre .0 .enough)) in
-    omega arith
-
-part-times-in-end : tie.Need-part-times-in-end
-part-times-in-end c = search needs
-
-times-in-requires : tie.Need-times-in-requires
-times-in-requires c κs = search needs
+part-times-in-start c = omega (arith, three c .ascending)
 
 add-put : tie.Need-add-put
-add-put c =
-    let at-args = c .before .before .before .before .before .before .args in
-    let at-first-fields = c .before .before .before .first-fields in
-    let t = fields-three (at-args .cue .now) (at-first-fields .result) (at-first-fields .ensures .0) (enough (at-args .cue .now) (at-first-fields .result) (at-first-fields .ensures .0) (c .before .before .before .before .before .before .pre .0 .enough)) in
-    omega arith
+add-put c = omega (arith, three (ends (c .before)) .ascending)
 
 sub-put : tie.Need-sub-put
-sub-put c =
-    let at-args = c .before .before .before .before .before .before .args in
-    let at-first-fields = c .before .before .before .first-fields in
-    let t = fields-three (at-args .cue .now) (at-first-fields .result) (at-first-fields .ensures .0) (enough (at-args .cue .now) (at-first-fields .result) (at-first-fields .ensures .0) (c .before .before .before .before .before .before .pre .0 .enough)) in
-    omega arith
+sub-put c = omega (arith, three (ends (c .before)) .ascending)
 
 part-put-start : tie.Need-part-put-start
-part-put-start c =
-    let at-args = c .before .before .before .before .before .before .args in
-    let at-first-fields = c .before .before .before .first-fields in
-    let t = fields-three (at-args .cue .now) (at-first-fields .result) (at-first-fields .ensures .0) (enough (at-args .cue .now) (at-first-fields .result) (at-first-fields .ensures .0) (c .before .before .before .before .before .before .pre .0 .enough)) in
-    omega arith
+part-put-start c = omega (arith, three (ends (c .before)) .ascending)
 
 part-put-end : tie.Need-part-put-end
-part-put-end c =
-    let at-args = c .before .before .before .before .before .before .args in
-    let at-first-fields = c .before .before .before .first-fields in
-    let t = fields-three (at-args .cue .now) (at-first-fields .result) (at-first-fields .ensures .0) (enough (at-args .cue .now) (at-first-fields .result) (at-first-fields .ensures .0) (c .before .before .before .before .before .before .pre .0 .enough)) in
-    omega arith
+part-put-end c = omega (arith, three (ends (c .before)) .ascending)
 
 put-requires : tie.Need-put-requires
-put-requires c κs =
-    let at-args = c .before .before .before .before .before .before .before .args in
-    let at-first-fields = c .before .before .before .before .first-fields in
-    let at-pre = c .before .before .before .before .before .before .before .pre in
-    let at-times-in = c .before .before .times-in in
-    let t = fields-three (at-args .cue .now) (at-first-fields .result) (at-first-fields .ensures .0) (enough (at-args .cue .now) (at-first-fields .result) (at-first-fields .ensures .0) (at-pre .0 .enough)) in
-    let n = at-times-in .ensures ∙ sym (children-count (at-args .cue .now) (at-first-fields .result) t) in
-    omega (arith, at-pre .1, line-sum (at-args .cue .now) (at-first-fields .result) (at-args .said) (at-times-in .result) t n, word-sum (at-args .said))
-
-slice-aggregate-put : tie.Need-slice-aggregate-put
-slice-aggregate-put c = search needs
+put-requires c κs = omega (arith, room (c .before .before))
 
 put-requires-2 : tie.Need-put-requires-2
 put-requires-2 c κs =
-    let at-args = c .before .before .before .before .before .before .before .before .before .before .before .before .args in
-    let at-first-fields = c .before .before .before .before .before .before .before .before .before .first-fields in
-    let at-pre = c .before .before .before .before .before .before .before .before .before .before .before .before .pre in
-    let at-times-in = c .before .before .before .before .before .before .before .times-in in
-    let at-put = c .before .before .before .before .put in
-    let t = fields-three (at-args .cue .now) (at-first-fields .result) (at-first-fields .ensures .0) (enough (at-args .cue .now) (at-first-fields .result) (at-first-fields .ensures .0) (at-pre .0 .enough)) in
-    let n = at-times-in .ensures ∙ sym (children-count (at-args .cue .now) (at-first-fields .result) t) in
-    omega (arith, at-pre .1, line-sum (at-args .cue .now) (at-first-fields .result) (at-args .said) (at-times-in .result) t n, word-sum (at-args .said), at-put .ensures .end-is, put-length (at-put .ensures))
+    let a = c .before .before .before .before in
+    omega (arith, room (counted a), put-ends (a .put .ensures))
 
 add-put-2 : tie.Need-add-put-2
-add-put-2 c =
-    let at-args = c .before .before .before .before .before .before .before .before .before .before .before .before .before .before .before .before .args in
-    let at-first-fields = c .before .before .before .before .before .before .before .before .before .before .before .before .before .first-fields in
-    let t = fields-three (at-args .cue .now) (at-first-fields .result) (at-first-fields .ensures .0) (enough (at-args .cue .now) (at-first-fields .result) (at-first-fields .ensures .0) (c .before .before .before .before .before .before .before .before .before .before .before .before .before .before .before .before .pre .0 .enough)) in
-    omega arith
+add-put-2 c = omega (arith, three (ends (counted (put1 (c .before .before .before)))) .ascending)
 
 sub-put-2 : tie.Need-sub-put-2
-sub-put-2 c =
-    let at-args = c .before .before .before .before .before .before .before .before .before .before .before .before .before .before .before .before .args in
-    let at-first-fields = c .before .before .before .before .before .before .before .before .before .before .before .before .before .first-fields in
-    let t = fields-three (at-args .cue .now) (at-first-fields .result) (at-first-fields .ensures .0) (enough (at-args .cue .now) (at-first-fields .result) (at-first-fields .ensures .0) (c .before .before .before .before .before .before .before .before .before .before .before .before .before .before .before .before .pre .0 .enough)) in
-    omega arith
+sub-put-2 c = omega (arith, three (ends (counted (put1 (c .before .before .before)))) .ascending)
 
 part-put-start-2 : tie.Need-part-put-start-2
-part-put-start-2 c =
-    let at-args = c .before .before .before .before .before .before .before .before .before .before .before .before .before .before .before .before .args in
-    let at-first-fields = c .before .before .before .before .before .before .before .before .before .before .before .before .before .first-fields in
-    let t = fields-three (at-args .cue .now) (at-first-fields .result) (at-first-fields .ensures .0) (enough (at-args .cue .now) (at-first-fields .result) (at-first-fields .ensures .0) (c .before .before .before .before .before .before .before .before .before .before .before .before .before .before .before .before .pre .0 .enough)) in
-    omega arith
+part-put-start-2 c = omega (arith, three (ends (counted (put1 (c .before .before .before)))) .ascending)
 
 part-put-end-2 : tie.Need-part-put-end-2
-part-put-end-2 c =
-    let at-args = c .before .before .before .before .before .before .before .before .before .before .before .before .before .before .before .before .args in
-    let at-first-fields = c .before .before .before .before .before .before .before .before .before .before .before .before .before .first-fields in
-    let t = fields-three (at-args .cue .now) (at-first-fields .result) (at-first-fields .ensures .0) (enough (at-args .cue .now) (at-first-fields .result) (at-first-fields .ensures .0) (c .before .before .before .before .before .before .before .before .before .before .before .before .before .before .before .before .pre .0 .enough)) in
-    omega arith
+part-put-end-2 c = omega (arith, three (ends (counted (put1 (c .before .before .before)))) .ascending)
 
 put-requires-3 : tie.Need-put-requires-3
 put-requires-3 c κs =
-    let at-args = c .before .before .before .before .before .before .before .before .before .before .before .before .before .before .before .before .before .args in
-    let at-first-fields = c .before .before .before .before .before .before .before .before .before .before .before .before .before .before .first-fields in
-    let at-pre = c .before .before .before .before .before .before .before .before .before .before .before .before .before .before .before .before .before .pre in
-    let at-times-in = c .before .before .before .before .before .before .before .before .before .before .before .before .times-in in
-    let at-put = c .before .before .before .before .before .before .before .before .before .put in
-    let at-put2 = c .before .before .before .before .put2 in
-    let t = fields-three (at-args .cue .now) (at-first-fields .result) (at-first-fields .ensures .0) (enough (at-args .cue .now) (at-first-fields .result) (at-first-fields .ensures .0) (at-pre .0 .enough)) in
-    let n = at-times-in .ensures ∙ sym (children-count (at-args .cue .now) (at-first-fields .result) t) in
-    omega (arith, at-pre .1, line-sum (at-args .cue .now) (at-first-fields .result) (at-args .said) (at-times-in .result) t n, word-sum (at-args .said), at-put .ensures .end-is, put-length (at-put .ensures), at-put2 .ensures .end-is, put-length (at-put2 .ensures))
+    let b = c .before .before .before .before in
+    let a = put1 b in
+    omega (arith, room (counted a), put-ends (a .put .ensures), put-ends (b .put2 .ensures))
 
 put-word-requires : tie.Need-put-word-requires
 put-word-requires c κs =
-    let at-args = c .before .before .before .before .before .before .before .before .before .before .before .before .before .before .before .before .before .before .before .before .before .args in
-    let at-first-fields = c .before .before .before .before .before .before .before .before .before .before .before .before .before .before .before .before .before .before .first-fields in
-    let at-pre = c .before .before .before .before .before .before .before .before .before .before .before .before .before .before .before .before .before .before .before .before .before .pre in
-    let at-times-in = c .before .before .before .before .before .before .before .before .before .before .before .before .before .before .before .before .times-in in
-    let at-put = c .before .before .before .before .before .before .before .before .before .before .before .before .before .put in
-    let at-put2 = c .before .before .before .before .before .before .before .before .put2 in
-    let at-put3 = c .before .before .before .put3 in
-    let t = fields-three (at-args .cue .now) (at-first-fields .result) (at-first-fields .ensures .0) (enough (at-args .cue .now) (at-first-fields .result) (at-first-fields .ensures .0) (at-pre .0 .enough)) in
-    let n = at-times-in .ensures ∙ sym (children-count (at-args .cue .now) (at-first-fields .result) t) in
-    omega (arith, at-pre .1, line-sum (at-args .cue .now) (at-first-fields .result) (at-args .said) (at-times-in .result) t n, word-sum (at-args .said), at-put .ensures .end-is, put-length (at-put .ensures), at-put2 .ensures .end-is, put-length (at-put2 .ensures), at-put3 .ensures .end-is, put-length (at-put3 .ensures))
+    let d = c .before .before .before in
+    let b = put2 d in
+    let a = put1 b in
+    omega (arith, room (counted a), put-ends (a .put .ensures), put-ends (b .put2 .ensures), put-ends (d .put3 .ensures))
 
 put-number-requires : tie.Need-put-number-requires
 put-number-requires c κs =
-    let at-args = c .before .before .before .before .before .before .before .before .before .before .before .before .before .before .before .before .before .before .before .before .before .before .before .before .before .args in
-    let at-first-fields = c .before .before .before .before .before .before .before .before .before .before .before .before .before .before .before .before .before .before .before .before .before .before .first-fields in
-    let at-pre = c .before .before .before .before .before .before .before .before .before .before .before .before .before .before .before .before .before .before .before .before .before .before .before .before .before .pre in
-    let at-times-in = c .before .before .before .before .before .before .before .before .before .before .before .before .before .before .before .before .before .before .before .before .times-in in
-    let at-put = c .before .before .before .before .before .before .before .before .before .before .before .before .before .before .before .before .before .put in
-    let at-put2 = c .before .before .before .before .before .before .before .before .before .before .before .before .put2 in
-    let at-put3 = c .before .before .before .before .before .before .before .put3 in
-    let at-put-word = c .before .before .before .put-word in (
-      let t = fields-three (at-args .cue .now) (at-first-fields .result) (at-first-fields .ensures .0) (enough (at-args .cue .now) (at-first-fields .result) (at-first-fields .ensures .0) (at-pre .0 .enough)) in let n = at-times-in .ensures ∙ sym (children-count (at-args .cue .now) (at-first-fields .result) t) in omega (arith, n, at-pre .0 .few),
-      let t = fields-three (at-args .cue .now) (at-first-fields .result) (at-first-fields .ensures .0) (enough (at-args .cue .now) (at-first-fields .result) (at-first-fields .ensures .0) (at-pre .0 .enough)) in
-          let n = at-times-in .ensures ∙ sym (children-count (at-args .cue .now) (at-first-fields .result) t) in
-          omega (arith, at-pre .1, line-sum (at-args .cue .now) (at-first-fields .result) (at-args .said) (at-times-in .result) t n, word-sum (at-args .said), at-put .ensures .end-is, put-length (at-put .ensures), at-put2 .ensures .end-is, put-length (at-put2 .ensures), at-put3 .ensures .end-is, put-length (at-put3 .ensures), at-put-word .ensures .end-is, put-length (at-put-word .ensures)),
+    let w = c .before .before .before in
+    let d = put3 w in
+    let b = put2 d in
+    let a = put1 b in
+    let s = start (ends (counted a)) in (
+      omega (arith, children-are (counted a), s .pre .0 .few),
+      omega (
+        arith,
+        room (counted a),
+        put-ends (a .put .ensures),
+        put-ends (b .put2 .ensures),
+        put-ends (d .put3 .ensures),
+        put-ends (w .put-word .ensures),
+        word-sum (s .args .said),
+      ),
     )
-
-slice-aggregate-put-2 : tie.Need-slice-aggregate-put-2
-slice-aggregate-put-2 c = search needs
 
 put-requires-4 : tie.Need-put-requires-4
 put-requires-4 c κs =
-    let at-args = c .before .before .before .before .before .before .before .before .before .before .before .before .before .before .before .before .before .before .before .before .before .before .before .before .before .before .before .before .before .before .args in
-    let at-first-fields = c .before .before .before .before .before .before .before .before .before .before .before .before .before .before .before .before .before .before .before .before .before .before .before .before .before .before .before .first-fields in
-    let at-pre = c .before .before .before .before .before .before .before .before .before .before .before .before .before .before .before .before .before .before .before .before .before .before .before .before .before .before .before .before .before .before .pre in
-    let at-times-in = c .before .before .before .before .before .before .before .before .before .before .before .before .before .before .before .before .before .before .before .before .before .before .before .before .before .times-in in
-    let at-put = c .before .before .before .before .before .before .before .before .before .before .before .before .before .before .before .before .before .before .before .before .before .before .put in
-    let at-put2 = c .before .before .before .before .before .before .before .before .before .before .before .before .before .before .before .before .before .put2 in
-    let at-put3 = c .before .before .before .before .before .before .before .before .before .before .before .before .put3 in
-    let at-put-word = c .before .before .before .before .before .before .before .before .put-word in
-    let at-put-number = c .before .before .before .before .put-number in
-    let t = fields-three (at-args .cue .now) (at-first-fields .result) (at-first-fields .ensures .0) (enough (at-args .cue .now) (at-first-fields .result) (at-first-fields .ensures .0) (at-pre .0 .enough)) in
-    let n = at-times-in .ensures ∙ sym (children-count (at-args .cue .now) (at-first-fields .result) t) in
-    omega (arith, at-pre .1, line-sum (at-args .cue .now) (at-first-fields .result) (at-args .said) (at-times-in .result) t n, word-sum (at-args .said), at-put .ensures .end-is, put-length (at-put .ensures), at-put2 .ensures .end-is, put-length (at-put2 .ensures), at-put3 .ensures .end-is, put-length (at-put3 .ensures), at-put-word .ensures .end-is, put-length (at-put-word .ensures), at-put-number .ensures .end-is, put-length (at-put-number .ensures))
-
-same-length : tie.Need-same-length
-same-length c = search needs
+    let e = c .before .before .before .before in
+    let w = word-put e in
+    let d = put3 w in
+    let b = put2 d in
+    let a = put1 b in
+    omega (
+      arith,
+      room (counted a),
+      put-ends (a .put .ensures),
+      put-ends (b .put2 .ensures),
+      put-ends (d .put3 .ensures),
+      put-ends (w .put-word .ensures),
+      word-sum (start (ends (counted a)) .args .said),
+      put-ends (e .put-number .ensures),
+    )
 
 returns : tie.Need-returns
 returns c =
-    let at-args = c .before .before .before .before .before .before .before .before .before .before .before .before .before .before .before .before .before .before .before .before .before .before .before .before .before .before .before .before .before .before .before .before .before .args in
-    let at-first-fields = c .before .before .before .before .before .before .before .before .before .before .before .before .before .before .before .before .before .before .before .before .before .before .before .before .before .before .before .before .before .before .first-fields in
-    let at-times-in = c .before .before .before .before .before .before .before .before .before .before .before .before .before .before .before .before .before .before .before .before .before .before .before .before .before .before .before .before .times-in in
-    let t = fields-three (at-args .cue .now) (at-first-fields .result) (at-first-fields .ensures .0) (enough (at-args .cue .now) (at-first-fields .result) (at-first-fields .ensures .0) (c .before .before .before .before .before .before .before .before .before .before .before .before .before .before .before .before .before .before .before .before .before .before .before .before .before .before .before .before .before .before .before .before .before .pre .0 .enough)) in
-    let n = at-times-in .ensures ∙ sym (children-count (at-args .cue .now) (at-first-fields .result) t) in
-    rw (← line-is (at-args .cue .now) (at-first-fields .result) (at-args .said) (at-times-in .result) t n)
-    (put-then (put-then (put-then (put-then (put-then (c .before .before .before .before .before .before .before .before .before .before .before .before .before .before .before .before .before .before .before .before .before .before .before .before .before .put .ensures) (c .before .before .before .before .before .before .before .before .before .before .before .before .before .before .before .before .before .before .before .before .put2 .ensures)) (c .before .before .before .before .before .before .before .before .before .before .before .before .before .before .before .put3 .ensures)) (c .before .before .before .before .before .before .before .before .before .before .before .put-word .ensures)) (c .before .before .before .before .before .before .before .put-number .ensures)) (c .before .before .put4 .ensures))
+    let f = c .before .before in
+    let e = number-put f in
+    let w = word-put e in
+    let d = put3 w in
+    let b = put2 d in
+    let a = put1 b in
+    let n = counted a in
+    let kind-put = put-then (put-then (a .put .ensures) (b .put2 .ensures)) (d .put3 .ensures) in
+    rw (← line-is (start (ends n) .args .said) (three (ends n)) (children-are n))
+    (put-then (put-then (put-then kind-put (w .put-word .ensures)) (e .put-number .ensures)) (f .put4 .ensures))
 
 pub write-line-spec : {M : Type 1} → statement M
 write-line-spec =
     tie.close
     (tie.spec
-    first-fields-requires
+    (λ c κs. search needs)
     add-times-in
     sub-times-in
     part-times-in-start
-    part-times-in-end
-    times-in-requires
+    (λ c. search needs)
+    (λ c κs. search needs)
     add-put
     sub-put
     part-put-start
     part-put-end
     put-requires
-    slice-aggregate-put
+    (λ c. search needs)
     put-requires-2
     add-put-2
     sub-put-2
@@ -214,7 +177,7 @@ write-line-spec =
     put-requires-3
     put-word-requires
     put-number-requires
-    slice-aggregate-put-2
+    (λ c. search needs)
     put-requires-4
-    same-length
+    (λ c. search needs)
     returns)

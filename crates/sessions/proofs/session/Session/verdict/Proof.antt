@@ -6,66 +6,48 @@ use borrow.Author.Needs.{needs}
 use Rattle.sessions.proofs.session.Session.verdict.Statement.{statement}
 use Rattle.sessions.proofs.session.Session.verdict.Tie as tie
 
-names-requires : tie.Need-names-requires
-names-requires c κs = search needs
-
-is-intact-requires : tie.Need-is-intact-requires
-is-intact-requires c κs = search needs
-
-sub-judge-row : tie.Need-sub-judge-row
-sub-judge-row c = search needs
-
-part-judge-row-start : tie.Need-part-judge-row-start
-part-judge-row-start c = search needs
+abbrev start : tie.After-is-intact → tie.Start
+start c = c .before .before .before .before
 
 part-judge-row-end : tie.Need-part-judge-row-end
 part-judge-row-end c =
     let i = c .before in
-    let n = i .before in
-    let a = n .before .before .before .args in
+    let a = start i .args in
     intact-fits (a .self .children) _ (a .trail .now) (sym (i .is-intact .ensures) ∙ c .if1 .taken)
-
-judge-row-requires : tie.Need-judge-row-requires
-judge-row-requires c κs = search needs
 
 returns : tie.Need-returns
 returns c =
     let h = c .before .before in
     let i = h .before in
-    let n = i .before in
-    let a = n .before .before .before .args in
-    c .judge-row .ensures ∙ asked-judged (a .self) (a .trail .now) (ap (λ m. intact (a .self .children) m (a .trail .now)) (sym (n .names .ensures)) ∙ sym (i .is-intact .ensures) ∙ h .if1 .taken)
-
-is-readable-requires : tie.Need-is-readable-requires
-is-readable-requires c κs = search needs
+    let a = start i .args in
+    let whole = ap (λ m. intact (a .self .children) m (a .trail .now)) (sym (i .before .names .ensures)) ∙ sym (i .is-intact .ensures) ∙ h .if1 .taken in
+    c .judge-row .ensures ∙ asked-judged (a .self) (a .trail .now) whole
 
 returns-2 : tie.Need-returns-2
 returns-2 c =
     let w = c .before in
     let i = w .before .before in
-    let n = i .before in
-    let a = n .before .before .before .args in
-    asked-refused (a .self) (a .trail .now) _ (checked-by (a .self) (a .trail .now) _ (w .is-readable .ensures) (c .if2 .taken) _ _ false (n .names .ensures) (i .is-intact .ensures) (w .before .if1 .left))
+    let a = start i .args in
+    let by = checked-by (a .self) (a .trail .now) _ (w .is-readable .ensures) (c .if2 .taken) in
+    asked-refused (a .self) (a .trail .now) _ (by _ _ false (i .before .names .ensures) (i .is-intact .ensures) (w .before .if1 .left))
 
 returns-3 : tie.Need-returns-3
 returns-3 c =
     let w = c .before in
-    let i = w .before .before in
-    let n = i .before in
-    let a = n .before .before .before .args in
+    let a = start (w .before .before) .args in
     asked-refused (a .self) (a .trail .now) _ (checked-no-model (a .self) (a .trail .now) _ (w .is-readable .ensures) (c .if2 .left))
 
 pub verdict-spec : {M : Type 1} → statement M
 verdict-spec =
     tie.close
     (tie.spec
-    names-requires
-    is-intact-requires
-    sub-judge-row
-    part-judge-row-start
+    (λ c κs. search needs)
+    (λ c κs. search needs)
+    (λ c. search needs)
+    (λ c. search needs)
     part-judge-row-end
-    judge-row-requires
+    (λ c κs. search needs)
     returns
-    is-readable-requires
+    (λ c κs. search needs)
     returns-2
     returns-3)

@@ -1,0 +1,107 @@
+-- Laws of bytes that are put into a buffer: one write behind another, and a text that is written piece by piece.
+use mathlib.Core.{Path._≡_, Path.refl, Path.ap, Path.sym, Path._∙_, List.[], List._∷_, List._++_, List.append-assoc, List.append-nil}
+use Prim.Native.Nat.{ℕ, _+_, _-_, _≤_, _<_}
+use native.Mathlib.{Omega.arith, Numerals.add-one}
+use lib.ListN.{length, take, drop, set, length-append, length-take, length-drop, drop-of-length-le}
+use lib.Seq.{take-at, drop-at, drop-drop, set-split, paste, take-length, take-all, take-add}
+use borrow.Rule.Slice.PartMut.{putMid}
+use Rattle.fields.specs.Bytes.{Text}
+use Rattle.sheet.specs.Put.{Put, Begun}
+
+pub put-length : {old new : Text} {at : ℕ} {s : Text} {end : ℕ} → Put old new at s end → length new ≡ length old
+put-length {old} {new} {at} {s} {end} p =
+    rw (p .text-is, length-append, length-append, length-take, length-drop) (omega (arith, p .fits))
+
+pub put-ends : {old new : Text} {at : ℕ} {s : Text} {end : ℕ} → Put old new at s end → (end ≡ at + length s) × (length new ≡ length old)
+put-ends p = (p .end-is, put-length p)
+
+-- two writes, the second behind the first
+pub put-then : {old mid new : Text} {at a b : ℕ} {s t : Text} → Put old mid at s a → Put mid new a t b → Put old new at (s ++ t) b
+put-then {old} {mid} {new} {at} {a} {b} {s} {t} p q =
+    let k = put-length p in
+    let f : length (take at old ++ s) ≡ a = rw (length-append, length-take) (omega (arith, p .fits, p .end-is)) in
+    let m : mid ≡ (take at old ++ s) ++ drop (at + length s) old = p .text-is ∙ sym (append-assoc (take at old) s (drop (at + length s) old)) in
+    let x : take a mid ≡ take at old ++ s = ap (take a) m ∙ take-at (take at old ++ s) (drop (at + length s) old) a f in
+    let y : drop a mid ≡ drop (at + length s) old = ap (drop a) m ∙ drop-at (take at old ++ s) (drop (at + length s) old) a f in
+    let g : (at + length s) + length t ≡ at + length (s ++ t) = rw length-append (omega arith) in
+    let z : drop (a + length t) mid ≡ drop (at + length (s ++ t)) old =
+    sym (drop-drop (length t) a mid) ∙ ap (drop (length t)) y ∙ drop-drop (length t) (at + length s) old ∙ ap (λ n. drop n old) g in
+    record {
+      fits = rw length-append (omega (arith, p .fits, q .fits, p .end-is));
+      end-is = rw length-append (omega (arith, q .end-is, p .end-is));
+      text-is = q .text-is ∙ rw (x, z, append-assoc, append-assoc);
+    }
+
+pub put-one : (old : Text) (at b : ℕ) → at < length old → Put old (set old at b) at (b ∷ []) (at + 1)
+put-one old at b h =
+    record {
+      fits = omega arith;
+      end-is = omega arith;
+      text-is = set-split old at b h ∙ ap (λ n. take at old ++ (b ∷ drop n old)) (sym (add-one at));
+    }
+
+-- what a loop that copies byte by byte ends in
+pub put-whole : {old new : Text} {at : ℕ} {s : Text} (i : ℕ) → i ≤ length s → length s ≤ i → at + length s ≤ length old → new ≡ paste old at s i
+    → Put old new at s (at + i)
+put-whole {old} {new} {at} {s} i h k f e =
+    let n : i ≡ length s = omega arith in
+    record { fits = f; end-is = omega arith; text-is = e ∙ rw (n, take-length s) (append-assoc (take at old) s (drop (at + length s) old)) }
+
+pub begun-none : {old whole : Text} → length whole ≤ length old → Begun old old whole 0 whole
+begun-none h = record { room = h; inside = omega arith; ahead = refl; so-far = refl }
+
+module _ {old buffer whole rest : Text} {at : ℕ} (g : Begun old buffer whole at rest) where
+  front-length : length (take at whole) ≡ at
+  front-length = length-take at whole ∙ omega (arith, g .inside)
+
+  pub begun-length : length buffer ≡ length old
+  begun-length = rw (g .so-far, length-append, front-length, length-drop) (omega (arith, g .room, g .inside))
+
+  rest-free : drop at buffer ≡ drop at old
+  rest-free = ap (drop at) (g .so-far) ∙ drop-at (take at whole) (drop at old) at front-length
+
+  front-kept : take at buffer ≡ take at whole
+  front-kept = ap (take at) (g .so-far) ∙ take-at (take at whole) (drop at old) at front-length
+
+  free : take (length buffer - at) (drop at buffer) ≡ drop at old
+  free = take-all (length buffer - at) (drop at buffer) (rw length-drop (omega arith)) ∙ rest-free
+
+pub begun-all : {old buffer whole : Text} {at : ℕ} → Begun old buffer whole at [] → Put old buffer 0 whole (length whole)
+begun-all {old} {buffer} {whole} {at} g =
+    let j : at ≡ length whole = omega (arith, g .inside, length-drop at whole, ap length (g .ahead)) in
+    let z : length whole ≡ 0 + length whole = omega arith in
+    record { fits = omega (arith, g .room); end-is = omega arith; text-is = g .so-far ∙ rw (j, take-length whole) (ap (λ i. whole ++ drop i old) z) }
+
+-- a write into the part from i to the end
+rest-put : (l z : Text) (i : ℕ) → putMid i (length l - i) l z ≡ take i l ++ z
+rest-put l z i =
+    ap (λ r. take i l ++ (z ++ r)) (drop-of-length-le (drop i l) {i = length l - i} (rw length-drop (omega arith))) ∙ ap (λ r. take i l ++ r) (append-nil z)
+
+-- a piece more, into the part of the buffer that the earlier ones left free
+module _ {old buffer whole : Text} {at : ℕ} (piece rest : Text) (g : Begun old buffer whole at (piece ++ rest)) where
+  pub piece-fits : at + length piece ≤ length whole
+  piece-fits = omega (arith, g .inside, length-drop at whole, ap length (g .ahead), length-append piece rest)
+
+  pub piece-room : length piece ≤ length (take (length buffer - at) (drop at buffer))
+  piece-room = rw (length-take, length-drop) (omega (arith, g .room, begun-length g, piece-fits))
+
+  front-more : take (at + length piece) whole ≡ take at whole ++ piece
+  front-more =
+      take-add at (length piece) whole ∙ ap (λ r. take at whole ++ r) (ap (take (length piece)) (g .ahead) ∙ take-at piece rest (length piece) refl)
+
+  piece-text : {y : Text} {n : ℕ} → Put (take (length buffer - at) (drop at buffer)) y 0 piece n → y ≡ piece ++ drop (at + length piece) old
+  piece-text p =
+      let j : at + (0 + length piece) ≡ at + length piece = omega arith in
+      p .text-is ∙ ap (λ r. piece ++ drop (0 + length piece) r) (free g)
+      ∙ ap (λ r. piece ++ r) (drop-drop (0 + length piece) at old ∙ ap (λ i. drop i old) j)
+
+  pub piece-put : {y : Text} {n : ℕ} → Put (take (length buffer - at) (drop at buffer)) y 0 piece n
+      → Begun old (putMid at (length buffer - at) buffer y) whole (at + n) rest
+  piece-put {y} {n} p =
+      let n-is : n ≡ length piece = p .end-is ∙ omega arith in
+      record {
+        room = g .room;
+        inside = omega (arith, piece-fits, n-is);
+        ahead = rw n-is (sym (drop-drop (length piece) at whole) ∙ ap (drop (length piece)) (g .ahead) ∙ drop-at piece rest (length piece) refl);
+        so-far = rest-put buffer y at ∙ rw (front-kept g, piece-text p, n-is, front-more, append-assoc);
+      }
