@@ -15,7 +15,7 @@ rule-of-requires : tie.Need-rule-of-requires
 rule-of-requires c κs = let w = whole-past (c .before .before .before .before .read-whole .ensures) (c .before .before .past .given .1) in (w .nodes .few, w .nodes .whole)
 
 names-of-requires : tie.Need-names-of-requires
-names-of-requires c κs = let w = whole-past (c .before .before .before .before .before .before .read-whole .ensures) (c .before .before .before .before .past .given .1) in (w .named .held .few, w .named .held .whole)
+names-of-requires c κs = let w = whole-past (c .before .before .before .before .before .before .read-whole .ensures) (c .before .before .before .before .past .given .1) in (w .tabled .few, w .named .held .whole)
 
 enum-known-f : tie.Need-enum-known-f
 enum-known-f c = search needs
