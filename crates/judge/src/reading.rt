@@ -96,8 +96,8 @@ fn rule_of(work: &[u64; MAX_NODES], len: usize) -> Rule
     rule
 }
 
-fn names_of(words: &[u32; MAX_ATOMS], len: usize) -> Names
-    requires { ⌜ (len ≤ 64) × (length (now words) ≡ 64) ⌝ }
+fn names_of(words: &[u64; MAX_NODES], len: usize) -> Names
+    requires { ⌜ (len ≤ 64) × (length (now words) ≡ 128) ⌝ }
     ensures { λ r. ⌜ r ≡ namesWith (map placeOf (take len (now (words .entry)))) ⌝ }
 {
     let mut names = no_names();
@@ -117,7 +117,7 @@ pub fn read_model(text: &[u8]) -> Reading
     ensures { λ r. ⌜ r ≡ reading (now (text .entry)) ⌝ }
 {
     let mut work = [0u64; MAX_NODES];
-    let mut names = [0u32; MAX_ATOMS];
+    let mut names = [0u64; MAX_NODES];
     let mut heads = [0u8; SLOTS];
     match read_whole(text, &mut work, &mut names, &mut heads) {
         Got::Past(past) => Reading {

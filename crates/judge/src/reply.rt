@@ -1,21 +1,23 @@
 // Children judged by a model text.
 
-ghost use mathlib.Core.Path.{_≡_};
-ghost use Prim.Native.Nat.{_≤_, _<_, min};
-ghost use lib.ListN.{length, set};
-ghost use Rattle.fields.specs.Limits.{maxRow, maxFile};
-ghost use Rattle.judge.specs.{Reading.Whole.Whole, Reply.childrenIn, Reply.childrenReply, Reply.judgedOf, Reply.Children.childEnd};
-ghost use Rattle.judge.specs.{Reply.Children.RowRead};
+ghost use mathlib.Core.{Path._≡_, List.[]};
+ghost use Prim.Native.Nat.{_≤_};
+ghost use lib.ListN.{length};
+ghost use Rattle.fields.specs.{Limits.maxFile, Limits.maxAtoms, Children.shortName};
+ghost use Rattle.judge.specs.{declared.lexeme.NameEnd.NameEnd, Reading.Lexeme.NameEnds, Reading.Whole.Whole, Row.Tally.Seeing};
+ghost use Rattle.judge.specs.{Reply.childrenIn, Reply.childrenReply, Reply.judgedOf, Reply.Children.childFrom, Reply.Children.ChildrenTallied};
 ghost use Rattle.judge.specs.Reading.Table.{Tabled, Distinct, partsIn};
+use crate::lexeme::NameEnd;
 use crate::lexeme::name_end;
 use crate::lexeme::stands;
 use crate::reader::Cursor;
 use crate::reader::Got;
 use crate::reader::read_whole;
-use crate::row::verdict_on;
+use crate::row::noted;
+use crate::row::verdict_by;
 use crate::table::SLOTS;
 use crate::table::find;
-use crate::table::hash;
+use crate::table::slot_of;
 use crate::verdict::ChildrenJudged;
 use fields::bytes::is_letter;
 use fields::children::Children;
@@ -27,49 +29,34 @@ use fields::split::TAB;
 use model::rule::MAX_ATOMS;
 use model::rule::MAX_NODES;
 
-// A children text of fewer bytes has no more children.
-const FEW: usize = 256;
-
-// Puts a number into the row, if it goes so far.
-fn put_at(row: &mut [u16], i: usize, number: u16)
-    ensures { λ r. ⌜ now (row .exit) ≡ set (now (row .entry)) i number ⌝ }
+// Is the child that begins at `at` a name of 1 to 32 characters? `read` has where the bytes of names from there on end.
+fn is_child(children: &[u8], at: usize, read: NameEnd) -> bool
+    requires { ⌜ (at ≤ length (now children)) × NameEnds (now children) at read ⌝ }
+    ensures { λ r. ⌜ r ≡ shortName (childFrom (now (children .entry)) at) ⌝ }
 {
-    if i < row.len() {
-        row[i] = number;
-    }
-}
-
-// Where the child that begins at `at` ends; `at` itself where it is no name of 1 to 32 characters.
-fn child_end(children: &[u8], at: usize) -> usize
-    requires { ⌜ at ≤ length (now children) ⌝ }
-    ensures { λ r. ⌜ r ≡ childEnd (now (children .entry)) at ⌝ }
-{
-    let end = name_end(children, at);
+    let end = read.end;
     let len = end - at;
     if (len == 0) | (MAX_NAME < len) {
-        return at;
+        return false;
     }
     let letter = is_letter(children[at]);
     let parted = stands(children, end, TAB);
-    if letter & (parted | (end == children.len())) {
-        end
-    } else {
-        at
-    }
+    letter & (parted | (end == children.len()))
 }
 
-// How many children there are, their numbers among the first n names put into the row; or what is wrong with them. No bytes are no children.
-fn read_children(
+// How many children there are, and what is seen of each of the first n names among them, of foreign names under 0; or what is wrong with the
+// children. No bytes are no children. `count_children` gives the same count by itself: here each child is looked up and noted when it is read.
+fn tally_children(
     model: &[u8],
-    names: &[u32; MAX_ATOMS],
+    names: &[u64; MAX_NODES],
     n: usize,
     heads: &[u8; SLOTS],
     children: &[u8],
-    row: &mut [u16],
+    seen: &mut [u64; MAX_ATOMS + 1],
 ) -> Children
     requires { ⌜ Tabled (now model) (now names) (now heads) n × Distinct (partsIn (now model) (now names) n) ⌝ }
-    requires { ⌜ (length (now children) ≤ maxFile) × (min (length (childrenIn (now children))) maxRow ≤ length (now row)) ⌝ }
-    ensures { λ r. ⌜ RowRead (partsIn (now (model .entry)) (now (names .entry)) n) (childrenIn (now (children .entry))) (now (row .exit)) r ⌝ }
+    requires { ⌜ (length (now children) ≤ maxFile) × Seeing maxAtoms [] (now seen) ⌝ }
+    ensures { λ r. ⌜ ChildrenTallied (partsIn (now (model .entry)) (now (names .entry)) n) (childrenIn (now (children .entry))) (now (seen .exit)) r ⌝ }
 {
     if children.len() == 0 {
         return Children::Count(0);
@@ -77,14 +64,15 @@ fn read_children(
     let mut count: usize = 0;
     let mut at: usize = 0;
     while at <= children.len() {
-        let end = child_end(children, at);
-        if end == at {
+        let read = name_end(children, at);
+        if is_child(children, at, read) {} else {
             return Children::Refused(CueFault::NoName);
         }
-        let name = &children[at..end];
-        let slot = hash(name);
-        let number = find(model, names, n, heads, name, slot);
-        put_at(row, count, number);
+        let end = read.end;
+        let key = read.key;
+        let slot = slot_of(key);
+        let number = find(model, names, n, heads, &children[at..end], key, slot) as usize;
+        seen[number] = noted(seen[number], count as u16);
         count += 1;
         at = end + 1;
     }
@@ -95,50 +83,11 @@ fn read_children(
     }
 }
 
-// The verdict on the children, or their refusal, by a model that was read into the arrays; the children's numbers go into the row.
+// The verdict on the children, or their refusal, by a model that was read into the arrays.
 fn judge_read(
     model: &[u8],
     work: &[u64; MAX_NODES],
-    names: &[u32; MAX_ATOMS],
-    heads: &[u8; SLOTS],
-    past: Cursor,
-    children: &[u8],
-    row: &mut [u16],
-) -> ChildrenJudged
-    requires { ⌜ Whole (now model) (now work) (now names, now heads) past ⌝ }
-    requires { ⌜ (length (now children) ≤ maxFile) × (min (length (childrenIn (now children))) maxRow ≤ length (now row)) ⌝ }
-    ensures { λ r. ⌜ r ≡ judgedOf (childrenReply (now (model .entry)) (now (children .entry))) ⌝ }
-{
-    match read_children(model, names, past.names, heads, children, row) {
-        Children::Count(n) => ChildrenJudged::Verdict(verdict_on(
-            work,
-            past.nodes,
-            past.names,
-            &row[0..n],
-        )),
-        Children::Refused(f) => ChildrenJudged::ChildrenRefused(f),
-    }
-}
-
-fn judge_few(
-    model: &[u8],
-    work: &[u64; MAX_NODES],
-    names: &[u32; MAX_ATOMS],
-    heads: &[u8; SLOTS],
-    past: Cursor,
-    children: &[u8],
-) -> ChildrenJudged
-    requires { ⌜ Whole (now model) (now work) (now names, now heads) past × (length (now children) < 256) ⌝ }
-    ensures { λ r. ⌜ r ≡ judgedOf (childrenReply (now (model .entry)) (now (children .entry))) ⌝ }
-{
-    let mut row = [0u16; FEW];
-    judge_read(model, work, names, heads, past, children, &mut row)
-}
-
-fn judge_many(
-    model: &[u8],
-    work: &[u64; MAX_NODES],
-    names: &[u32; MAX_ATOMS],
+    names: &[u64; MAX_NODES],
     heads: &[u8; SLOTS],
     past: Cursor,
     children: &[u8],
@@ -146,8 +95,17 @@ fn judge_many(
     requires { ⌜ Whole (now model) (now work) (now names, now heads) past × (length (now children) ≤ maxFile) ⌝ }
     ensures { λ r. ⌜ r ≡ judgedOf (childrenReply (now (model .entry)) (now (children .entry))) ⌝ }
 {
-    let mut row = [0u16; MAX_ROW];
-    judge_read(model, work, names, heads, past, children, &mut row)
+    let mut seen = [0u64; MAX_ATOMS + 1];
+    match tally_children(model, names, past.names, heads, children, &mut seen) {
+        Children::Count(n) => ChildrenJudged::Verdict(verdict_by(
+            work,
+            past.nodes,
+            past.names,
+            n as u16,
+            &seen,
+        )),
+        Children::Refused(f) => ChildrenJudged::ChildrenRefused(f),
+    }
 }
 
 // The verdict on the children, a field each, by the model that a text spells; or the model text's refusal, or the children's. No bytes are no children.
@@ -155,18 +113,14 @@ pub fn judge_children(model: &[u8], children: &[u8]) -> ChildrenJudged
     ensures { λ r. ⌜ r ≡ judgedOf (childrenReply (now (model .entry)) (now (children .entry))) ⌝ }
 {
     let mut work = [0u64; MAX_NODES];
-    let mut names = [0u32; MAX_ATOMS];
+    let mut names = [0u64; MAX_NODES];
     let mut heads = [0u8; SLOTS];
     match read_whole(model, &mut work, &mut names, &mut heads) {
         Got::Past(past) => {
-            let size = children.len();
-            if MAX_FILE < size {
+            if MAX_FILE < children.len() {
                 return ChildrenJudged::ChildrenRefused(CueFault::LongFile);
             }
-            if size < FEW {
-                return judge_few(model, &work, &names, &heads, past, children);
-            }
-            judge_many(model, &work, &names, &heads, past, children)
+            judge_read(model, &work, &names, &heads, past, children)
         }
         Got::Fault(f, _) => ChildrenJudged::ModelRefused(f),
     }

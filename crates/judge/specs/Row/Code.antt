@@ -1,14 +1,14 @@
 -- What `judge_row` answers, with what its calls gave, is `judged`.
-use mathlib.Core.{Path._≡_, Path.sym, Path.ap, Path._∙_, Bool.Bool, Bool.true, Bool.false, Bool._&&_, List.List, List.map}
+use mathlib.Core.{Path._≡_, Path.sym, Path.ap, Path._∙_, Bool.Bool, Bool.true, Bool.false, List.List, List.map}
 use Prim.Native.Nat.{ℕ, _≤_, _<_}
 use native.Mathlib.Omega.{arith}
 use borrow.Author.Tests.{le-leb, lt-leb}
-use lib.{Dec.eqb, ListN.length, ListN.take, ListN.getD}
-use Rattle.judge.specs.{declared.row.Attribute.Attribute, Reading.Buffer.Stores, Packed.nodeIn, Packed.ruleIn, Row.upto, Row.judged, Row.Tally.seenOf}
-use Rattle.judge.specs.{Row.Tally.Tallied, Row.Root.rootAttribute, Row.Pass.verdict-seen}
+use lib.{ListN.length, ListN.take, ListN.getD}
+use Rattle.judge.specs.{Reading.Buffer.Stores, Packed.nodeIn, Packed.ruleIn, Row.upto, Row.judged, Row.Tally.seenOf}
+use Rattle.judge.specs.{Row.Tally.Tallied, Row.Pass.seenVerdict, Row.Pass.verdict-seen}
 use Rattle.judge.specs.declared.fault.JudgeFault.the-variants.{Unreadable, LongRow, UnknownName}
 use Rattle.judge.specs.declared.verdict.Judged.the-variants.{Verdict, Refused}
-use Rattle.model.specs.{declared.rule.Rule.Rule, declared.rule.Node.Node, declared.verdict.Verdict.Verdict as Said, Word.Word, Verdict.verdictOf}
+use Rattle.model.specs.{declared.rule.Rule.Rule, declared.rule.Node.Node, declared.verdict.Verdict.Verdict as Said, Word.Word}
 use Rattle.model.specs.{Verdict.verdict, Tree.atoms, Tree.nodes, Model.Laws.length-encode, Model.atomsIn, Rule.names, Rule.ruleWith, Rule.ruleType, Rule.used}
 use Rattle.model.specs.{Rule.Laws.used-with, Rule.Laws.used-is, Rule.Names.names-model, Check.readable, Check.Exact.readable-formed}
 use Rattle.fields.specs.Limits.{maxAtoms, maxNodes, maxRow}
@@ -39,14 +39,13 @@ module _ (r : Rule) (e : readable r ≡ true) (words : List ℕ) (h : Stores nod
   pub packed-names : (m : ℕ) → m ≡ names r → m ≡ atomsIn (map nodeIn (take (r .len) words))
   packed-names m f = rw (h .held) f
 
--- with what the first pass has counted, and what the second made of it
-pub verdict-tallied : (l : List Node) → readable (ruleWith l) ≡ true → (w : Word) (m : ℕ) → m ≡ atomsIn l → upto m w ≡ true
-    → (s : List ℕ) → Tallied w s → (x : Attribute) → x ≡ rootAttribute (ruleWith l) (length w) (λ k. seenOf (getD s k 0))
-    → verdictOf (eqb (seenOf (getD s 0 0) .count) 0 && x .done) (eqb (seenOf (getD s 0 0) .count) 0 && x .alive) ≡ verdict (ruleType (ruleWith l)) w
-verdict-tallied l e w m f h s g x i =
+-- with what the first pass has counted
+pub verdict-tallied : (l : List Node) → readable (ruleWith l) ≡ true → (w : Word) {m : ℕ} → m ≡ atomsIn l → upto m w ≡ true → (s : List ℕ) → Tallied w s
+    → seenVerdict (ruleWith l) (length w) (λ k. seenOf (length w) (getD s k 0)) ≡ verdict (ruleType (ruleWith l)) w
+verdict-tallied l e w {m} f h s g =
     let n : m ≡ names (ruleWith l) = rw (used-with l) f in
     let c = readable-within (ruleWith l) e in
-    rw i (verdict-seen (ruleWith l) e w (rw n at h) (λ k. seenOf (getD s k 0)) (λ k j. g k (omega arith)))
+    verdict-seen (ruleWith l) e w (rw n at h) (λ k. seenOf (length w) (getD s k 0)) (λ k j. g k (omega arith))
 
 -- the test of 40
 module _ (r : Rule) (good : Bool) (e : good ≡ readable r) where

@@ -18,7 +18,7 @@ rule-of-requires : tie.Need-rule-of-requires
 rule-of-requires c κs = let w = whole (c .before .before) in (w .nodes .few, w .nodes .whole)
 
 names-of-requires : tie.Need-names-of-requires
-names-of-requires c κs = let w = whole (c .before .before .before .before) in (w .named .held .few, w .named .held .whole)
+names-of-requires c κs = let w = whole (c .before .before .before .before) in (w .tabled .few, w .named .held .whole)
 
 returns : tie.Need-returns
 returns c = let r = c .before .before in reading-is (whole (r .before .before .before)) (r .rule-of .ensures) (c .names-of .ensures)

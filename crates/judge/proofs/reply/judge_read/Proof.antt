@@ -1,58 +1,59 @@
--- The children are read into the row, and the row is judged by the nodes.
+-- What is seen among the children tells the verdict on them.
 use native.Mathlib.Omega.{arith}
-use Rattle.judge.specs.Reading.Whole.{whole-readable, whole-count, whole-apart}
-use Rattle.judge.specs.Reply.Judged.{children-refused, row-fits, row-good, row-judged}
 use borrow.Author.Needs.{needs}
+use Rattle.judge.specs.{Row.Tally.seeing-none, Reading.Whole.whole-count, Reading.Whole.whole-apart}
+use Rattle.judge.specs.Reply.Judged.{children-refused, count-fits, row-judged}
 use Rattle.judge.proofs.reply.judge_read.Statement.{statement}
 use Rattle.judge.proofs.reply.judge_read.Tie as tie
 
-read-children-requires : tie.Need-read-children-requires
-read-children-requires c κs = let p = c .before .before .before .before .pre in ((p .0 .tabled, whole-apart (p .0)), p .1)
+-- places: the start, and where the children were counted
+abbrev entry : tie.After-tally-children → tie.Start
+entry c = c .before .before .before .before
+
+abbrev read : tie.After-known-told → tie.After-tally-children
+read c = c .before .before .before
+
+tally-children-requires : tie.Need-tally-children-requires
+tally-children-requires c κs =
+    let s = c .before .before .before in
+    ((s .pre .0 .tabled, whole-apart (s .pre .0)), (s .pre .1, seeing-none 64 65 (omega arith)))
 
 enum-known-n : tie.Need-enum-known-n
 enum-known-n c = search needs
 
-sub-verdict-on : tie.Need-sub-verdict-on
-sub-verdict-on c = search needs
+cast-verdict-by : tie.Need-cast-verdict-by
+cast-verdict-by c =
+    let s = entry (read c) in
+    omega (arith, count-fits (s .pre .0) (s .args .children .now) (s .pre .1) (read c .tally-children .ensures) (c .before .n .given .1))
 
-part-verdict-on-start : tie.Need-part-verdict-on-start
-part-verdict-on-start c = search needs
-
-part-verdict-on-end : tie.Need-part-verdict-on-end
-part-verdict-on-end c = row-fits (c .before .before .before .before .before .before .before .before .before .before .before .pre .0) (c .before .before .before .before .before .before .before .before .before .before .before .args .children .now) (c .before .before .before .before .before .before .before .before .before .before .before .pre .1 .0) (c .before .before .before .before .before .before .read-children .ensures) (c .before .before .n .given .0 .0) (c .before .before .n .given .1) (omega (arith, c .before .before .before .before .before .before .before .before .before .before .before .pre .1 .1))
-
-verdict-on-requires : tie.Need-verdict-on-requires
-verdict-on-requires c κs =
-    let w = c .before .before .before .before .before .before .before .before .before .before .before .before .pre .0 in
-    ((w .nodes .few, w .nodes .whole), ((whole-readable w, whole-count w), row-good (c .before .before .before .before .before .before .before .before .before .before .before .before .pre .0) (c .before .before .before .before .before .before .before .before .before .before .before .before .args .children .now) (c .before .before .before .before .before .before .before .before .before .before .before .before .pre .1 .0) (c .before .before .before .before .before .before .before .read-children .ensures) (c .before .before .before .n .given .0 .0) (c .before .before .before .n .given .1)))
+verdict-by-requires : tie.Need-verdict-by-requires
+verdict-by-requires c κs =
+    let w = entry (read (c .before)) .pre .0 in
+    ((w .nodes .few, w .nodes .whole), (whole-count w, w .tabled .few))
 
 enum-known-f : tie.Need-enum-known-f
 enum-known-f c = search needs
 
-same-length : tie.Need-same-length
-same-length c = search needs
-
 returns : tie.Need-returns
-returns c = row-judged (c .before .before .before .before .before .before .before .before .before .before .before .before .before .pre .0) (c .before .before .before .before .before .before .before .before .before .before .before .before .before .args .children .now) (c .before .before .before .before .before .before .before .before .before .before .before .before .before .pre .1 .0) (c .before .before .before .before .before .before .before .before .read-children .ensures) (c .before .before .before .before .n .given .0 .0) (c .before .before .before .before .n .given .1) (c .verdict-on .result) (c .verdict-on .ensures)
-
-same-length-2 : tie.Need-same-length-2
-same-length-2 c = search needs
+returns c =
+    let t = c .before .before in
+    let s = entry (read t) in
+    row-judged (s .pre .0) (s .args .children .now) (s .pre .1) (read t .tally-children .ensures) (t .before .n .given .1) _ (c .verdict-by .ensures)
 
 returns-2 : tie.Need-returns-2
-returns-2 c = children-refused (c .before .before .before .before .before .before .before .before .before .before .pre .0) (c .before .before .before .before .before .before .before .before .before .before .args .children .now) (c .before .before .before .before .before .before .before .before .before .before .pre .1 .0) (c .before .before .before .before .before .read-children .ensures) (c .before .f .given .0 .0) (c .before .f .given .1)
+returns-2 c =
+    let t = c .before .before .before in
+    let s = entry t in
+    children-refused (s .pre .0) (s .args .children .now) (s .pre .1) (t .tally-children .ensures) _ (c .before .f .given .1)
 
 pub judge-read-spec : {M : Type 1} → statement M
 judge-read-spec =
     tie.close
     (tie.spec
-    read-children-requires
+    tally-children-requires
     enum-known-n
-    sub-verdict-on
-    part-verdict-on-start
-    part-verdict-on-end
-    verdict-on-requires
+    cast-verdict-by
+    verdict-by-requires
     enum-known-f
-    same-length
     returns
-    same-length-2
     returns-2)

@@ -1,0 +1,36 @@
+-- By the bytes of names that come first, and by what comes behind them.
+use Rattle.judge.specs.Reply.Children.Laws.{child-missized, child-inside, child-sized}
+use borrow.Author.Needs.{needs}
+use Rattle.judge.proofs.reply.is_child.Statement.{statement}
+use Rattle.judge.proofs.reply.is_child.Tie as tie
+
+sub-len : tie.Need-sub-len
+sub-len c = search needs
+
+returns : tie.Need-returns
+returns c = let s = c .before .before in child-missized (s .args .children .now) (s .pre .0) (s .pre .1 .end-is) (c .if1 .taken)
+
+shared-slice-read-is-letter : tie.Need-shared-slice-read-is-letter
+shared-slice-read-is-letter c = let s = c .before .before .before in child-inside (s .args .children .now) (s .pre .0) (s .pre .1 .end-is) (c .before .if1 .left)
+
+is-letter-requires : tie.Need-is-letter-requires
+is-letter-requires c κs = search needs
+
+stands-requires : tie.Need-stands-requires
+stands-requires c κs = search needs
+
+returns-2 : tie.Need-returns-2
+returns-2 c =
+    let s = c .before .before .before .before .before in
+    child-sized (s .args .children .now) (s .pre .0) (s .pre .1 .end-is) (c .before .before .before .if1 .left) (c .before .is-letter .ensures) (c .stands .ensures)
+
+pub is-child-spec : {M : Type 1} → statement M
+is-child-spec =
+    tie.close
+    (tie.spec
+    sub-len
+    returns
+    shared-slice-read-is-letter
+    is-letter-requires
+    stands-requires
+    returns-2)
