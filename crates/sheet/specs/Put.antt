@@ -22,6 +22,10 @@ pub put-length : {old new : Text} {at : ℕ} {s : Text} {end : ℕ} → Put old 
 put-length {old} {new} {at} {s} {end} p =
     rw (p .text-is, length-append, length-append, length-take, length-drop) (omega (arith, p .fits))
 
+-- what a write behind it asks for
+pub put-sizes : {old new : Text} {at : ℕ} {s : Text} {end : ℕ} → Put old new at s end → (end ≡ at + length s) × (length new ≡ length old)
+put-sizes p = (p .end-is, put-length p)
+
 -- two writes, the second behind the first
 pub put-then : {old mid new : Text} {at a b : ℕ} {s t : Text} → Put old mid at s a → Put mid new a t b → Put old new at (s ++ t) b
 put-then {old} {mid} {new} {at} {a} {b} {s} {t} p q =
@@ -41,6 +45,12 @@ put-then {old} {mid} {new} {at} {a} {b} {s} {t} p q =
 
 pub put-one : (old : Text) (at b : ℕ) → at < length old → Put old (set old at b) at (b ∷ []) (at + 1)
 put-one old at b h = record { fits = omega arith; end-is = omega arith; text-is = set-split old at b h ∙ ap (λ n. take at old ++ (b ∷ drop n old)) (sym (add-one at)) }
+
+-- a write at the beginning
+pub put-first : {old new s : Text} {end : ℕ} → Put old new 0 s end → (end ≡ length s) × (new ≡ s ++ drop end old)
+put-first {old} {new} {s} p =
+    let e : 0 + length s ≡ length s = omega arith in
+    (p .end-is ∙ e, p .text-is ∙ rw (p .end-is))
 
 -- what a loop that copies byte by byte ends in
 pub put-whole : (old new : Text) (at : ℕ) (s : Text) (i : ℕ) → i ≤ length s → length s ≤ i → at + length s ≤ length old → new ≡ paste old at s i → Put old new at s (at + i)

@@ -90,7 +90,8 @@ pub line-short : (l : Text) (v : Said) → Fits l → length (listingLine l v) �
 line-short l v f =
     let h = headsOf l in
     let t = fields-three l h refl (enough l h refl (f .enough)) in
-    omega (arith, line-length l h v (length (children l)) t refl, t .ascending, word-short v, digits-length (length (children l)), f .short)
+    let d = digits-length 4 (length (children l)) (omega (arith, f .few)) in
+    omega (arith, line-length l h v (length (children l)) t refl, t .ascending, word-short v, f .short)
 
 -- a line behind the others, in the part of the buffer that they left free
 module _ (old buffer whole line rest : Text) (at : ℕ) (b : buffer ≡ take at whole ++ drop at old) (k : at ≤ length whole) (m : length whole ≤ length old) (w : drop at whole ≡ line ++ rest) where
@@ -195,7 +196,7 @@ coded-set f ls vs n v o h e i k =
     (λ q. let y : i ≡ n = omega arith in rw (y, getD-set-same vs n v 0 o) e)
 
 -- what the listing is answered
-module _ (s c : Text) (room : ℕ) where
+module _ (s c : Text) (size : ℕ) where
   outcome-is : sheetRead s .outcome ≡ sheetOutcome s
   outcome-is = go (sheetOutcome s)
     where
@@ -203,14 +204,14 @@ module _ (s c : Text) (room : ℕ) where
       go Read = refl
       go (SheetIsRefused f n) = refl
 
-  pub listed-sheet : (f : SheetFault) (n : ℕ) → sheetRead s .outcome ≡ SheetIsRefused f n → SheetRefused f n ≡ listed s c room
+  pub listed-sheet : (f : SheetFault) (n : ℕ) → sheetRead s .outcome ≡ SheetIsRefused f n → SheetRefused f n ≡ listed s c size
   listed-sheet f n e = let k : sheetOutcome s ≡ SheetIsRefused f n = sym outcome-is ∙ e in rw k
 
   module _ (e : sheetRead s .outcome ≡ Read) where
     sheet-good : sheetOutcome s ≡ Read
     sheet-good = sym outcome-is ∙ e
 
-    pub listed-cues : (f : CueFault) (n : ℕ) → cuesRead c ≡ CuesRefused f n → CueRefused f n ≡ listed s c room
+    pub listed-cues : (f : CueFault) (n : ℕ) → cuesRead c ≡ CuesRefused f n → CueRefused f n ≡ listed s c size
     listed-cues f n k = rw (sheet-good, k)
 
     module _ (m : ℕ) (k : cuesRead c ≡ CuesCount m) (codes : List ℕ) (v : Coded s c codes) (total : ℕ) (t : total ≡ length (listingCoded codes 0 (lines c))) where
@@ -220,11 +221,11 @@ module _ (s c : Text) (room : ℕ) where
       total-is : total ≡ length (listing s c)
       total-is = t ∙ ap length coded-listing
 
-      pub listed-long : room < total → TooLong ≡ listed s c room
-      listed-long h = rw (sheet-good, k, lt-leb (length (listing s c)) room (omega (arith, total-is)))
+      pub listed-long : size < total → TooLong ≡ listed s c size
+      listed-long h = rw (sheet-good, k, lt-leb (length (listing s c)) size (omega (arith, total-is)))
 
-      pub listed-written : total ≤ room → Written total ≡ listed s c room
-      listed-written h = rw (sheet-good, k, le-leb (length (listing s c)) room (omega (arith, total-is)), total-is)
+      pub listed-written : total ≤ size → Written total ≡ listed s c size
+      listed-written h = rw (sheet-good, k, le-leb (length (listing s c)) size (omega (arith, total-is)), total-is)
 
       pub buffer-written : (old new : Text) → Put old new 0 (listingCoded codes 0 (lines c)) (length (listingCoded codes 0 (lines c))) → new ≡ bufferAfter (Written total) (listing s c) old
       buffer-written old new p =
@@ -232,10 +233,10 @@ module _ (s c : Text) (room : ℕ) where
           p .text-is ∙ ap₂ (λ w j. w ++ drop j old) coded-listing z
 
 -- what is written is no longer than the buffer
-pub written-fits : (s c : Text) (room n : ℕ) → Written n ≡ listed s c room → n ≤ room
-written-fits s c room n e = go (sheetOutcome s) (cuesRead c) (leb (length (listing s c)) room) (length (listing s c)) (leb-true (length (listing s c)) room) e
+pub written-fits : (s c : Text) (size n : ℕ) → Written n ≡ listed s c size → n ≤ size
+written-fits s c size n e = go (sheetOutcome s) (cuesRead c) (leb (length (listing s c)) size) (length (listing s c)) (leb-true (length (listing s c)) size) e
   where
-    go : (o : SheetOutcome) (q : CuesRead) (t : Bool) (m : ℕ) → (t ≡ true → m ≤ room) → Written n ≡ bySheet o (byCues q (cond t (Written m) TooLong)) → n ≤ room
+    go : (o : SheetOutcome) (q : CuesRead) (t : Bool) (m : ℕ) → (t ≡ true → m ≤ size) → Written n ≡ bySheet o (byCues q (cond t (Written m) TooLong)) → n ≤ size
     go (SheetIsRefused f k) q t m h e = let z : _≡_ {A = ℕ} 0 1 = cc e in absurd (omega arith)
     go Read (CuesRefused f k) t m h e = let z : _≡_ {A = ℕ} 0 1 = cc e in absurd (omega arith)
     go Read (CuesCount k) false m h e = let z : _≡_ {A = ℕ} 0 1 = cc e in absurd (omega arith)

@@ -51,7 +51,7 @@ pub record Gone (x : Text) (kinds : Names) (entries : List Entry) (n at : ℕ) :
   pub entries-good : (k : ℕ) (d : Entry) → k < n → EntryGood x (getD entries k d) (getD (lines x) k [])
   pub answer : sheetLines 0 [] (lines x) ≡ sheetLines n (map kind (take n (lines x))) (drop n (lines x))
 
-placed-length : (p : ℕ) (ls : List Text) → length (placedFrom p ls) ≡ length ls
+pub placed-length : (p : ℕ) (ls : List Text) → length (placedFrom p ls) ≡ length ls
 placed-length p [] = refl
 placed-length p (l ∷ ls) = ap suc (placed-length (p + suc (length l)) ls)
 
