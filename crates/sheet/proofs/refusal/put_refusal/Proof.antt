@@ -62,8 +62,9 @@ put-requires-2 c κs =
     let t = tab (l .before) in
     let n = number (t .before) in
     let h = head (n .before) in
-    let before = (put-sizes (h .put-head .ensures), put-sizes (n .put-number .ensures), put-sizes (t .put .ensures)) in
-    omega (arith, fits (start h), before, put-sizes (l .put-number2 .ensures))
+    let a = put-sizes (h .put-head .ensures) in
+    let b = put-sizes (n .put-number .ensures) in
+    omega (arith, fits (start h), put-sizes (t .put .ensures), put-sizes (l .put-number2 .ensures))
 
 same-length : tie.Need-same-length
 same-length c = search needs
