@@ -85,7 +85,7 @@ pub fn refusal_line(
     line: usize,
     buffer: &mut [u8; REFUSAL_SIZE],
 ) -> usize
-    ensures { λ r. ⌜ (r ≡ length (refusalLine source number line)) × (r ≤ 48) ⌝ }
+    ensures { λ r. ⌜ (r ≡ length (refusalLine source number line)) × (r ≤ length (now (buffer .exit))) ⌝ }
     ensures { λ r. ⌜ now (buffer .exit) ≡ refusalLine source number line ++ drop r (now (buffer .entry)) ⌝ }
 {
     put_refusal(buffer, source, number, line)

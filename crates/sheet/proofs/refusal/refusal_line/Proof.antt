@@ -1,5 +1,5 @@
 -- What was put at the beginning.
-use Rattle.sheet.specs.Put.{put-first}
+use Rattle.sheet.specs.Put.{put-sizes, put-first}
 use native.Mathlib.Omega.{arith}
 use borrow.Author.Needs.{needs}
 use Rattle.sheet.proofs.refusal.refusal_line.Statement.{statement}
@@ -12,7 +12,7 @@ returns : tie.Need-returns
 returns c =
     let put = c .put-refusal .ensures in
     let first = put-first put in
-    ((first .0, omega (arith, put .fits, first .0)), first .1)
+    ((first .0, omega (arith, put .fits, put-sizes put)), first .1)
 
 pub refusal-line-spec : {M : Type 1} → statement M
 refusal-line-spec = tie.close (tie.spec put-refusal-requires returns)
