@@ -60,7 +60,7 @@ fn tell_others() {
     write_refusal(Source::Listing, 4294967295, 18446744073709551615);
 }
 
-fn tell_child(what: &[u8], model: &[u8], children: &[u8], k: usize) {
+fn tell_child<'a>(what: &[u8], model: &'a [u8], children: &'a [u8], k: usize) {
     write(b"child\t");
     write(what);
     write(b"\t");
@@ -96,14 +96,20 @@ fn many() -> [u8; 2 * CHILDREN + 8] {
     cues
 }
 
+// The cue as a list, and its children by themselves.
+fn tell_cue(what: &[u8], cues: &[u8]) {
+    tell(what, b"", cues);
+    if 8 < cues.len() {
+        tell_child(what, b"b", &cues[8..cues.len() - 1], 1);
+    }
+}
+
 // All of them good, and then with a bad one at the end.
 fn tell_many() {
     let mut cues = many();
-    tell(b"36", b"", &cues);
-    tell_child(b"36", b"b", &cues[8..2 * CHILDREN + 7], 1);
+    tell_cue(b"36", &cues);
     cues[2 * CHILDREN + 6] = b'B';
-    tell(b"35 before 36", b"", &cues);
-    tell_child(b"35 before 36", b"b", &cues[8..2 * CHILDREN + 7], 1);
+    tell_cue(b"35 before 36", &cues);
 }
 
 fn tell_sheets() {
