@@ -1,22 +1,24 @@
 // Prints the listing of cues.txt by sheet.txt, both in the folder that it is run in, or the one line of a refusal.
 
-use fields::fault::cue_number;
 use fields::limits::MAX_FILE;
 use libc::STDOUT_FILENO;
 use sheet::listing::Listed;
 use sheet::listing::list;
 use sheet::number::sheet_number;
+use sheet::refusal::REFUSAL_SIZE;
+use sheet::refusal::Source;
+use sheet::refusal::listed_refusal;
+use sheet::refusal::refusal_line;
 use sheet::sheet::SheetOutcome;
 use sheet::sheet::read_sheet;
 
-fn refuse(which: &[u8], number: u32, line: usize) {
-    io::write_all(STDOUT_FILENO, b"refused\t");
-    io::write_all(STDOUT_FILENO, which);
-    io::write_all(STDOUT_FILENO, b"\t");
-    io::print_decimal(STDOUT_FILENO, number as u64);
-    io::write_all(STDOUT_FILENO, b"\t");
-    io::print_decimal(STDOUT_FILENO, line as u64);
-    io::write_all(STDOUT_FILENO, b"\n");
+// A file cannot be opened; it has no line.
+const NO_FILE: u32 = 60;
+
+fn refuse(source: Source, number: u32, line: usize) {
+    let mut buffer = [0u8; REFUSAL_SIZE];
+    let n = refusal_line(source, number, line, &mut buffer);
+    io::write_all(STDOUT_FILENO, &buffer[0..n]);
 }
 
 // There is no cue list. The sheet is tried before it.
@@ -24,21 +26,21 @@ fn without_cues(sheet: &[u8]) {
     let read = read_sheet(sheet);
     let outcome = read.outcome;
     match outcome {
-        SheetOutcome::Read => refuse(b"cues", 60, 0),
-        SheetOutcome::Refused(f, line) => refuse(b"sheet", sheet_number(f), line),
+        SheetOutcome::Read => refuse(Source::Cues, NO_FILE, 0),
+        SheetOutcome::Refused(f, line) => refuse(Source::Sheet, sheet_number(f), line),
     }
 }
 
 fn with_both(sheet: &[u8], cues: &[u8]) {
     let mut buffer = io::large_buffer();
-    match list(sheet, cues, &mut buffer[0..65535]) {
-        Listed::Written(n) => {
-            io::write_all(STDOUT_FILENO, &buffer[0..n]);
-        }
-        Listed::SheetRefused(f, line) => refuse(b"sheet", sheet_number(f), line),
-        Listed::CueRefused(f, line) => refuse(b"cues", cue_number(f), line),
-        Listed::TooLong => refuse(b"listing", 50, 0),
+    let listed = list(sheet, cues, &mut buffer[0..65535]);
+    if let Listed::Written(n) = listed {
+        io::write_all(STDOUT_FILENO, &buffer[0..n]);
+        return;
     }
+    let refusal = listed_refusal(listed);
+    let source = refusal.source;
+    refuse(source, refusal.number, refusal.line);
 }
 
 // Does a further read give nothing? A failed one, as of a folder, and one that gives bytes are no end.
@@ -73,7 +75,7 @@ fn with_sheet(sheet: &[u8]) {
 fn main() {
     let fd = os::open_read(b"sheet.txt");
     if fd < 0 {
-        refuse(b"sheet", 60, 0);
+        refuse(Source::Sheet, NO_FILE, 0);
         return;
     }
     let mut sheet = io::large_buffer();
@@ -83,6 +85,6 @@ fn main() {
     if whole {
         with_sheet(&sheet[..n]);
     } else {
-        refuse(b"sheet", 60, 0);
+        refuse(Source::Sheet, NO_FILE, 0);
     }
 }

@@ -1,11 +1,16 @@
-// Runs the library on texts that are refused, each refusal once, and on empty ones: a line for each, with what is tried and the answer.
+// Runs the library on texts that are refused, each refusal once, and on empty ones: a line for each, with what is tried and the answer. A listing's
+// refusal is told by its line; `child` by the part that it hands back and the number of `child_refusal`.
 
-use fields::fault::cue_number;
+use desk::child::child;
+use desk::child::child_refusal;
 use sheet::listing::Listed;
 use sheet::listing::list;
-use sheet::number::sheet_number;
+use sheet::refusal::REFUSAL_SIZE;
+use sheet::refusal::Source;
+use sheet::refusal::listed_refusal;
+use sheet::refusal::refusal_line;
 
-const ROOM: usize = 64;
+const BUFFER: usize = 64;
 
 const CHILDREN: usize = 4097;
 
@@ -13,32 +18,29 @@ fn write(text: &[u8]) {
     io::write_all(1, text);
 }
 
-fn write_refusal(which: &[u8], number: u32, line: usize) {
-    write(which);
-    write(b"\t");
-    io::print_decimal(1, number as u64);
-    write(b"\t");
-    io::print_decimal(1, line as u64);
-    write(b"\n");
+fn write_refusal(source: Source, number: u32, line: usize) {
+    let mut buffer = [0u8; REFUSAL_SIZE];
+    let n = refusal_line(source, number, line, &mut buffer);
+    write(&buffer[0..n]);
 }
 
 fn answer(what: &[u8], sheet: &[u8], cues: &[u8], buffer: &mut [u8]) {
     write(what);
     write(b"\t");
-    match list(sheet, cues, buffer) {
-        Listed::Written(n) => {
-            write(b"written\t");
-            io::print_decimal(1, n as u64);
-            write(b"\n");
-        }
-        Listed::SheetRefused(f, line) => write_refusal(b"sheet", sheet_number(f), line),
-        Listed::CueRefused(f, line) => write_refusal(b"cues", cue_number(f), line),
-        Listed::TooLong => write_refusal(b"listing", 50, 0),
+    let listed = list(sheet, cues, buffer);
+    if let Listed::Written(n) = listed {
+        write(b"written\t");
+        io::print_decimal(1, n as u64);
+        write(b"\n");
+        return;
     }
+    let refusal = listed_refusal(listed);
+    let source = refusal.source;
+    write_refusal(source, refusal.number, refusal.line);
 }
 
 fn tell(what: &[u8], sheet: &[u8], cues: &[u8]) {
-    let mut buffer = [0u8; ROOM];
+    let mut buffer = [0u8; BUFFER];
     answer(what, sheet, cues, &mut buffer);
 }
 
@@ -48,15 +50,36 @@ fn tell_short() {
     answer(b"50", b"rule\ta\tb\n", b"cue\t1\ta\tb\n", &mut buffer);
 }
 
+// The program's own, and the longest line that there can be.
+fn tell_others() {
+    write(b"60 sheet\t");
+    write_refusal(Source::Sheet, 60, 0);
+    write(b"60 cues\t");
+    write_refusal(Source::Cues, 60, 0);
+    write(b"longest\t");
+    write_refusal(Source::Listing, 4294967295, 18446744073709551615);
+}
+
+fn tell_child<'a>(what: &[u8], model: &'a [u8], children: &'a [u8], k: usize) {
+    write(b"child\t");
+    write(what);
+    write(b"\t");
+    write(child(model, children, k));
+    write(b"\t");
+    io::print_decimal(1, child_refusal(model, children, k) as u64);
+    write(b"\n");
+}
+
 // 65,536 bytes, one more than a file may have.
 fn tell_long() {
     let text = io::large_buffer();
     tell(b"20", &text, b"");
     tell(b"30", b"", &text);
+    tell_child(b"30", b"a", &text, 1);
 }
 
-// More children than a cue may have, all of them good, and then with a bad one at the end.
-fn tell_many() {
+// A cue with more children than it may have.
+fn many() -> [u8; 2 * CHILDREN + 8] {
     let mut cues = [b'b'; 2 * CHILDREN + 8];
     cues[0] = b'c';
     cues[1] = b'u';
@@ -70,46 +93,77 @@ fn tell_many() {
         i += 2;
     }
     cues[2 * CHILDREN + 7] = b'\n';
-    tell(b"36", b"", &cues);
+    cues
+}
+
+// The cue as a list, and its children by themselves.
+fn tell_cue(what: &[u8], cues: &[u8]) {
+    tell(what, b"", cues);
+    if 8 < cues.len() {
+        tell_child(what, b"b", &cues[8..cues.len() - 1], 1);
+    }
+}
+
+// All of them good, and then with a bad one at the end.
+fn tell_many() {
+    let mut cues = many();
+    tell_cue(b"36", &cues);
     cues[2 * CHILDREN + 6] = b'B';
-    tell(b"35 before 36", b"", &cues);
+    tell_cue(b"35 before 36", &cues);
 }
 
 fn tell_sheets() {
     tell(b"empty sheet", b"", b"cue\t1\ta\tb\n");
     tell(b"empty list", b"rule\ta\tb\n", b"");
     tell(b"both empty", b"", b"");
-    tell(b"10", b"rule\ta\t\n", b"cue\t1\ta\tb\n");
-    tell(b"11", b"rule\ta\t(b\n", b"cue\t1\ta\tb\n");
-    tell(
-        b"12",
-        b"rule\ta\taaaaaaaaaaaaaaaaaaaaaaaaaaaaaaaaa\n",
-        b"cue\t1\ta\tb\n",
-    );
-    tell(b"13", b"rule\ta\tb[2..1]\n", b"cue\t1\ta\tb\n");
-    tell(b"14", b"rule\ta\t(((((((((((((((((\n", b"cue\t1\ta\tb\n");
-    tell(
-        b"15",
-        b"rule\ta\t(aa,ab,ac,ad,ae,af,ag,ah,ai,aj,ak,al,am,an,ao,ap,aq,ar,as,at,au,av,aw,ax,ay,az,ba,bb,bc,bd,be,bf,bg,bh,bi,bj,bk,bl,bm,bn,bo,bp,bq,br,bs,bt,bu,bv,bw,bx,by,bz,ca,cb,cc,cd,ce,cf,cg,ch,ci,cj,ck,cl,cm)\n",
-        b"cue\t1\ta\tb\n",
-    );
-    tell(
-        b"16",
-        b"rule\ta\t((),(),(),(),(),(),(),(),(),(),(),(),(),(),(),(),(),(),(),(),(),(),(),(),(),(),(),(),(),(),(),(),(),(),(),(),(),(),(),(),(),(),(),(),(),(),(),(),(),(),(),(),(),(),(),(),(),(),(),(),(),(),(),(),(),(),(),(),(),(),(),(),(),(),(),(),(),(),(),(),(),(),(),(),(),(),(),(),(),(),(),(),(),(),(),(),(),(),(),(),(),(),(),(),(),(),(),(),(),(),(),(),(),(),(),(),(),(),(),(),(),(),(),(),(),(),(),())\n",
-        b"cue\t1\ta\tb\n",
-    );
-    tell(b"17", b"rule\ta\t(b,b)\n", b"cue\t1\ta\tb\n");
     tell(b"21", b"rule\ta\tb", b"cue\t1\ta\tb\n");
     tell(
         b"22",
-        b"rule\taa\tb\nrule\tab\tb\nrule\tac\tb\nrule\tad\tb\nrule\tae\tb\nrule\taf\tb\nrule\tag\tb\nrule\tah\tb\nrule\tai\tb\nrule\taj\tb\nrule\tak\tb\nrule\tal\tb\nrule\tam\tb\nrule\tan\tb\nrule\tao\tb\nrule\tap\tb\nrule\taq\tb\nrule\tar\tb\nrule\tas\tb\nrule\tat\tb\nrule\tau\tb\nrule\tav\tb\nrule\taw\tb\nrule\tax\tb\nrule\tay\tb\nrule\taz\tb\nrule\tba\tb\nrule\tbb\tb\nrule\tbc\tb\nrule\tbd\tb\nrule\tbe\tb\nrule\tbf\tb\nrule\tbg\tb\nrule\tbh\tb\nrule\tbi\tb\nrule\tbj\tb\nrule\tbk\tb\nrule\tbl\tb\nrule\tbm\tb\nrule\tbn\tb\nrule\tbo\tb\nrule\tbp\tb\nrule\tbq\tb\nrule\tbr\tb\nrule\tbs\tb\nrule\tbt\tb\nrule\tbu\tb\nrule\tbv\tb\nrule\tbw\tb\nrule\tbx\tb\nrule\tby\tb\nrule\tbz\tb\nrule\tca\tb\nrule\tcb\tb\nrule\tcc\tb\nrule\tcd\tb\nrule\tce\tb\nrule\tcf\tb\nrule\tcg\tb\nrule\tch\tb\nrule\tci\tb\nrule\tcj\tb\nrule\tck\tb\nrule\tcl\tb\nrule\tcm\tb\n",
+        b"rule\taa\tb\nrule\tab\tb\nrule\tac\tb\nrule\tad\tb\nrule\tae\tb\nrule\taf\tb\nrule\tag\tb\nrule\tah\tb\nrule\tai\tb\n\
+         rule\taj\tb\nrule\tak\tb\nrule\tal\tb\nrule\tam\tb\nrule\tan\tb\nrule\tao\tb\nrule\tap\tb\nrule\taq\tb\nrule\tar\tb\n\
+         rule\tas\tb\nrule\tat\tb\nrule\tau\tb\nrule\tav\tb\nrule\taw\tb\nrule\tax\tb\nrule\tay\tb\nrule\taz\tb\nrule\tba\tb\n\
+         rule\tbb\tb\nrule\tbc\tb\nrule\tbd\tb\nrule\tbe\tb\nrule\tbf\tb\nrule\tbg\tb\nrule\tbh\tb\nrule\tbi\tb\nrule\tbj\tb\n\
+         rule\tbk\tb\nrule\tbl\tb\nrule\tbm\tb\nrule\tbn\tb\nrule\tbo\tb\nrule\tbp\tb\nrule\tbq\tb\nrule\tbr\tb\nrule\tbs\tb\n\
+         rule\tbt\tb\nrule\tbu\tb\nrule\tbv\tb\nrule\tbw\tb\nrule\tbx\tb\nrule\tby\tb\nrule\tbz\tb\nrule\tca\tb\nrule\tcb\tb\n\
+         rule\tcc\tb\nrule\tcd\tb\nrule\tce\tb\nrule\tcf\tb\nrule\tcg\tb\nrule\tch\tb\nrule\tci\tb\nrule\tcj\tb\nrule\tck\tb\n\
+         rule\tcl\tb\nrule\tcm\tb\n",
         b"cue\t1\ta\tb\n",
     );
     tell(b"23", b"rule\ta\n", b"cue\t1\ta\tb\n");
     tell(b"23 line 2", b"rule\ta\tb\n\n", b"cue\t1\ta\tb\n");
     tell(b"24", b"rule\tA\tb\n", b"cue\t1\ta\tb\n");
     tell(b"25", b"rule\ta\tb\nrule\ta\tb\n", b"cue\t1\ta\tb\n");
+    tell(b"11 line 2", b"rule\ta\tb\nrule\tb\t(\n", b"");
     tell(b"sheet first", b"rule\ta\n", b"cue\n");
+}
+
+// A sheet of one line with the kind `a`, and its model by itself.
+fn tell_model(what: &[u8], sheet: &[u8]) {
+    tell(what, sheet, b"");
+    if 7 < sheet.len() {
+        tell_child(what, &sheet[7..sheet.len() - 1], b"b", 1);
+    }
+}
+
+fn tell_models() {
+    tell_model(b"10", b"rule\ta\t\n");
+    tell_model(b"11", b"rule\ta\t(b\n");
+    tell_model(b"12", b"rule\ta\taaaaaaaaaaaaaaaaaaaaaaaaaaaaaaaaa\n");
+    tell_model(b"13", b"rule\ta\tb[2..1]\n");
+    tell_model(b"14", b"rule\ta\t(((((((((((((((((\n");
+    tell_model(
+        b"15",
+        b"rule\ta\t(aa,ab,ac,ad,ae,af,ag,ah,ai,aj,ak,al,am,an,ao,ap,aq,ar,as,at,au,av,aw,ax,ay,az,ba,bb,bc,bd,be,bf,bg,bh,bi,bj,\
+         bk,bl,bm,bn,bo,bp,bq,br,bs,bt,bu,bv,bw,bx,by,bz,ca,cb,cc,cd,ce,cf,cg,ch,ci,cj,ck,cl,cm)\n",
+    );
+    tell_model(
+        b"16",
+        b"rule\ta\t((),(),(),(),(),(),(),(),(),(),(),(),(),(),(),(),(),(),(),(),(),(),(),(),(),(),(),(),(),(),(),(),(),(),(),(),\
+         (),(),(),(),(),(),(),(),(),(),(),(),(),(),(),(),(),(),(),(),(),(),(),(),(),(),(),(),(),(),(),(),(),(),(),(),(),(),(),(),\
+         (),(),(),(),(),(),(),(),(),(),(),(),(),(),(),(),(),(),(),(),(),(),(),(),(),(),(),(),(),(),(),(),(),(),(),(),(),(),(),(),\
+         (),(),(),(),(),(),(),(),(),(),(),())\n",
+    );
+    tell_model(b"17", b"rule\ta\t(b,b)\n");
 }
 
 fn tell_lists() {
@@ -121,10 +175,25 @@ fn tell_lists() {
     tell(b"35 child", b"rule\ta\tb\n", b"cue\t1\ta\tb\t\n");
 }
 
+fn tell_children() {
+    tell_child(b"named", b"(axis,hold[0..2])", b"hold\tcrawl\taxis", 1);
+    tell_child(b"foreign", b"(axis,hold[0..2])", b"hold\tcrawl\taxis", 2);
+    tell_child(b"last", b"(axis,hold[0..2])", b"hold\tcrawl\taxis", 3);
+    tell_child(b"37 at 0", b"(axis,hold[0..2])", b"hold\tcrawl\taxis", 0);
+    tell_child(b"37 past", b"(axis,hold[0..2])", b"hold\tcrawl\taxis", 4);
+    tell_child(b"37 none", b"(axis,hold[0..2])", b"", 1);
+    tell_child(b"35", b"(axis,hold[0..2])", b"axis\tAxis", 1);
+    tell_child(b"35 before 37", b"(axis,hold[0..2])", b"axis\t", 3);
+    tell_child(b"10 before 35", b"", b"A", 1);
+}
+
 fn main() {
     tell_sheets();
+    tell_models();
     tell_lists();
     tell_short();
     tell_long();
     tell_many();
+    tell_others();
+    tell_children();
 }

@@ -6,7 +6,7 @@ use lib.{Dec.leb, ListN.length, ListN.drop, ListN.getD}
 use Rattle.model.specs.{declared.verdict.Verdict.Verdict, Syntax.writtenNames, Syntax.numberIn, Fault.Answer, Fault.refused, Fault.accepted, Answer.answer}
 use Rattle.model.specs.{Model.modelOf, Model.typeOf, Verdict.verdict}
 use Rattle.model.specs.declared.verdict.Verdict.the-variants.{Complete as IsComplete, Open as IsOpen, Dead as IsDead}
-use Rattle.fields.specs.{Bytes.Text, Bytes.bytes, Bytes.digits, Split.lineFeed, Split.tab, Split.lines, Split.field, Children.cueNumber}
+use Rattle.fields.specs.{Bytes.Text, Bytes.bytes, Bytes.digits, Split.lineFeed, Split.tab, Split.lines, Split.field}
 use Rattle.judge.specs.Named.{rowOf}
 use Rattle.sheet.specs.{declared.line.Said.Said, declared.cues.CuesRead.CuesRead, declared.sheet.SheetOutcome.SheetOutcome}
 use Rattle.sheet.specs.{declared.listing.Listed.Listed, Cues.children, Cues.cuesRead}
@@ -14,7 +14,7 @@ use Rattle.sheet.specs.declared.line.Said.the-variants.{Complete, Open, 
 use Rattle.sheet.specs.declared.cues.CuesRead.the-variants.{Count, Refused}
 use Rattle.sheet.specs.declared.sheet.SheetOutcome.the-variants.{Read, Refused as SheetIsRefused}
 use Rattle.sheet.specs.declared.listing.Listed.the-variants.{Written, SheetRefused, CueRefused, TooLong}
-use Rattle.sheet.specs.Sheet.{kind, model, sheetNumber, sheetOutcome}
+use Rattle.sheet.specs.Sheet.{kind, model, sheetOutcome}
 
 abbrev pub word : Said → Text
 word Complete = bytes "complete"
@@ -58,7 +58,7 @@ said ls l = saidAt ls (numberIn (map kind ls) (field 2 l)) (children l)
 abbrev pub listing : Text → Text → Text
 listing s c = listingBy (said (lines s)) (lines c)
 
--- the sheet is tried before the list; 50 where the listing is longer than the buffer
+-- the sheet is tried before the list; 50 where the listing is longer than the buffer's size
 abbrev pub byCues : CuesRead → Listed → Listed
 byCues (Count n) good = good
 byCues (Refused f n) good = CueRefused f n
@@ -68,7 +68,7 @@ bySheet Read good = good
 bySheet (SheetIsRefused f n) good = SheetRefused f n
 
 abbrev pub listed : Text → Text → ℕ → Listed
-listed s c room = bySheet (sheetOutcome s) (byCues (cuesRead c) (cond (leb (length (listing s c)) room) (Written (length (listing s c))) TooLong))
+listed s c size = bySheet (sheetOutcome s) (byCues (cuesRead c) (cond (leb (length (listing s c)) size) (Written (length (listing s c))) TooLong))
 
 -- the buffer after: the listing and the bytes behind it as they were; a refusal changes none
 abbrev pub bufferAfter : Listed → Text → Text → Text
@@ -76,10 +76,3 @@ bufferAfter (Written n) new old = new ++ drop n old
 bufferAfter (SheetRefused f n) new old = old
 bufferAfter (CueRefused f n) new old = old
 bufferAfter TooLong new old = old
-
--- document 01's numbers, and the line: 0 for 50
-abbrev pub listedNumber : Listed → ℕ
-listedNumber (Written n) = 0
-listedNumber (SheetRefused f n) = sheetNumber f
-listedNumber (CueRefused f n) = cueNumber f
-listedNumber TooLong = 50

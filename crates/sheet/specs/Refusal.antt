@@ -9,9 +9,10 @@ use Rattle.fields.specs.{Bytes.Text, Bytes.bytes, Bytes.value, Limits.maxRow, L
 use Rattle.fields.specs.{Split.fields, Split.field, Children.cueNumber, Children.shortName, Children.allNames, Least.NoFault, Least.First}
 use Rattle.fields.specs.declared.fault.CueFault.the-variants.{LongFile as LongList, Unended as UnendedList, BadFields as BadCue, BadNumber, NotAbove, NoName}
 use Rattle.fields.specs.declared.fault.CueFault.the-variants.{ManyChildren, NoChild}
-use Rattle.model.specs.Fault.{Answers, refused, modelNumber}
+use Rattle.model.specs.Fault.{Answers, refused}
 use Rattle.sheet.specs.{declared.sheet.SheetFault.SheetFault, declared.sheet.SheetOutcome.SheetOutcome, declared.cues.CuesRead.CuesRead}
-use Rattle.sheet.specs.{declared.listing.Listed.Listed, Cues.isCueNumber, Cues.children, Sheet.maxRules, Sheet.kind, Sheet.model, Listing.listing}
+use Rattle.sheet.specs.{declared.listing.Listed.Listed, Cues.isCueNumber, Cues.children, Sheet.maxRules, Sheet.sheetNumber, Sheet.kind, Sheet.model}
+use Rattle.sheet.specs.{Listing.listing}
 use Rattle.sheet.specs.declared.sheet.SheetFault.the-variants.{LongFile, Unended, ManyRules, BadFields, NoKind, Repeated, Model}
 use Rattle.sheet.specs.declared.sheet.SheetOutcome.the-variants.{Read, Refused}
 use Rattle.sheet.specs.declared.cues.CuesRead.the-variants.{Count, Refused as RefusedList}
@@ -51,15 +52,15 @@ SheetStands x Repeated n = Line x n × Earlier x n
 -- 10 to 17: the model text of the line is refused so
 SheetStands x (Model f) n = Line x n × ((p : ℕ) × Answers (model (line x n)) (refused f p))
 
--- by number, then the model's own
+-- by number, then the model's own, of which a line has at most one
 abbrev pub sheetRank : SheetFault → ℕ
-sheetRank LongFile = 20
-sheetRank Unended = 21
-sheetRank ManyRules = 22
-sheetRank BadFields = 23
-sheetRank NoKind = 24
-sheetRank Repeated = 25
-sheetRank (Model f) = 20 + modelNumber f
+sheetRank LongFile = sheetNumber LongFile
+sheetRank Unended = sheetNumber Unended
+sheetRank ManyRules = sheetNumber ManyRules
+sheetRank BadFields = sheetNumber BadFields
+sheetRank NoKind = sheetNumber NoKind
+sheetRank Repeated = sheetNumber Repeated
+sheetRank (Model f) = suc (sheetNumber Repeated)
 
 -- what a sheet is answered
 abbrev pub SheetAnswers : Text → SheetOutcome → Type 0
@@ -92,9 +93,9 @@ abbrev pub CuesAnswers : Text → CuesRead → Type 0
 CuesAnswers x (Count n) = NoFault (CueStands x) × (n ≡ length (lines x))
 CuesAnswers x (RefusedList f n) = First cueNumber (CueStands x) f n
 
--- What a listing is answered: the sheet is tried before the list, and both before 50.
+-- What a listing is answered, in a buffer of this size: the sheet is tried before the list, and both before 50.
 abbrev pub Lists : Text → Text → ℕ → Listed → Type 0
-Lists s c room (SheetRefused f n) = First sheetRank (SheetStands s) f n
-Lists s c room (CueRefused f n) = NoFault (SheetStands s) × First cueNumber (CueStands c) f n
-Lists s c room TooLong = NoFault (SheetStands s) × NoFault (CueStands c) × (room < length (listing s c))
-Lists s c room (Written n) = NoFault (SheetStands s) × NoFault (CueStands c) × (length (listing s c) ≤ room) × (n ≡ length (listing s c))
+Lists s c size (SheetRefused f n) = First sheetRank (SheetStands s) f n
+Lists s c size (CueRefused f n) = NoFault (SheetStands s) × First cueNumber (CueStands c) f n
+Lists s c size TooLong = NoFault (SheetStands s) × NoFault (CueStands c) × (size < length (listing s c))
+Lists s c size (Written n) = NoFault (SheetStands s) × NoFault (CueStands c) × (length (listing s c) ≤ size) × (n ≡ length (listing s c))

@@ -3,12 +3,13 @@
 pub mod Laws
 pub mod Walk
 pub mod Good
+pub mod Places
 use mathlib.Core.{Bool.Bool, Bool.false, Bool.cond, Bool.not, Bool._||_, Option.Option, Option.none, Option.some, List.List, List.[], List._∷_, List._++_}
-use mathlib.Core.{List.map}
-use Prim.Native.Nat.{ℕ, suc, _+_, _-_}
-use lib.{Dec.leb, Dec.ltb, Dec.eqb, ListN.length, ListN.replicate}
+use mathlib.Core.{Path._≡_, List.map}
+use Prim.Native.Nat.{ℕ, suc, _+_, _-_, _≤_, _<_}
+use lib.{Dec.leb, Dec.ltb, Dec.eqb, ListN.length, ListN.getD, ListN.replicate}
 use Rattle.fields.specs.{Limits.maxFile, Bytes.Text, Bytes.bytes, Bytes.sameText, Split.lines, Split.behind, Split.fields, Split.field, Children.shortName}
-use Rattle.judge.specs.{declared.reading.NamePlace.NamePlace, Reading.noPlace, Reading.namesWith, Reading.reading}
+use Rattle.judge.specs.{declared.reading.NamePlace.NamePlace, Reading.noPlace, Reading.namesWith, Reading.reading, Reading.partAt}
 use Rattle.model.specs.Fault.{Answer, refused, accepted, modelNumber}
 use Rattle.model.specs.Answer.{answer}
 use Rattle.sheet.specs.{declared.sheet.SheetFault.SheetFault, declared.sheet.SheetOutcome.SheetOutcome, declared.sheet.Entry.Entry}
@@ -102,3 +103,20 @@ sheetBy x (Refused f n) = record { outcome = Refused f n; sheet = sheetWith [] }
 
 abbrev pub sheetRead : Text → SheetRead
 sheetRead x = sheetBy x (sheetOutcome x)
+
+-- the text y stands in x at the place p
+abbrev pub StandsAt : Text → NamePlace → Text → Type 0
+StandsAt x p y = (partAt x p ≡ y) × (p .len ≡ length y)
+
+-- what the rules r hold of line k, which is l, of the text x (`Ends.places-exactly`)
+pub record HoldsLine (x : Text) (r : Sheet) (k : ℕ) (l : Text) : Type 0 where
+  pub kind-stands : StandsAt x (getD (r .kinds .places) k noPlace) (kind l)
+  pub model-stands : StandsAt x (getD (r .entries) k noEntry .model) (model l)
+  pub rule-is : getD (r .entries) k noEntry .rule ≡ reading (model l) .rule
+  pub names-are : getD (r .entries) k noEntry .names ≡ reading (model l) .names
+
+pub record HoldsSheet (x : Text) (r : Sheet) : Type 0 where
+  pub count-is : r .kinds .len ≡ length (lines x)
+  pub holds-line : (k : ℕ) → k < length (lines x) → HoldsLine x r k (getD (lines x) k [])
+  pub kind-free : (k : ℕ) → length (lines x) ≤ k → getD (r .kinds .places) k noPlace ≡ noPlace
+  pub entry-free : (k : ℕ) → length (lines x) ≤ k → getD (r .entries) k noEntry ≡ noEntry

@@ -4,4 +4,5 @@ pub mod cues;
 pub mod line;
 pub mod listing;
 pub mod number;
+pub mod refusal;
 pub mod sheet;

@@ -31,7 +31,7 @@ use judge::verdict::ChildrenJudged;
 use model::verdict::Verdict;
 
 // How long the listing is that was written; or what is wrong with the sheet or with the cue list, and on which line; or that the listing is longer
-// than the buffer (`listedNumber` in specs/Listing.antt).
+// than the buffer (`listedNumber` in specs/RefusalLine.antt).
 pub enum Listed {
     Written(usize),
     SheetRefused(SheetFault, usize),

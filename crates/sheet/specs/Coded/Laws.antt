@@ -1,6 +1,6 @@
 -- How a listing is made: what is said of a cue, the verdicts as bytes, and the lines one behind the other.
-use mathlib.Core.{Path._≡_, Path.refl, Path.ap, Path.ap₂, Path.sym, Path._∙_, Logic.by-cases, Bool.Bool, Bool.true, Bool.false, Bool.cond}
-use mathlib.Core.List.{List, [], _∷_, _++_, map}
+use mathlib.Core.{Path._≡_, Path.refl, Path.ap, Path.ap₂, Path.sym, Path._∙_, Logic.by-cases, Bool.Bool, Bool.true, Bool.false, Bool.cond, List.List, List.[]}
+use mathlib.Core.{List._∷_, List._++_, List.map}
 use Prim.Native.Nat.{ℕ, suc, _+_, _-_, _≤_, _<_}
 use native.Mathlib.{Decide.decLt, Omega.arith, Numerals.add-one}
 use lib.Dec.{eqb, leb}
@@ -8,10 +8,9 @@ use lib.ListN.{length, take, drop, getD, set, length-map, length-take, length-dr
 use lib.Seq.{drop-cons, drop-length, getD-set-same, getD-set-other}
 use borrow.Author.Tests.{eqb-true, eqb-false, leb-true, le-leb, lt-leb, le-ltb, lt-ltb}
 use Rattle.fields.specs.{Tests.by-test, Bytes.Text, Bytes.Laws.T-true, Limits.maxRow, Limits.maxFile, declared.fault.CueFault.CueFault}
-use Rattle.fields.specs.{declared.split.Heads.Heads, Heads.headsOf, Children.allNames, Bytes.Numeral.digits-length}
+use Rattle.fields.specs.{declared.split.Heads.Heads, Heads.headsOf, Children.allNames, Bytes.Numeral.digits-length, Heads.Laws.Three, Heads.Laws.more-none}
 use Rattle.fields.specs.Split.{lineFeed, tab, split, lines, field, part, partEnd}
 use Rattle.fields.specs.Split.Laws.{stand-start, stand-stop, stand-next, end-bounds, part-rest}
-use Rattle.fields.specs.Heads.Laws.{Three, more-none}
 use Rattle.judge.specs.{declared.reading.NamePlace.NamePlace, declared.reading.Names.Names, Reading.partAt, Reading.partsOf}
 use Rattle.judge.specs.Reply.{childrenIn, row, replyBy, rowIn, childrenReply, judgedOf}
 use Rattle.model.specs.{Syntax.numberIn, Fault.Answer, Fault.refused, Fault.accepted, Answer.answer, Model.modelOf, Model.typeOf, Verdict.verdict}
@@ -84,7 +83,7 @@ coded-from f vs i (l ∷ ls) h =
 pub line-short : {l : Text} (v : Said) → Fits l → length (listingLine l v) ≤ 66000
 line-short {l} v f =
     let t = cue-three {l = l} {h = headsOf l} refl f in
-    omega (arith, line-length v t refl, t .ascending, word-short v, digits-length (length (children l)), f .short)
+    omega (arith, line-length v t refl, t .ascending, word-short v, digits-length 4 (length (children l)) (omega (arith, f .few)), f .short)
 
 pub part-at-place : (s : Text) (p : NamePlace) → part s (p .start) (p .start + p .len) ≡ partAt s p
 part-at-place s p = let e : (p .start + p .len) - p .start ≡ p .len = omega arith in ap (λ n. take n (drop (p .start) s)) e

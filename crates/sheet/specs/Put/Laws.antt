@@ -15,6 +15,12 @@ put-length {old} {new} {at} {s} {end} p =
 pub put-ends : {old new : Text} {at : ℕ} {s : Text} {end : ℕ} → Put old new at s end → (end ≡ at + length s) × (length new ≡ length old)
 put-ends p = (p .end-is, put-length p)
 
+-- a write at the beginning
+pub put-first : {old new s : Text} {end : ℕ} → Put old new 0 s end → (end ≡ length s) × (new ≡ s ++ drop end old)
+put-first {old} {new} {s} p =
+    let e : 0 + length s ≡ length s = omega arith in
+    (p .end-is ∙ e, p .text-is ∙ rw (p .end-is))
+
 -- two writes, the second behind the first
 pub put-then : {old mid new : Text} {at a b : ℕ} {s t : Text} → Put old mid at s a → Put mid new a t b → Put old new at (s ++ t) b
 put-then {old} {mid} {new} {at} {a} {b} {s} {t} p q =

@@ -1,5 +1,5 @@
 -- A sheet, a cue list and a listing are refused exactly as the table says.
-use mathlib.Core.{Logic._↔_, Logic._⊎_, Logic.inl, Logic.inr, Option.Option}
+use mathlib.Core.{Logic._↔_, Logic._⊎_, Logic.inl, Logic.inr, Logic.by-cases, Option.Option}
 use mathlib.Core.Path.{_≡_, refl, sym, ap, ap₂, subst, _∙_}
 use mathlib.Core.Bool.{true, cond, not, _&&_, _||_, and-eq-true-iff, false≢true}
 use mathlib.Core.List.{List, [], _∷_, _++_, map, map-append}
@@ -16,10 +16,9 @@ use Rattle.fields.specs.declared.fault.CueFault.the-variants.{LongFile as LongL
 use Rattle.fields.specs.declared.fault.CueFault.the-variants.{ManyChildren, NoChild}
 use Rattle.fields.specs.Tests.{by-test, Tells, tells-not, tells-or}
 use Rattle.fields.specs.Bytes.{Text, bytes, isDigit, all, value, sameText}
-use Rattle.fields.specs.Least.Laws.{exactly, first-once, Cleared, narrow, try}
+use Rattle.fields.specs.Least.Laws.{exactly, first-alone, first-once, Cleared, try}
 use Rattle.model.specs.{declared.fault.ModelFault.ModelFault, Answer.answer, Answer.answered, Accept.Length.value-grows}
-use Rattle.model.specs.Fault.{Answer, Answers, refused, accepted, modelNumber}
-use Rattle.model.specs.Fault.Answered.{answers-once, number-injective, number-over}
+use Rattle.model.specs.{Fault.Answer, Fault.Answers, Fault.refused, Fault.accepted, Fault.Answered.answers-once}
 use Rattle.judge.specs.Reply.Laws.{cue-injective}
 use Rattle.sheet.specs.{declared.sheet.SheetFault.SheetFault, declared.sheet.SheetOutcome.SheetOutcome, declared.cues.CueLine.CueLine}
 use Rattle.sheet.specs.{declared.cues.CuesRead.CuesRead, declared.listing.Listed.Listed}
@@ -54,7 +53,7 @@ tells-among (y ∷ ks) k =
     back (zero, h, e) = inl e
     back (suc j, h, e) = inr (j, omega arith, e)
 
--- a fault of a sheet is known by its rank: below 26 the sheet's own, then the model's
+-- a fault of the sheet's own, which has a rank below 26, is known by its rank
 ownFault : ℕ → SheetFault
 ownFault n = cond (eqb n 20) LongFile (cond (eqb n 21) Unended (cond (eqb n 22) ManyRules (cond (eqb n 23) BadFields (cond (eqb n 24) NoKind Repeated))))
 
@@ -66,7 +65,10 @@ own-fault ManyRules h = refl
 own-fault BadFields h = refl
 own-fault NoKind h = refl
 own-fault Repeated h = refl
-own-fault (Model f) h = absurd (omega (arith, number-over f))
+own-fault (Model f) h = absurd (omega arith)
+
+own : (f : SheetFault) → sheetRank f < 26 → (g : SheetFault) → sheetRank f ≡ sheetRank g → f ≡ g
+own f h g e = sym (own-fault f h) ∙ ap ownFault e ∙ own-fault g (omega arith)
 
 of-model : (f : SheetFault) → 26 ≤ sheetRank f → (g : ModelFault) × (f ≡ Model g)
 of-model LongFile h = absurd (omega arith)
@@ -77,16 +79,24 @@ of-model NoKind h = absurd (omega arith)
 of-model Repeated h = absurd (omega arith)
 of-model (Model f) h = (f, refl)
 
-rank-injective : (f g : SheetFault) → sheetRank f ≡ sheetRank g → f ≡ g
-rank-injective f g e = go (decLt (sheetRank f) 26)
-  where
-    go : Dec (sheetRank f < 26) → f ≡ g
-    go (yes h) = sym (own-fault f h) ∙ ap ownFault e ∙ own-fault g (omega arith)
-    go (no h) =
-        let (a, p) = of-model f (omega arith) in
-        let (b, q) = of-model g (omega arith) in
-        let k : 20 + modelNumber a ≡ 20 + modelNumber b = ap sheetRank (sym p) ∙ e ∙ ap sheetRank q in
-        p ∙ ap Model (number-injective a b (omega arith)) ∙ sym q
+-- no two that stand at one line have one rank, since a text has one answer
+module _ (x : Text) (n : ℕ) where
+  model-fault : (g : SheetFault) → SheetStands x g n → 26 ≤ sheetRank g
+      → (f : ModelFault) × (p : ℕ) × (g ≡ Model f) × Answers (model (line x n)) (refused f p)
+  model-fault g s k =
+      let (f, e) = of-model g k in
+      let (i, (p, a)) = subst (λ g. SheetStands x g n) e s in
+      (f, p, e, a)
+
+  one-model : (f g : SheetFault) → SheetStands x f n → SheetStands x g n → 26 ≤ sheetRank f → 26 ≤ sheetRank g → f ≡ g
+  one-model f g s t h k =
+      let (a, p, d, u) = model-fault f s h in
+      let (b, q, e, v) = model-fault g t k in
+      let z : a ≡ b = cc (answers-once (model (line x n)) (refused a p) (refused b q) u v) in
+      d ∙ ap Model z ∙ sym e
+
+  one-rank : (f g : SheetFault) → SheetStands x f n → SheetStands x g n → sheetRank f ≡ sheetRank g → f ≡ g
+  one-rank f g s t e = by-cases (decLt (sheetRank f) 26) (λ h. own f h g e) (λ h. one-model f g s t (omega arith) (omega arith))
 
 sheet-place : (x : Text) (f : SheetFault) (n : ℕ) → SheetStands x f n → Place x 20 n (sheetRank f)
 sheet-place x LongFile n h = inl (h .0, omega arith, omega arith)
@@ -95,10 +105,10 @@ sheet-place x ManyRules n h = inr (h .0, omega arith)
 sheet-place x BadFields n h = inr (h .0, omega arith)
 sheet-place x NoKind n h = inr (h .0, omega arith)
 sheet-place x Repeated n h = inr (h .0, omega arith)
-sheet-place x (Model f) n h = inr (h .0, omega (arith, number-over f))
+sheet-place x (Model f) n h = inr (h .0, omega arith)
 
 abbrev ofSheet : (x : Text) → FileTable x SheetFault
-ofSheet x = record { faults = record { rank = sheetRank; Stands = SheetStands x; one = rank-injective }; base = 20; place = sheet-place x }
+ofSheet x = record { faults = record { rank = sheetRank; Stands = SheetStands x }; base = 20; place = sheet-place x }
 
 module _ (x : Text) where
   abbrev kinds : ℕ → List Text
@@ -140,28 +150,14 @@ module _ (x : Text) where
         back (zero, i, o, e) = absurd (omega arith)
         back (suc j, i, o, e) = (j, omega (arith, size), is j (omega arith) ∙ e)
 
-    -- a fault of rank 26 or above is the model's own
-    model-fault : (g : SheetFault) → SheetStands x g (suc n) → 26 ≤ sheetRank g
-        → (f : ModelFault) × (p : ℕ) × (g ≡ Model f) × Answers (model this) (refused f p)
-    model-fault g s k =
-        let (f, e) = of-model g k in
-        let (i, (p, a)) = subst (λ g. SheetStands x g (suc n)) e s in
-        (f, p, e, a)
-
     model-answers : (o : SheetOutcome) → (Cleared (ofSheet x .faults) (suc (suc n)) 22 → SheetAnswers x o) → Cleared (ofSheet x .faults) (suc n) 26
         → (a : Answer) → Answers (model this) a → SheetAnswers x (byFault (modelFault a) o (λ f. Refused f (suc n)))
-    model-answers o next t (refused f p) a = ((here x n h, (p, a)), narrow (ofSheet x .faults) (suc n) 26 (20 + modelNumber f) only t)
-      where
-        only : (g : SheetFault) → SheetStands x g (suc n) → 26 ≤ sheetRank g → 20 + modelNumber f ≤ sheetRank g
-        only g s k =
-            let (i, q, e, b) = model-fault g s k in
-            let z : f ≡ i = cc (answers-once (model this) (refused f p) (refused i q) a b) in
-            rw (e, z) (omega arith)
+    model-answers o next t (refused f p) a = ((here x n h, (p, a)), t)
     model-answers o next t (accepted u) a = next (next-line (ofSheet x) (suc n) 26 no-more t)
       where
         no-more : (g : SheetFault) → SheetStands x g (suc n) → ¬ (26 ≤ sheetRank g)
         no-more g s k =
-            let (i, q, e, b) = model-fault g s k in
+            let (i, q, e, b) = model-fault x (suc n) g s k in
             let z : _≡_ {A = ℕ} 0 1 = cc (answers-once (model this) (accepted u) (refused i q) a b) in
             omega arith
 
@@ -172,27 +168,29 @@ module _ (x : Text) where
   sheet-step : (n : ℕ) → n < length (lines x) → (Cleared (ofSheet x .faults) (suc (suc n)) 22 → SheetAnswers x (sheetFrom (suc n)))
       → Cleared (ofSheet x .faults) (suc n) 22 → SheetAnswers x (sheetFrom n)
   sheet-step n h next t =
+      let T = ofSheet x .faults in
       let l = line x (suc n) in
       let o = sheetLines (suc n) (kinds n ++ (kind l ∷ [])) (drop (suc n) (lines x)) in
       let P : Option SheetFault → Type 0 = λ m. SheetAnswers x (byFault m o (λ f. Refused f (suc n))) in
       let more : kinds (suc n) ≡ kinds n ++ (kind l ∷ []) = ap (map kind) (take-suc (lines x) n [] h) ∙ map-append kind (take n (lines x)) (l ∷ []) in
       rw (drop-cons (lines x) n [] h) (
-      try (ofSheet x .faults) (SheetAnswers x) ManyRules (suc n) (leb maxRules n) _ _ (many-tells n h t) (λ k. k)
-      (λ _. try (ofSheet x .faults) P BadFields (suc n) _ _ _ (rule-tells n h) (λ k. k)
-      (λ _. try (ofSheet x .faults) P NoKind (suc n) _ _ _ (beside _ (here x n h) (tells-not (shortName (kind l)))) (λ k. k)
-      (λ _. try (ofSheet x .faults) P Repeated (suc n) _ _ _ (beside _ (here x n h) (kinds-tell n h)) (λ k. k)
+      try T (SheetAnswers x) ManyRules (suc n) (leb maxRules n) _ _ (own ManyRules (omega arith)) (many-tells n h t) (λ k. k)
+      (λ _. try T P BadFields (suc n) _ _ _ (own BadFields (omega arith)) (rule-tells n h) (λ k. k)
+      (λ _. try T P NoKind (suc n) _ _ _ (own NoKind (omega arith)) (beside _ (here x n h) (tells-not (shortName (kind l)))) (λ k. k)
+      (λ _. try T P Repeated (suc n) _ _ _ (own Repeated (omega arith)) (beside _ (here x n h) (kinds-tell n h)) (λ k. k)
       (λ _ k. model-answers n h o (rw more at next) k (answer (model l)) (answered (model l)))))) t)
 
   sheet-answers : SheetAnswers x (sheetOutcome x)
   sheet-answers =
-      whole (ofSheet x) (SheetAnswers x) LongFile Unended _ _ _ refl refl (long-tells x) (feed-tells x) (λ k. k) (λ k. k)
+      whole (ofSheet x) (SheetAnswers x) LongFile Unended _ _ _ (own LongFile (omega arith)) (own Unended (omega arith)) refl refl
+      (long-tells x) (feed-tells x) (λ k. k) (λ k. k)
       (walk (ofSheet x) (SheetAnswers x) sheetFrom sheet-step (λ k. rw (drop-length (lines x)) k))
 
   sheet-once : (a b : SheetOutcome) → SheetAnswers x a → SheetAnswers x b → a ≡ b
   sheet-once Read Read h k = refl
   sheet-once Read (Refused g m) h k = absurd (h g m (k .0))
   sheet-once (Refused f n) Read h k = absurd (k f n (h .0))
-  sheet-once (Refused f n) (Refused g m) h k = let (e, d) = first-once sheetRank rank-injective f g n m h k in ap₂ Refused e d
+  sheet-once (Refused f n) (Refused g m) h k = let (e, d) = first-alone sheetRank (λ f g n. one-rank x n f g) f g n m h k in ap₂ Refused e d
 
   pub sheet-is : (o : SheetOutcome) → (sheetOutcome x ≡ o) ↔ SheetAnswers x o
   sheet-is = exactly (SheetAnswers x) sheet-once (sheetOutcome x) sheet-answers
@@ -209,7 +207,7 @@ cue-known x ManyChildren n h = (inr (h .0, omega arith), omega arith)
 cue-known x NoChild n h = absurd h
 
 abbrev ofCues : (x : Text) → FileTable x CueFault
-ofCues x = record { faults = record { rank = cueNumber; Stands = CueStands x; one = cue-injective }; base = 30; place = λ f n h. cue-known x f n h .0 }
+ofCues x = record { faults = record { rank = cueNumber; Stands = CueStands x }; base = 30; place = λ f n h. cue-known x f n h .0 }
 
 number-positive : (y : Text) → isCueNumber y ≡ true → 1 ≤ value y
 number-positive [] e = absurd (false≢true e)
@@ -237,20 +235,23 @@ module _ (x : Text) where
   cues-step : (n : ℕ) → n < length (lines x) → (Cleared (ofCues x .faults) (suc (suc n)) 32 → CuesAnswers x (cuesFrom (suc n)))
       → Cleared (ofCues x .faults) (suc n) 32 → CuesAnswers x (cuesFrom n)
   cues-step n h next t =
+      let T = ofCues x .faults in
       let l = line x (suc n) in
+      let at = here x n h in
       let word = tells-or _ _ (tells-lt (length (fields l)) 3) (tells-other (field 0 l) (bytes "cue")) in
       let P : CueLine → Type 0 = λ c. CuesAnswers x (byLine c (λ q. cueLines (suc n) q (drop (suc n) (lines x))) (λ f. RefusedList f (suc n))) in
       rw (drop-cons (lines x) n [] h) (
-      try (ofCues x .faults) P BadCue (suc n) _ _ _ (beside _ (here x n h) word) (λ k. k)
-      (λ _. try (ofCues x .faults) P BadNumber (suc n) _ _ _ (beside _ (here x n h) (tells-not (isCueNumber (field 1 l)))) (λ k. k)
-      (λ e. try (ofCues x .faults) P NotAbove (suc n) _ _ _ (beside _ (here x n h) (above-tells n l (number-positive (field 1 l) (not-false _ e)))) (λ k. k)
-      (λ _. try (ofCues x .faults) P NoName (suc n) _ _ _ (beside _ (here x n h) (tells-not (allNames (field 2 l ∷ children l)))) (λ k. k)
-      (λ _. try (ofCues x .faults) P ManyChildren (suc n) _ _ _ (beside _ (here x n h) (tells-lt maxRow (length (children l)))) (λ k. k)
+      try T P BadCue (suc n) _ _ _ (cue-injective BadCue) (beside _ at word) (λ k. k)
+      (λ _. try T P BadNumber (suc n) _ _ _ (cue-injective BadNumber) (beside _ at (tells-not (isCueNumber (field 1 l)))) (λ k. k)
+      (λ e. try T P NotAbove (suc n) _ _ _ (cue-injective NotAbove) (beside _ at (above-tells n l (number-positive (field 1 l) (not-false _ e)))) (λ k. k)
+      (λ _. try T P NoName (suc n) _ _ _ (cue-injective NoName) (beside _ at (tells-not (allNames (field 2 l ∷ children l)))) (λ k. k)
+      (λ _. try T P ManyChildren (suc n) _ _ _ (cue-injective ManyChildren) (beside _ at (tells-lt maxRow (length (children l)))) (λ k. k)
       (λ _ k. next (next-line (ofCues x) (suc n) 37 (λ g s i. omega (arith, i, cue-known x g (suc n) s .1)) k)))))) t)
 
   cues-answers : CuesAnswers x (cuesRead x)
   cues-answers =
-      whole (ofCues x) (CuesAnswers x) LongList UnendedList _ _ _ refl refl (long-tells x) (feed-tells x) (λ k. k) (λ k. k)
+      whole (ofCues x) (CuesAnswers x) LongList UnendedList _ _ _ (cue-injective LongList) (cue-injective UnendedList) refl refl
+      (long-tells x) (feed-tells x) (λ k. k) (λ k. k)
       (walk (ofCues x) (CuesAnswers x) cuesFrom cues-step (λ k. rw (drop-length (lines x)) (k, refl)))
 
   cues-once : (a b : CuesRead) → CuesAnswers x a → CuesAnswers x b → a ≡ b
@@ -262,21 +263,21 @@ module _ (x : Text) where
   pub cues-is : (r : CuesRead) → (cuesRead x ≡ r) ↔ CuesAnswers x r
   cues-is = exactly (CuesAnswers x) cues-once (cuesRead x) cues-answers
 
-module _ (s c : Text) (room : ℕ) where
+module _ (s c : Text) (size : ℕ) where
   lists-by : (o : SheetOutcome) → SheetAnswers s o → (r : CuesRead) → CuesAnswers c r
-      → Lists s c room (bySheet o (byCues r (cond (leb (length (listing s c)) room) (Written (length (listing s c))) TooLong)))
+      → Lists s c size (bySheet o (byCues r (cond (leb (length (listing s c)) size) (Written (length (listing s c))) TooLong)))
   lists-by (Refused f n) h r k = h
   lists-by Read h (RefusedList f n) k = (h, k)
   lists-by Read h (Count n) k =
-      by-test (leb (length (listing s c)) room)
+      by-test (leb (length (listing s c)) size)
       (λ e. rw e (h, k .0, leb-true _ _ e, refl))
       (λ e. rw e (h, k .0, leb-false _ _ e))
 
-  lists-only : (r : Listed) → Lists s c room r → listed s c room ≡ r
+  lists-only : (r : Listed) → Lists s c size r → listed s c size ≡ r
   lists-only (SheetRefused f n) h = rw (sheet-is s (Refused f n) .1 h)
   lists-only (CueRefused f n) (h, k) = rw (sheet-is s Read .1 h, cues-is c (RefusedList f n) .1 k)
   lists-only TooLong (h, k, i) = rw (sheet-is s Read .1 h, cues-is c (Count (length (lines c))) .1 (k, refl), lt-leb _ _ i)
   lists-only (Written n) (h, k, i, e) = rw (sheet-is s Read .1 h, cues-is c (Count (length (lines c))) .1 (k, refl), le-leb _ _ i, e)
 
-  pub listed-is : (r : Listed) → (listed s c room ≡ r) ↔ Lists s c room r
+  pub listed-is : (r : Listed) → (listed s c size ≡ r) ↔ Lists s c size r
   listed-is r = (λ e. rw e at (lists-by (sheetOutcome s) (sheet-answers s) (cuesRead c) (cues-answers c)), lists-only r)

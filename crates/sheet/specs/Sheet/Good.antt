@@ -3,7 +3,7 @@ use mathlib.Core.{Path._≡_, Path.refl, Option.Option, Option.none, Option.some
 use Prim.Native.Nat.{ℕ, zero, suc, _<_}
 use native.Mathlib.Omega.{arith}
 use lib.{Dec.leb, Dec.ltb, ListN.length, ListN.getD}
-use Rattle.fields.specs.{Limits.maxFile, Tests.by-test, Bytes.Text, Bytes.sameText, Split.lines, Split.behind}
+use Rattle.fields.specs.{Limits.maxFile, Tests.by-test, Bytes.Text, Bytes.sameText, Bytes.Laws.same-text, Split.lines, Split.behind}
 use Rattle.model.specs.{Syntax.Syntax, Fault.Answer, Fault.Answers, Fault.refused, Fault.accepted, Answer.answer, Answer.answered}
 use Rattle.sheet.specs.{declared.sheet.SheetFault.SheetFault, Sheet.Laws.fault-none}
 use Rattle.sheet.specs.declared.sheet.SheetFault.the-variants.{LongFile, Unended, ManyRules}
@@ -21,7 +21,7 @@ answer-accepted x e = go (answer x) (answered x) e
     go (refused f p) h e = let z : _≡_ {A = ℕ} 0 1 = cc e in absurd (omega arith)
     go (accepted t) h e = (t, h)
 
-not-read : {C : Type 0} (f : SheetFault) (n : ℕ) → Refused f n ≡ Read → C
+pub not-read : {C : Type 0} (f : SheetFault) (n : ℕ) → Refused f n ≡ Read → C
 not-read f n e = let z : _≡_ {A = ℕ} 0 1 = cc e in absurd (omega arith)
 
 all-accepted : (n : ℕ) (ks ls : List Text) → sheetLines n ks ls ≡ Read → (i : ℕ) → i < length ls → Accepted (model (getD ls i []))
@@ -39,10 +39,13 @@ all-accepted n ks (l ∷ ls) e i h =
     go none q r k (suc i) o = r k i (omega arith)
     go (some f) q r k i o = not-read f (suc n) k
 
-pub line-accepted : (s : Text) → sheetOutcome s ≡ Read → (i : ℕ) → i < length (lines s) → Accepted (model (getD (lines s) i []))
-line-accepted s e i h =
+pub lines-read : (s : Text) → sheetOutcome s ≡ Read → (behind s ≡ []) × (sheetLines 0 [] (lines s) ≡ Read)
+lines-read s e =
     by-test (ltb maxFile (length s))
     (λ a. not-read LongFile 0 (rw a at e))
     (λ a. by-test (sameText (behind s) [])
-    (λ b. all-accepted 0 [] (lines s) (rw (a, b) at e) i h)
+    (λ b. (same-text (behind s) [] .0 b, rw (a, b) at e))
     (λ b. not-read Unended 0 (rw (a, b) at e)))
+
+pub line-accepted : (s : Text) → sheetOutcome s ≡ Read → (i : ℕ) → i < length (lines s) → Accepted (model (getD (lines s) i []))
+line-accepted s e = all-accepted 0 [] (lines s) (lines-read s e .1)

@@ -59,7 +59,7 @@ pub record Gone (x : Text) (kinds : Names) (entries : List Entry) (n at : ℕ) :
 abbrev nowhere : Placed
 nowhere = record { start = 0; line = [] }
 
-placed-length : (p : ℕ) (ls : List Text) → length (placedFrom p ls) ≡ length ls
+pub placed-length : (p : ℕ) (ls : List Text) → length (placedFrom p ls) ≡ length ls
 placed-length p [] = refl
 placed-length p (l ∷ ls) = ap suc (placed-length (p + suc (length l)) ls)
 

@@ -41,15 +41,14 @@ returns t c =
 put-number-requires : (t : ℕ) → lts.Need-put-number-requires (claims t) (at t) put-number.Post
 put-number-requires t c κs =
     let s = c .before .before .before in
-    let more = length-more (s .args .number) (c .before .if1 .left) (s .pre .1 .0) in
-    (omega (arith, s .pre .0), (omega (arith, s .pre .1), omega (arith, s .pre .1, more)))
+    (omega (arith, s .pre .0), omega (arith, s .pre .1, length-more (s .args .number) (c .before .if1 .left)))
 
 -- the last digit has room behind the others
 last-fits : (t : ℕ) (c : lts.After-put-number (claims t) (at t) put-number.Post) → c .put-number .result < length (c .put-number .last .0)
 last-fits t c =
     let e = c .before .before in
     let s = e .before .before in
-    omega (arith, s .pre .1, length-more (s .args .number) (e .if1 .left) (s .pre .1 .0), put-ends (c .put-number .ensures))
+    omega (arith, s .pre .1, length-more (s .args .number) (e .if1 .left), put-ends (c .put-number .ensures))
 
 slice-write-buffer-2 : (t : ℕ) → lts.Need-slice-write-buffer-2 (claims t) (at t) put-number.Post
 slice-write-buffer-2 t c = omega (arith, last-fits t (c .before .before))
@@ -62,7 +61,7 @@ returns-2 t c =
     let p = c .before .before in
     let e = p .before .before in
     let s = e .before .before in
-    rw (digits-more (s .args .number) (e .if1 .left) (s .pre .1 .0))
+    rw (digits-more (s .args .number) (e .if1 .left))
     (put-then (p .put-number .ensures) (put-one (p .put-number .last .0) (p .put-number .result) (48 + s .args .number % 10) (last-fits t p)))
 
 pub +put-number-spec : {M : Type 1} → statement M

@@ -52,14 +52,14 @@ add-result-2 : tie.Need-add-result-2
 add-result-2 c =
     let w = c .before in
     let e = ends (counted w) in
-    let digits-few = digits-length (counted w .times-in .result) in
+    let digits-few = digits-length 4 (counted w .times-in .result) (omega (arith, children-are (counted w), start e .pre .few)) in
     omega (arith, three e .ascending, w .word-length .ensures, word-short (start e .args .said), start e .pre .short, c .number-length .ensures, digits-few)
 
 add-result-3 : tie.Need-add-result-3
 add-result-3 c =
     let w = c .before in
     let e = ends (counted w) in
-    let digits-few = digits-length (counted w .times-in .result) in
+    let digits-few = digits-length 4 (counted w .times-in .result) (omega (arith, children-are (counted w), start e .pre .few)) in
     omega (arith, three e .ascending, w .word-length .ensures, word-short (start e .args .said), start e .pre .short, c .number-length .ensures, digits-few)
 
 returns : tie.Need-returns

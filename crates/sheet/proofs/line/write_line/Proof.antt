@@ -109,17 +109,15 @@ put-number-requires c κs =
     let d = put3 w in
     let b = put2 d in
     let a = put1 b in
-    let s = start (ends (counted a)) in (
-      omega (arith, children-are (counted a), s .pre .0 .few),
-      omega (
-        arith,
-        room (counted a),
-        put-ends (a .put .ensures),
-        put-ends (b .put2 .ensures),
-        put-ends (d .put3 .ensures),
-        put-ends (w .put-word .ensures),
-        word-sum (s .args .said),
-      ),
+    let said = word-sum (start (ends (counted a)) .args .said) in
+    omega (
+      arith,
+      room (counted a),
+      put-ends (a .put .ensures),
+      put-ends (b .put2 .ensures),
+      put-ends (d .put3 .ensures),
+      put-ends (w .put-word .ensures),
+      said,
     )
 
 put-requires-4 : tie.Need-put-requires-4
