@@ -45,24 +45,27 @@ static const struct list *lettered(const char *end)
     return &alike;
 }
 
-/* ---- names of one hash ---- */
+/* ---- names of one slot, and of one key ---- */
 
-/* The hash of the desk's table of names: where the desk changes it, these three numbers follow. */
-static const uint64_t FACTOR = 31, MODULUS = (uint64_t)1 << 32, SLOTS = 512;
-
-static uint64_t hash_of(const char *name)
+/* The key and the slot of a name in the desk's table: where the desk changes them, these two
+   functions follow. */
+static uint64_t key_of(const char *name)
 {
-    uint64_t hash = 0;
+    uint64_t key = 0;
     for (; *name != '\0'; name++)
-        hash = (hash * FACTOR + (uint8_t)*name) % MODULUS;
-    return hash;
+        key = (key << 8 | key >> 56) + (uint8_t)*name;
+    return key;
+}
+
+static uint64_t slot_of(const char *name)
+{
+    uint64_t key = key_of(name);
+    return ((uint32_t)key + (key >> 32)) * 668265263 / (1 << 24) % 256;
 }
 
 typedef uint64_t slot_of_name(const char *name);
 
-static uint64_t slot_of(const char *name) { return hash_of(name) % SLOTS; }
-
-/* The slot that the desk had before its hash went over every byte. */
+/* The slot that the desk had before, by three bytes of the name. */
 static uint64_t former_slot_of(const char *name)
 {
     size_t len = strlen(name);
@@ -87,39 +90,21 @@ static const struct list *of_one_slot(slot_of_name *slot)
     return &alike;
 }
 
-enum { PAIRS = 26 * 36 };
-
-/* A letter, then a letter or a digit. */
-static void write_pair(char *pair, int i)
+/* Two bytes that stand eight places apart may change places: the key stays. The program stops if
+   it does not. */
+static const struct list *of_one_key(void)
 {
-    static const char BYTES[] = "abcdefghijklmnopqrstuvwxyz0123456789";
-    pair[0] = BYTES[i / 36];
-    pair[1] = BYTES[i % 36];
-    pair[2] = '\0';
-}
-
-/* A factor under 38 has such pairs; one over 74 has none, and then the program stops. */
-static void find_pairs_of_one_hash(char *x, char *y)
-{
-    for (int i = 0; i < PAIRS; i++)
-        for (int j = 0; j < i; j++) {
-            write_pair(x, i);
-            write_pair(y, j);
-            if (hash_of(x) == hash_of(y))
-                return;
-        }
-    abort();
-}
-
-/* With two pairs of bytes of one hash, all names of as many of them have one hash. */
-static const struct list *of_one_hash(void)
-{
-    char pair[2][3];
-    find_pairs_of_one_hash(pair[0], pair[1]);
+    enum { BITS = 6, APART = 8 };
     for (int i = 0; i < NAMES; i++) {
-        strcpy(alike.name[i], "");
-        for (int bit = 1; bit < NAMES; bit *= 2)
-            strcat(alike.name[i], pair[(i & bit) != 0]);
+        char *name = alike.name[i];
+        strcpy(name, "aaaaaa--bbbbbb");
+        for (int bit = 0; bit < BITS; bit++)
+            if (i >> bit & 1) {
+                name[bit] = 'b';
+                name[bit + APART] = 'a';
+            }
+        if (key_of(name) != key_of(alike.name[0]))
+            abort();
     }
     return &alike;
 }
@@ -251,7 +236,7 @@ static void long_end(struct row *row)
 
 static void former_slot(struct row *row) { disorder(row, of_one_slot(former_slot_of), MANY); }
 static void one_slot(struct row *row) { disorder(row, of_one_slot(slot_of), MANY); }
-static void one_hash(struct row *row) { disorder(row, of_one_hash(), MANY); }
+static void one_key(struct row *row) { disorder(row, of_one_key(), MANY); }
 
 static const struct {
     const char *title;
@@ -276,7 +261,7 @@ static const struct {
     {"64 names, 30 last bytes equal", 0, long_end},
     {"64 names of one slot of the former hash", 0, former_slot},
     {"64 names of one slot", 0, one_slot},
-    {"64 names of one hash", 0, one_hash},
+    {"64 names of one key", 0, one_key},
 };
 
 void make_row(struct row *row, int i)

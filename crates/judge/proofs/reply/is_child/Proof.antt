@@ -11,7 +11,9 @@ returns : tie.Need-returns
 returns c = let s = c .before .before in child-missized (s .args .children .now) (s .pre .0) (s .pre .1 .end-is) (c .if1 .taken)
 
 shared-slice-read-is-letter : tie.Need-shared-slice-read-is-letter
-shared-slice-read-is-letter c = let s = c .before .before .before in child-inside (s .args .children .now) (s .pre .0) (s .pre .1 .end-is) (c .before .if1 .left)
+shared-slice-read-is-letter c =
+    let s = c .before .before .before in
+    child-inside (s .args .children .now) (s .pre .0) (s .pre .1 .end-is) (c .before .if1 .left)
 
 is-letter-requires : tie.Need-is-letter-requires
 is-letter-requires c κs = search needs
@@ -21,8 +23,9 @@ stands-requires c κs = search needs
 
 returns-2 : tie.Need-returns-2
 returns-2 c =
-    let s = c .before .before .before .before .before in
-    child-sized (s .args .children .now) (s .pre .0) (s .pre .1 .end-is) (c .before .before .before .if1 .left) (c .before .is-letter .ensures) (c .stands .ensures)
+    let e = c .before .before .before in
+    let s = e .before .before in
+    child-sized (s .args .children .now) (s .pre .0) (s .pre .1 .end-is) (e .if1 .left) (c .before .is-letter .ensures) (c .stands .ensures)
 
 pub is-child-spec : {M : Type 1} → statement M
 is-child-spec =

@@ -18,11 +18,8 @@ abbrev μ-loop : tie.MeasureT-loop
 abbrev entry : tie.At-loop Inv-loop μ-loop → tie.Start Inv-loop μ-loop
 entry c = c .before .before .before .before .before
 
-abbrev at-turn : tie.Else3 Inv-loop μ-loop → tie.At-loop Inv-loop μ-loop
-at-turn c = c .before .before .before
-
-abbrev at-turn3 : tie.Then3 Inv-loop μ-loop → tie.At-loop Inv-loop μ-loop
-at-turn3 c = c .before .before .before
+abbrev turn : tie.After-same-eight Inv-loop μ-loop → tie.At-loop Inv-loop μ-loop
+turn c = c .before .before
 
 same-long : (c : tie.At-loop Inv-loop μ-loop) → length (entry c .args .a .now) ≡ length (entry c .args .b .now)
 same-long c = c .before .before .if1 .left
@@ -46,7 +43,9 @@ same-eight-requires : tie.Need-same-eight-requires Inv-loop μ-loop
 same-eight-requires c κs = (omega arith, omega (arith, same-long (c .before)))
 
 returns-3 : tie.Need-returns-3 Inv-loop μ-loop
-returns-3 c = eight-differ (entry (at-turn c) .args .a .now) (entry (at-turn c) .args .b .now) _ (sym (c .before .same-eight .ensures) ∙ c .if3 .left)
+returns-3 c =
+    let s = entry (turn (c .before)) in
+    eight-differ (s .args .a .now) (s .args .b .now) _ (sym (c .before .same-eight .ensures) ∙ c .if3 .left)
 
 add-i : tie.Need-add-i Inv-loop μ-loop
 add-i c = omega arith
@@ -55,7 +54,10 @@ loop-less : tie.Need-loop-less Inv-loop μ-loop
 loop-less c = omega arith
 
 loop-again : tie.Need-loop-again Inv-loop μ-loop
-loop-again c = eight-more (entry (at-turn3 c) .args .a .now) (entry (at-turn3 c) .args .b .now) _ (sym (c .before .same-eight .ensures) ∙ c .if3 .taken) (c .before .before .before .loop .inv)
+loop-again c =
+    let t = turn (c .before) in
+    let s = entry t in
+    eight-more (s .args .a .now) (s .args .b .now) _ (sym (c .before .same-eight .ensures) ∙ c .if3 .taken) (t .loop .inv)
 
 same-eight-requires-2 : tie.Need-same-eight-requires-2 Inv-loop μ-loop
 same-eight-requires-2 c κs = (omega arith, omega (arith, same-long (c .before)))
@@ -63,8 +65,9 @@ same-eight-requires-2 c κs = (omega arith, omega (arith, same-long (c .before))
 returns-4 : tie.Need-returns-4 Inv-loop μ-loop
 returns-4 c =
     let s = entry (c .before .before) in
-    eight-last (s .args .a .now) (s .args .b .now) (c .before .before .loop .i) _ _ refl (same-long (c .before .before)) (omega arith) (c .before .loop-test .left)
-    (c .before .before .loop .inv) (c .same-eight2 .ensures)
+    let t = c .before .before in
+    eight-last (s .args .a .now) (s .args .b .now) (t .loop .i) _ _ refl (same-long t) (omega arith) (c .before .loop-test .left) (t .loop .inv)
+    (c .same-eight2 .ensures)
 
 pub same-name-spec : {M : Type 1} → statement M
 same-name-spec =
