@@ -17,6 +17,10 @@ pub record Put (old new : Text) (at : ℕ) (s : Text) (end : ℕ) : Type 0 where
   pub end-is : end ≡ at + length s
   pub text-is : new ≡ take at old ++ (s ++ drop (at + length s) old)
 
+-- a text written at the beginning
+abbrev pub PutWhole : Text → Text → Text → Type 0
+PutWhole old new s = Put old new 0 s (length s)
+
 -- the first bytes of a text, up to `at`, were written at the start of a buffer; the rest is yet to be written
 pub record Begun (old buffer whole : Text) (at : ℕ) (rest : Text) : Type 0 where
   pub room : length whole ≤ length old

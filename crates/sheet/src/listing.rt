@@ -6,7 +6,7 @@ ghost use lib.{Dec.eqb, ListN.length};
 ghost use Rattle.model.specs.Syntax.{numberIn};
 ghost use Rattle.judge.specs.Reading.{partAt, partsOf};
 ghost use Rattle.fields.specs.Split.{lines, field};
-ghost use Rattle.sheet.specs.{Cues.children, Sheet.Walk.Loaded, Put.Put, Put.Fits};
+ghost use Rattle.sheet.specs.{Cues.children, Sheet.Walk.Loaded, Put.Fits, Put.PutWhole};
 ghost use Rattle.sheet.specs.Listing.{saidOf, listing, listed, bufferAfter};
 ghost use Rattle.sheet.specs.Coded.{saidFrom, codeOf, decoded, CueReady, GoodCues, Coded, listingCoded};
 use crate::cues::CuesRead;
@@ -169,7 +169,7 @@ fn total_length(cues: &[u8], codes: &[u8]) -> usize
 // Writes the listing: each line goes into the part of the buffer that the earlier ones left free.
 fn write_lines(buffer: &mut [u8], cues: &[u8], codes: &[u8])
     requires { ⌜ GoodCues (now cues) × (length (now codes) ≡ 65535) × (length (listingCoded (now codes) 0 (lines (now cues))) ≤ length (now buffer)) ⌝ }
-    ensures { λ r. ⌜ Put (now (buffer .entry)) (now (buffer .exit)) 0 (listingCoded (now (codes .entry)) 0 (lines (now (cues .entry)))) (length (listingCoded (now (codes .entry)) 0 (lines (now (cues .entry))))) ⌝ }
+    ensures { λ r. ⌜ PutWhole (now (buffer .entry)) (now (buffer .exit)) (listingCoded (now (codes .entry)) 0 (lines (now (cues .entry)))) ⌝ }
 {
     let mut written: usize = 0;
     let mut n: usize = 0;

@@ -222,7 +222,8 @@ number-positive (b ∷ y) e =
     omega (arith, k, eqb-false b (code "0") (not-true (eqb b (code "0")) (j .0)), v)
 
 module _ (x : Text) where
-  above-tells : (n : ℕ) (l : Text) → 1 ≤ numberOf l → Tells (leb (numberOf l) (numberOf (line x n))) ((1 < suc n) × (numberOf l ≤ numberOf (line x (suc n - 1))))
+  above-tells : (n : ℕ) (l : Text) → 1 ≤ numberOf l
+      → Tells (leb (numberOf l) (numberOf (line x n))) ((1 < suc n) × (numberOf l ≤ numberOf (line x (suc n - 1))))
   above-tells zero l p = (λ e. absurd (omega (arith, leb-true (numberOf l) 0 e)), λ k. absurd (omega arith))
   above-tells (suc n) l p =
       let e : suc (suc n) - 1 ≡ suc n = omega arith in
