@@ -1,4 +1,4 @@
--- Kinds and models of a sheet that is read stand at the places that are handed back: the walk over its lines, done without a text in memory.
+-- Kinds and models of a sheet that is read stand at the places that it holds: the steps of Walk, taken for each line of the text.
 use mathlib.Core.{Path._≡_, Path.refl, Path.ap, Path.sym, Path.subst, Path._∙_, Logic.by-cases, List.List, List.[], List._∷_, List._++_, List.map}
 use Prim.Native.Nat.{ℕ, zero, suc, _+_, _-_, _≤_, _<_}
 use native.Mathlib.{Decide.decLt, Omega.arith}
@@ -10,12 +10,12 @@ use Rattle.sheet.specs.{declared.sheet.LineRead.LineRead, declared.sheet
 use Rattle.sheet.specs.declared.sheet.{SheetFault.the-variants.ManyRules, SheetOutcome.the-variants.Read, SheetOutcome.the-variants.Refused}
 use Rattle.sheet.specs.declared.sheet.Checked.the-variants.{Good, Bad}
 use Rattle.sheet.specs.Sheet.{maxRules, kind, model, lineFault, sheetLines, sheetOutcome, Placed, placedFrom, kindPlace, entryOf, noEntry, sheetWith}
-use Rattle.sheet.specs.Sheet.{sheetBy, sheetRead, StandsAt, HoldsLine, HoldsSheet}
+use Rattle.sheet.specs.Sheet.{sheetBy, sheetRead, HoldsLine, HoldsSheet}
 use Rattle.sheet.specs.Sheet.{Laws.checkedBy, Laws.LineIs, Good.not-read, Good.lines-read}
 use Rattle.sheet.specs.Sheet.Walk.{Loaded, Gone, placed-length, gone-start, gone-many, gone-bad, gone-next, gone-loaded, gone-end}
 
 module _ (x : Text) (read : sheetLines 0 [] (lines x) ≡ Read) where
-  -- where a line is left, the walk goes on behind it
+  -- a line that is left is good, since the sheet is read, and the walk goes on behind it
   next : {C : Type 0} (kinds : Names) (entries : List Entry) (n at : ℕ) → Gone x kinds entries n at → at < length x
       → ((kinds′ : Names) (entries′ : List Entry) (end : ℕ) → at ≤ end → Gone x kinds′ entries′ (n + 1) (end + 1) → C) → C
   next {C} kinds entries n at w h go = by-cases (decLt n maxRules) (λ o. found o (line .checked) refl) (λ o. not-read ManyRules (n + 1) (sym (many o) ∙ read))

@@ -77,7 +77,13 @@ put-number-slice-write-buffer-2 : (t : ℕ) → put-number-lts.Need-slice-write-
 put-number-slice-write-buffer-2 t c =
     let at-pre = c .before .before .before .before .before .before .pre in
     let at-put-number = c .before .before .put-number in
-    omega (arith, at-pre .1, length-more (c .before .before .before .before .before .before .args .number) (c .before .before .before .before .if1 .left), at-put-number .ensures .end-is, put-length (at-put-number .ensures))
+    omega (
+      arith,
+      at-pre .1,
+      length-more (c .before .before .before .before .before .before .args .number) (c .before .before .before .before .if1 .left),
+      at-put-number .ensures .end-is,
+      put-length (at-put-number .ensures),
+    )
 
 put-number-add-result-2 : (t : ℕ) → put-number-lts.Need-add-result-2 (
   put-number-below t,
@@ -86,7 +92,13 @@ put-number-add-result-2 : (t : ℕ) → put-number-lts.Need-add-result-2 (
 put-number-add-result-2 t c =
     let at-pre = c .before .before .before .before .before .before .pre in
     let at-put-number = c .before .before .put-number in
-    omega (arith, at-pre .1, length-more (c .before .before .before .before .before .before .args .number) (c .before .before .before .before .if1 .left), at-put-number .ensures .end-is, put-length (at-put-number .ensures))
+    omega (
+      arith,
+      at-pre .1,
+      length-more (c .before .before .before .before .before .before .args .number) (c .before .before .before .before .if1 .left),
+      at-put-number .ensures .end-is,
+      put-length (at-put-number .ensures),
+    )
 
 put-number-same-length-2 : (t : ℕ) → put-number-lts.Need-same-length-2 (
   put-number-below t,
@@ -105,7 +117,8 @@ put-number-returns-2 t c =
     let at-pre = c .before .before .before .before .before .before .pre in
     let p = at-put-number .ensures in
     rw (digits-more (at-args .number) (at-if1 .left))
-    (put-then p (put-one (at-put-number .last .0) (at-put-number .result) (48 + at-args .number % 10) (omega (arith, at-pre .1, length-more (at-args .number) (at-if1 .left), p .end-is, put-length p))))
+    (put-then p (put-one (at-put-number .last .0) (at-put-number .result) (48 + at-args .number % 10)
+    (omega (arith, at-pre .1, length-more (at-args .number) (at-if1 .left), p .end-is, put-length p))))
 
 pub +put-number-spec : {M : Type 1} → statement M
 +put-number-spec = close μ-put-number λ t. put-number-lts.spec (

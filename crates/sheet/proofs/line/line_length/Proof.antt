@@ -77,7 +77,10 @@ add-result-2 c =
     let at-first-fields = c .before .before .before .before .before .first-fields in
     let at-pre = c .before .before .before .before .before .before .before .pre in
     let t = fields-three (at-args .cue .now) (at-first-fields .result) (at-first-fields .ensures) (enough (at-args .cue .now) (at-first-fields .result) (at-first-fields .ensures) (at-pre .enough)) in
-    omega (arith, c .before .word-length .ensures, word-short (at-args .said), at-pre .short, c .number-length .ensures, digits-length 4 (c .before .before .before .times-in .result) (omega (arith, c .before .before .before .times-in .ensures, children-count (at-args .cue .now) (at-first-fields .result) t, at-pre .few)))
+    let counted = c .before .before .before .times-in in
+    let count = children-count (at-args .cue .now) (at-first-fields .result) t in
+    let digits = digits-length 4 (counted .result) (omega (arith, counted .ensures, count, at-pre .few)) in
+    omega (arith, c .before .word-length .ensures, word-short (at-args .said), at-pre .short, c .number-length .ensures)
 
 add-result-3 : tie.Need-add-result-3
 add-result-3 c =
@@ -85,7 +88,10 @@ add-result-3 c =
     let at-first-fields = c .before .before .before .before .before .first-fields in
     let at-pre = c .before .before .before .before .before .before .before .pre in
     let t = fields-three (at-args .cue .now) (at-first-fields .result) (at-first-fields .ensures) (enough (at-args .cue .now) (at-first-fields .result) (at-first-fields .ensures) (at-pre .enough)) in
-    omega (arith, c .before .word-length .ensures, word-short (at-args .said), at-pre .short, c .number-length .ensures, digits-length 4 (c .before .before .before .times-in .result) (omega (arith, c .before .before .before .times-in .ensures, children-count (at-args .cue .now) (at-first-fields .result) t, at-pre .few)))
+    let counted = c .before .before .before .times-in in
+    let count = children-count (at-args .cue .now) (at-first-fields .result) t in
+    let digits = digits-length 4 (counted .result) (omega (arith, counted .ensures, count, at-pre .few)) in
+    omega (arith, c .before .word-length .ensures, word-short (at-args .said), at-pre .short, c .number-length .ensures)
 
 returns : tie.Need-returns
 returns c =

@@ -155,7 +155,20 @@ put-number-requires c κs =
     let at-put-word = c .before .before .before .put-word in
     let t = fields-three (at-args .cue .now) (at-first-fields .result) (at-first-fields .ensures) (enough (at-args .cue .now) (at-first-fields .result) (at-first-fields .ensures) (at-pre .0 .enough)) in
     let n = at-times-in .ensures ∙ sym (children-count (at-args .cue .now) (at-first-fields .result) t) in
-    omega (arith, at-pre .1, line-sum (at-args .cue .now) (at-first-fields .result) (at-args .said) (at-times-in .result) t n, word-sum (at-args .said), at-put .ensures .end-is, put-length (at-put .ensures), at-put2 .ensures .end-is, put-length (at-put2 .ensures), at-put3 .ensures .end-is, put-length (at-put3 .ensures), at-put-word .ensures .end-is, put-length (at-put-word .ensures))
+    omega (
+      arith,
+      at-pre .1,
+      line-sum (at-args .cue .now) (at-first-fields .result) (at-args .said) (at-times-in .result) t n,
+      word-sum (at-args .said),
+      at-put .ensures .end-is,
+      put-length (at-put .ensures),
+      at-put2 .ensures .end-is,
+      put-length (at-put2 .ensures),
+      at-put3 .ensures .end-is,
+      put-length (at-put3 .ensures),
+      at-put-word .ensures .end-is,
+      put-length (at-put-word .ensures),
+    )
 
 slice-aggregate-put-2 : tie.Need-slice-aggregate-put-2
 slice-aggregate-put-2 c = search needs
