@@ -44,6 +44,16 @@ fn tell(what: &[u8], sheet: &[u8], cues: &[u8]) {
     answer(what, sheet, cues, &mut buffer);
 }
 
+// With an empty list.
+fn tell_sheet(what: &[u8], sheet: &[u8]) {
+    tell(what, sheet, b"");
+}
+
+// With a good sheet.
+fn tell_list(what: &[u8], cues: &[u8]) {
+    tell(what, b"rule\ta\tb\n", cues);
+}
+
 // One byte less than the listing has.
 fn tell_short() {
     let mut buffer = [0u8; 14];
@@ -114,10 +124,10 @@ fn tell_many() {
 
 fn tell_sheets() {
     tell(b"empty sheet", b"", b"cue\t1\ta\tb\n");
-    tell(b"empty list", b"rule\ta\tb\n", b"");
-    tell(b"both empty", b"", b"");
-    tell(b"21", b"rule\ta\tb", b"cue\t1\ta\tb\n");
-    tell(
+    tell_sheet(b"empty list", b"rule\ta\tb\n");
+    tell_sheet(b"both empty", b"");
+    tell_sheet(b"21", b"rule\ta\tb");
+    tell_sheet(
         b"22",
         b"rule\taa\tb\nrule\tab\tb\nrule\tac\tb\nrule\tad\tb\nrule\tae\tb\nrule\taf\tb\nrule\tag\tb\nrule\tah\tb\nrule\tai\tb\n\
          rule\taj\tb\nrule\tak\tb\nrule\tal\tb\nrule\tam\tb\nrule\tan\tb\nrule\tao\tb\nrule\tap\tb\nrule\taq\tb\nrule\tar\tb\n\
@@ -127,19 +137,18 @@ fn tell_sheets() {
          rule\tbt\tb\nrule\tbu\tb\nrule\tbv\tb\nrule\tbw\tb\nrule\tbx\tb\nrule\tby\tb\nrule\tbz\tb\nrule\tca\tb\nrule\tcb\tb\n\
          rule\tcc\tb\nrule\tcd\tb\nrule\tce\tb\nrule\tcf\tb\nrule\tcg\tb\nrule\tch\tb\nrule\tci\tb\nrule\tcj\tb\nrule\tck\tb\n\
          rule\tcl\tb\nrule\tcm\tb\n",
-        b"cue\t1\ta\tb\n",
     );
-    tell(b"23", b"rule\ta\n", b"cue\t1\ta\tb\n");
-    tell(b"23 line 2", b"rule\ta\tb\n\n", b"cue\t1\ta\tb\n");
-    tell(b"24", b"rule\tA\tb\n", b"cue\t1\ta\tb\n");
-    tell(b"25", b"rule\ta\tb\nrule\ta\tb\n", b"cue\t1\ta\tb\n");
-    tell(b"11 line 2", b"rule\ta\tb\nrule\tb\t(\n", b"");
+    tell_sheet(b"23", b"rule\ta\n");
+    tell_sheet(b"23 line 2", b"rule\ta\tb\n\n");
+    tell_sheet(b"24", b"rule\tA\tb\n");
+    tell_sheet(b"25", b"rule\ta\tb\nrule\ta\tb\n");
+    tell_sheet(b"11 line 2", b"rule\ta\tb\nrule\tb\t(\n");
     tell(b"sheet first", b"rule\ta\n", b"cue\n");
 }
 
 // A sheet of one line with the kind `a`, and its model by itself.
 fn tell_model(what: &[u8], sheet: &[u8]) {
-    tell(what, sheet, b"");
+    tell_sheet(what, sheet);
     if 7 < sheet.len() {
         tell_child(what, &sheet[7..sheet.len() - 1], b"b", 1);
     }
@@ -167,23 +176,28 @@ fn tell_models() {
 }
 
 fn tell_lists() {
-    tell(b"31", b"rule\ta\tb\n", b"cue\t1\ta");
-    tell(b"32", b"rule\ta\tb\n", b"cue\t1\n");
-    tell(b"33", b"rule\ta\tb\n", b"cue\t01\ta\n");
-    tell(b"34", b"rule\ta\tb\n", b"cue\t2\ta\ncue\t2\ta\n");
-    tell(b"35 kind", b"rule\ta\tb\n", b"cue\t1\tA\n");
-    tell(b"35 child", b"rule\ta\tb\n", b"cue\t1\ta\tb\t\n");
+    tell_list(b"31", b"cue\t1\ta");
+    tell_list(b"32", b"cue\t1\n");
+    tell_list(b"33", b"cue\t01\ta\n");
+    tell_list(b"34", b"cue\t2\ta\ncue\t2\ta\n");
+    tell_list(b"35 kind", b"cue\t1\tA\n");
+    tell_list(b"35 child", b"cue\t1\ta\tb\t\n");
+}
+
+// A child of this model.
+fn tell_hold(what: &[u8], children: &[u8], k: usize) {
+    tell_child(what, b"(axis,hold[0..2])", children, k);
 }
 
 fn tell_children() {
-    tell_child(b"named", b"(axis,hold[0..2])", b"hold\tcrawl\taxis", 1);
-    tell_child(b"foreign", b"(axis,hold[0..2])", b"hold\tcrawl\taxis", 2);
-    tell_child(b"last", b"(axis,hold[0..2])", b"hold\tcrawl\taxis", 3);
-    tell_child(b"37 at 0", b"(axis,hold[0..2])", b"hold\tcrawl\taxis", 0);
-    tell_child(b"37 past", b"(axis,hold[0..2])", b"hold\tcrawl\taxis", 4);
-    tell_child(b"37 none", b"(axis,hold[0..2])", b"", 1);
-    tell_child(b"35", b"(axis,hold[0..2])", b"axis\tAxis", 1);
-    tell_child(b"35 before 37", b"(axis,hold[0..2])", b"axis\t", 3);
+    tell_hold(b"named", b"hold\tcrawl\taxis", 1);
+    tell_hold(b"foreign", b"hold\tcrawl\taxis", 2);
+    tell_hold(b"last", b"hold\tcrawl\taxis", 3);
+    tell_hold(b"37 at 0", b"hold\tcrawl\taxis", 0);
+    tell_hold(b"37 past", b"hold\tcrawl\taxis", 4);
+    tell_hold(b"37 none", b"", 1);
+    tell_hold(b"35", b"axis\tAxis", 1);
+    tell_hold(b"35 before 37", b"axis\t", 3);
     tell_child(b"10 before 35", b"", b"A", 1);
 }
 
