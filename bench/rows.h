@@ -10,8 +10,8 @@ struct row {
     struct text model, children;
 };
 
-/* The last rows have names of one hash. */
-enum { ROWS = 19, FIRST_OF_ONE_HASH = 17 };
+/* The last rows have names of one slot, or of one key. */
+enum { ROWS = 19, FIRST_OF_ONE_SLOT = 17 };
 
 /* Row i, from 0. */
 void make_row(struct row *row, int i);

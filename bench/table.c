@@ -7,7 +7,7 @@
 #include <stdlib.h>
 
 /* The ratios to reach. */
-static const double LIMIT = 1.3, LIMIT_OF_ONE_HASH = 4, LIMIT_OF_MEDIAN = 1.1;
+static const double LIMIT = 1.3, LIMIT_OF_ONE_SLOT = 4, LIMIT_OF_MEDIAN = 1.1;
 
 enum { MOST_PLACEMENTS = 64 };
 
@@ -80,11 +80,11 @@ static void print_table(int placements)
     for (int i = 0; i < ROWS; i++) {
         make_row(&row, i);
         ratios[i] = print_row(row.title, &records[i], placements,
-                              i < FIRST_OF_ONE_HASH ? LIMIT : LIMIT_OF_ONE_HASH);
+                              i < FIRST_OF_ONE_SLOT ? LIMIT : LIMIT_OF_ONE_SLOT);
     }
-    print_last("worst", greatest(ratios, FIRST_OF_ONE_HASH), LIMIT);
-    print_last("worst, names of one hash",
-               greatest(ratios + FIRST_OF_ONE_HASH, ROWS - FIRST_OF_ONE_HASH), LIMIT_OF_ONE_HASH);
+    print_last("worst", greatest(ratios, FIRST_OF_ONE_SLOT), LIMIT);
+    print_last("worst, names of one slot",
+               greatest(ratios + FIRST_OF_ONE_SLOT, ROWS - FIRST_OF_ONE_SLOT), LIMIT_OF_ONE_SLOT);
     print_last("median", median(ratios, ROWS), LIMIT_OF_MEDIAN);
 }
 

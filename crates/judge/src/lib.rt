@@ -1,5 +1,6 @@
 // The judge: model texts, and what they say of rows.
 
+mod attribute;
 pub mod fault;
 mod lexeme;
 mod packed;
@@ -8,4 +9,5 @@ pub mod reading;
 pub mod reply;
 pub mod row;
 mod table;
+mod tally;
 pub mod verdict;

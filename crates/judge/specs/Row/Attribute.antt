@@ -9,7 +9,7 @@ use Rattle.model.specs.Word.Span.{firstPlace, lastBehind, first-untouched, behi
 use Rattle.model.specs.Types.{Operator, choice, Ty, ε, atom, join, symbols, ConflictFree}
 use Rattle.model.specs.Membership.{under, joined, begun, done, alive}
 use Rattle.model.specs.Model.{Algebra, operator, joinedFrom, joinedType, typeBy}
-use Rattle.judge.specs.{declared.row.Seen.Seen, declared.row.Attribute.Attribute}
+use Rattle.judge.specs.{declared.tally.Seen.Seen, declared.attribute.Attribute.Attribute}
 
 abbrev pub emptyAttribute : ℕ → Attribute
 emptyAttribute n = record { first = n; behind = 0; done = true; alive = true }

@@ -12,7 +12,7 @@ use Rattle.model.specs.{Rule.used, Rule.Laws.rule-eval, Rule.Names.names-model,
 use Rattle.model.specs.declared.rule.Kind.the-variants.{Atom, Group}
 use Rattle.model.specs.Model.{Model, typeBy, typeOf, after, evalStep, eval, atomsIn}
 use Rattle.model.specs.Model.Types.{Fits, type-conflict-free, type-symbols}
-use Rattle.judge.specs.{declared.row.Seen.Seen, declared.row.Attribute.Attribute, Row.upto, Row.Root.rootAttribute}
+use Rattle.judge.specs.{declared.tally.Seen.Seen, declared.attribute.Attribute.Attribute, Row.upto, Row.Root.rootAttribute}
 use Rattle.judge.specs.Row.Attribute.{emptyAttribute, attributeBy, attribute, attribute-is, attribute-atom, attribute-group, attribute-mark, seen}
 use Rattle.judge.specs.Row.Attribute.{attributeOf}
 use Rattle.fields.specs.Tests.{by-test}

@@ -10,7 +10,7 @@ use Rattle.model.specs.{declared.rule.Upper.Upper, declared.rule.Mark.Mark, dec
 use Rattle.model.specs.{Types.Operator, Rule.ruleWith, Rule.used, Rule.Laws.used-with, Model.Eval.after-is, Model.Eval.atoms-next}
 use Rattle.model.specs.declared.rule.Kind.the-variants.{Atom, Group}
 use Rattle.model.specs.Model.{operator, after, needed, evalStep, eval, atomsIn, isAtom}
-use Rattle.judge.specs.{declared.row.Seen.Seen, declared.row.Attribute.Attribute, Packed.nodeIn}
+use Rattle.judge.specs.{declared.tally.Seen.Seen, declared.attribute.Attribute.Attribute, Packed.nodeIn}
 use Rattle.judge.specs.Row.Attribute.{emptyAttribute, atomAttribute, pairAttribute, countedAttribute, markedAttribute, joinedAttributeFrom}
 use Rattle.judge.specs.Row.Attribute.{joinedAttribute, attributeBy}
 use Rattle.judge.specs.Reading.Buffer.{Stores, holds-count, holds-at}

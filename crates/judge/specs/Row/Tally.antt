@@ -7,7 +7,7 @@ use lib.Dec.{leb, eqb}
 use lib.ListN.{length, getD, set, replicate, getD-replicate, length-replicate, length-set}
 use lib.Seq.{getD-set-same, getD-set-other}
 use borrow.Author.Tests.{leb-true, le-leb, ne-eqb}
-use Rattle.judge.specs.{declared.row.Seen.Seen, Row.Attribute.seen, Row.upto}
+use Rattle.judge.specs.{declared.tally.Seen.Seen, Row.Attribute.seen, Row.upto}
 use Rattle.fields.specs.{Limits.maxAtoms, Tests.by-test}
 use Rattle.model.specs.Word.{Word, Names, only, count, keep, touched}
 use Rattle.model.specs.Word.Laws.{only-is, only-self}
