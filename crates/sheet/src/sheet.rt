@@ -24,7 +24,7 @@ use judge::reading::read_model;
 use model::fault::ModelFault;
 use model::rule::Rule;
 
-pub const MAX_RULES: usize = 64;
+const MAX_RULES: usize = 64;
 
 // Refusals of a sheet: 20 to 25, and the model's own (`sheetNumber` in specs/Sheet.antt).
 pub enum SheetFault {
