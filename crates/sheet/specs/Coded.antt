@@ -6,9 +6,9 @@ use lib.{Dec.T, Dec.eqb, ListN.length, ListN.getD}
 use Rattle.fields.specs.{Limits.maxFile, Bytes.Text, Split.lines, Split.behind, Split.part, Split.Laws.Stand, Children.allNames}
 use Rattle.judge.specs.{declared.reading.NamePlace.NamePlace, declared.verdict.ChildrenJudged.ChildrenJudged}
 use Rattle.judge.specs.declared.verdict.ChildrenJudged.the-variants.{Verdict, ModelRefused, ChildrenRefused}
-use Rattle.sheet.specs.{declared.line.Said.Said, Cues.children, Put.Fits, Listing.wordOf, Listing.listingLine, Listing.said}
+use Rattle.sheet.specs.{declared.line.Said.Said, Cues.children, Cues.cuesRead, Put.CueFits, Listing.wordOf, Listing.listingLine, Listing.said}
+use Rattle.sheet.specs.{declared.cues.CuesRead.the-variants.Count, declared.sheet.SheetOutcome.the-variants.Read, Sheet.sheetRead}
 use Rattle.sheet.specs.declared.line.Said.the-variants.{Complete, Open, Dead, NoSheet}
-use Rattle.sheet.specs.{declared.cues.CuesRead.the-variants.Count, declared.sheet.SheetOutcome.the-variants.Read, Cues.cuesRead, Sheet.sheetRead}
 
 -- by what `judge_children` answers
 abbrev pub saidFrom : ChildrenJudged → Said
@@ -33,14 +33,14 @@ listingCoded vs i (l ∷ ls) = listingLine l (decoded (getD vs i 0)) ++ listingC
 -- the place lies in the sheet's text; the cue line is good
 pub record CueReady (s : Text) (p : NamePlace) (l : Text) : Type 0 where
   pub inside : p .start + p .len ≤ length s
-  pub fits : Fits l
+  pub fits : CueFits l
   pub named : T (allNames (children l))
 
 -- a cue list that was read
 pub record GoodCues (c : Text) : Type 0 where
   pub ended : behind c ≡ []
   pub short : length c ≤ maxFile
-  pub fit : (i : ℕ) → i < length (lines c) → Fits (getD (lines c) i [])
+  pub fit : (i : ℕ) → i < length (lines c) → CueFits (getD (lines c) i [])
   pub named : (i : ℕ) → i < length (lines c) → T (allNames (children (getD (lines c) i [])))
 
 -- a loop over its lines stands before line n, which begins at `at`
@@ -54,7 +54,7 @@ pub record Cue (c : Text) (n at end : ℕ) : Type 0 where
   pub bounds : (at ≤ end) × (end < length c) × (length c ≤ maxFile) × (n < maxFile)
   pub counted : n < length (lines c)
   pub line-is : getD (lines c) n [] ≡ part c at end
-  pub fits : Fits (part c at end)
+  pub fits : CueFits (part c at end)
   pub named : T (allNames (children (part c at end)))
   pub next : AtLine c (n + 1) (end + 1)
 

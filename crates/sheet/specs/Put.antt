@@ -7,7 +7,7 @@ use Rattle.fields.specs.{Bytes.Text, Limits.maxRow, Limits.maxFile, Split.field
 use Rattle.sheet.specs.Cues.{children}
 
 -- a line that is a cue's: it has its three fields, and no more children than the limit
-pub record Fits (l : Text) : Type 0 where
+pub record CueFits (l : Text) : Type 0 where
   pub enough : 3 ≤ length (fields l)
   pub few : length (children l) ≤ maxRow
   pub short : length l ≤ maxFile

@@ -6,7 +6,7 @@ ghost use lib.{Dec.eqb, ListN.length};
 ghost use Rattle.model.specs.Syntax.{numberIn};
 ghost use Rattle.judge.specs.Reading.{partAt, partsOf};
 ghost use Rattle.fields.specs.Split.{lines, field};
-ghost use Rattle.sheet.specs.{Cues.children, Sheet.Walk.Loaded, Put.Fits, Put.PutWhole};
+ghost use Rattle.sheet.specs.{Cues.children, Sheet.Walk.Loaded, Put.CueFits, Put.PutWhole};
 ghost use Rattle.sheet.specs.Listing.{saidOf, listing, listed, bufferAfter};
 ghost use Rattle.sheet.specs.Coded.{saidFrom, codeOf, decoded, CueReady, GoodCues, Coded, listingCoded};
 use crate::cues::CuesRead;
@@ -109,7 +109,7 @@ fn code_for(sheet: &[u8], place: NamePlace, cue: &[u8], number: usize) -> u8
 
 // The number from 1 of the sheet's line that has the kind of a cue, or 0.
 fn line_of(sheet: &[u8], kinds: Names, cue: &[u8]) -> usize
-    requires { ⌜ Fits (now cue) ⌝ }
+    requires { ⌜ CueFits (now cue) ⌝ }
     ensures { λ r. ⌜ r ≡ numberIn (partsOf (now (sheet .entry)) kinds) (field 2 (now (cue .entry))) ⌝ }
 {
     let ends = first_fields(cue);

@@ -17,7 +17,7 @@ use Rattle.model.specs.{Syntax.numberIn, Fault.Answer, Fault.refused, Fault.acc
 use Rattle.model.specs.{Syntax.Number.number-below}
 use Rattle.sheet.specs.{declared.line.Said.Said, declared.sheet.Entry.Entry, declared.sheet.Sheet.Sheet, Cues.children, Cues.cuesRead}
 use Rattle.sheet.specs.{Sheet.Walk.Loaded, declared.sheet.SheetFault.SheetFault, declared.sheet.SheetOutcome.SheetOutcome}
-use Rattle.sheet.specs.{declared.cues.CuesRead.CuesRead, Put.Put, Put.Fits}
+use Rattle.sheet.specs.{declared.cues.CuesRead.CuesRead, Put.Put, Put.CueFits}
 use Rattle.sheet.specs.declared.line.Said.the-variants.{Complete, Open, Dead, NoSheet}
 use Rattle.sheet.specs.Sheet.{kind, sheetOutcome, sheetBy, sheetRead}
 use Rattle.sheet.specs.declared.sheet.SheetOutcome.the-variants.{Read, Refused as SheetIsRefused}
@@ -80,7 +80,7 @@ coded-from f vs i (l ∷ ls) h =
     (coded-from f vs (suc i) ls (λ k o. let y : suc i + k ≡ i + suc k = omega arith in ap (λ j. getD vs j 0) y ∙ h (suc k) (omega arith)))
 
 -- no line is longer than this
-pub line-short : {l : Text} (v : Said) → Fits l → length (listingLine l v) ≤ 66000
+pub line-short : {l : Text} (v : Said) → CueFits l → length (listingLine l v) ≤ 66000
 line-short {l} v f =
     let t = cue-three {l = l} {h = headsOf l} refl f in
     omega (arith, line-length v t refl, t .ascending, word-short v, digits-length 4 (length (children l)) (omega (arith, f .few)), f .short)

@@ -8,7 +8,7 @@ use borrow.Author.Tests.{ltb-true, ltb-false}
 use Rattle.fields.specs.{Tests.by-test, Bytes.Text, Bytes.digits, declared.split.Heads.Heads, Split.lineFeed, Split.tab, Split.fields, Split.part}
 use Rattle.fields.specs.{Heads.headsOf}
 use Rattle.fields.specs.Heads.Laws.{fields-few, fields-three, Three}
-use Rattle.sheet.specs.{declared.line.Said.Said, Cues.children, Put.Fits, Listing.word, Listing.listingLine}
+use Rattle.sheet.specs.{declared.line.Said.Said, Cues.children, Put.CueFits, Listing.word, Listing.listingLine}
 use Rattle.sheet.specs.declared.line.Said.the-variants.{Complete, Open, Dead, NoSheet}
 
 module _ (l : Text) (h : Heads) where
@@ -17,7 +17,7 @@ module _ (l : Text) (h : Heads) where
       by-test (ltb (h .second) (length l)) (λ t. ltb-true (h .second) (length l) t)
       (λ t. let f = fields-few l h e (ltb-false (h .second) (length l) t) in absurd (omega (arith, ltb-true (length (fields l)) 3 f)))
 
-pub cue-three : {l : Text} {h : Heads} → h ≡ headsOf l → Fits l → Three l h
+pub cue-three : {l : Text} {h : Heads} → h ≡ headsOf l → CueFits l → Three l h
 cue-three {l} {h} e f = fields-three l h e (enough l h e (f .enough))
 
 part-length : (l : Text) (a b : ℕ) → b ≤ length l → length (part l a b) ≡ b - a
