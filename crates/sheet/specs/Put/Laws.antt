@@ -35,7 +35,9 @@ put-then {old} {mid} {new} {at} {a} {b} {s} {t} p q =
     record {
       fits = rw length-append (omega (arith, p .fits, q .fits, p .end-is));
       end-is = rw length-append (omega (arith, q .end-is, p .end-is));
-      text-is = q .text-is ∙ rw (x, z, append-assoc, append-assoc);
+      text-is =
+          let rest = drop (at + length (s ++ t)) old in
+          q .text-is ∙ rw (x, z, append-assoc (take at old) s (t ++ rest), append-assoc s t rest);
     }
 
 pub put-one : (old : Text) (at b : ℕ) → at < length old → Put old (set old at b) at (b ∷ []) (at + 1)

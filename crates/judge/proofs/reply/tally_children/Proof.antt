@@ -2,11 +2,12 @@
 use mathlib.Core.{Path._≡_, Path.sym, Path.ap, Path._∙_, List.List}
 use Prim.Native.Nat.{_+_, _-_, _≤_}
 use native.Mathlib.Omega.{arith}
-use lib.{ListN.length, ListN.take, ListN.drop}
+use lib.ListN.{length, take, drop}
 use borrow.Author.Needs.{needs}
 use Rattle.fields.specs.Bytes.{Text}
 use Rattle.model.specs.Syntax.{numberIn}
-use Rattle.judge.specs.{Reading.Table.keyOf, Reading.Table.partsIn, Reading.Laws.last-number, Reply.Children.ChildrenPassed}
+use Rattle.judge.specs.{Reading.Laws.last-number, Reply.Children.ChildrenPassed}
+use Rattle.judge.specs.Reading.Table.{keyOf, partsIn, lastIn}
 use Rattle.judge.specs.Reply.Children.Laws.{NameMet, met-name, walk-starts, walk-none, walk-stops, walk-notes, walk-goes, walk-few, walk-many}
 use Rattle.judge.proofs.reply.tally_children.Statement.{statement}
 use Rattle.judge.proofs.reply.tally_children.Tie as tie
@@ -45,7 +46,9 @@ abbrev child : tie.After-find Inv-loop μ-loop → Text
 child c = take (known c .before .before .name-end .result .end - head c .loop .at) (drop (head c .loop .at) (start (known c) .args .children .now))
 
 number-is : (c : tie.After-find Inv-loop μ-loop) → c .find .result ≡ numberIn (texts (start (known c))) (child c)
-number-is c = let s = start (known c) in c .find .ensures .0 ∙ last-number (texts s) (child c) (s .pre .0 .1)
+number-is c =
+    let s = start (known c) in
+    _∙_ {b = lastIn (texts s) (child c)} (c .find .ensures .0) (last-number (texts s) (child c) (s .pre .0 .1))
 
 -- each child and its tab have two bytes
 few : (c : tie.In-loop Inv-loop μ-loop) → c .before .loop .count ≤ 32768
