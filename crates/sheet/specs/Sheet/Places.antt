@@ -15,7 +15,7 @@ use Rattle.sheet.specs.declared.sheet.SheetOutcome.the-variants.{Read, R
 use Rattle.sheet.specs.declared.sheet.Checked.the-variants.{Good, Bad}
 use Rattle.sheet.specs.Sheet.{maxRules, kind, model, lineFault, sheetLines, sheetOutcome, Placed, placedFrom, kindPlace, entryOf, noEntry, sheetWith}
 use Rattle.sheet.specs.Sheet.{sheetBy, sheetRead, HoldsLine, HoldsSheet}
-use Rattle.sheet.specs.Sheet.Walk.{Loaded, Gone, placed-length, gone-start, gone-many, gone-bad, gone-next, gone-end}
+use Rattle.sheet.specs.Sheet.Walk.{Loaded, Gone, nowhere, placed-length, gone-start, gone-many, gone-bad, gone-next, gone-end}
 
 module _ (x : Text) (read : sheetLines 0 [] (lines x) ≡ Read) where
   -- where a line is left, the walk goes on behind it
@@ -73,9 +73,6 @@ at-free f u (suc n) [] zero h = refl
 at-free f u (suc n) [] (suc k) h = at-free f u n [] k (omega arith)
 at-free f u n (a ∷ l) zero h = absurd (omega arith)
 at-free f u n (a ∷ l) (suc k) h = at-free f u n l k (omega arith)
-
-abbrev nowhere : Placed
-nowhere = record { start = 0; line = [] }
 
 placed-line : (p : ℕ) (ls : List Text) (k : ℕ) → getD (placedFrom p ls) k nowhere .line ≡ getD ls k []
 placed-line p [] k = refl

@@ -56,7 +56,7 @@ pub record Gone (x : Text) (kinds : Names) (entries : List Entry) (n at : ℕ) :
   pub answer : sheetLines 0 [] (lines x) ≡ sheetLines n (map kind (take n (lines x))) (drop n (lines x))
 
 -- stands for a line behind the last
-abbrev nowhere : Placed
+abbrev pub nowhere : Placed
 nowhere = record { start = 0; line = [] }
 
 pub placed-length : (p : ℕ) (ls : List Text) → length (placedFrom p ls) ≡ length ls
