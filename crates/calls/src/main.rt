@@ -1,9 +1,10 @@
-// Plays lists of calls on sessions. A line for each call has the call, its answer and the places of the trail; the file stdout has what the book of
-// document 01 says.
+// Plays lists of calls on sessions. A line for each call has the call, its answer, the places of the row that it was lent for names, if it was, and those
+// of the trail; the file stdout has what the book of documents 01 and 02 says.
 
 use judge::fault::judge_number;
 use judge::reading::read_model;
 use judge::verdict::Judged;
+use judge::verdict::Next;
 use libc::STDOUT_FILENO;
 use model::rule::NameNumber;
 use model::rule::Rule;
@@ -52,14 +53,25 @@ fn show_place(place: u16) {
     }
 }
 
-fn show_trail(trail: &[u16]) {
+fn show_places(places: &[u16]) {
     text(b"\t");
     let mut i: usize = 0;
-    while i < trail.len() {
-        show_place(trail[i]);
+    while i < places.len() {
+        show_place(places[i]);
         i += 1;
     }
-    text(b"\n");
+}
+
+fn show_next(next: Next) {
+    match next {
+        Next::Names(count) => {
+            text(b"lists ");
+            io::print_decimal(STDOUT_FILENO, count as u64);
+        }
+        Next::Refused(fault) => {
+            io::print_decimal(STDOUT_FILENO, judge_number(fault) as u64);
+        }
+    }
 }
 
 fn rule_of(model: &[u8]) -> Rule {
@@ -95,6 +107,27 @@ fn taken_back(session: Session, trail: &mut [u16]) -> Session {
     step.session
 }
 
+fn asked(session: Session, trail: &[u16]) -> Session {
+    show_judged(session.verdict(trail));
+    session
+}
+
+fn listed(session: Session, trail: &[u16], row: &mut [u16]) {
+    show_next(session.next(trail, row));
+    show_places(row);
+}
+
+// The row for the names holds 7s.
+fn looked_ahead(session: Session, call: u8, trail: &[u16]) -> Session {
+    let mut row = [7u16; 5];
+    match call {
+        b'>' => listed(session, trail, &mut row),
+        b'^' => listed(session, trail, &mut row[0..1]),
+        _ => listed(session, trail, &mut row[0..0]),
+    }
+    session
+}
+
 // Writes the last place of the trail, as no call does.
 fn scribble(place: u16, trail: &mut [u16]) {
     if 0 < trail.len() {
@@ -107,8 +140,8 @@ fn digit(byte: u8) -> u16 {
     if byte < b'0' { 0 } else { (byte - b'0') as u16 }
 }
 
-// One byte is one call: m, p and d open, a digit is added, < takes back, ? asks. Between calls # damages the last place of the trail, = mends it, and x
-// damages the session's rule.
+// One byte is one call: m, p and d open, a digit is added, < takes back, ? asks, > looks ahead with five places lent for names, ^ with one and _ with
+// none. Between calls # damages the last place of the trail, = mends it, and x damages the session's rule.
 fn answered(session: Session, call: u8, trail: &mut [u16]) -> Session {
     match call {
         b'm' => opened(
@@ -119,10 +152,10 @@ fn answered(session: Session, call: u8, trail: &mut [u16]) -> Session {
         b'p' => opened(session, rule_of(b"(a[2..3],b)"), trail),
         b'd' => opened(session, damaged_rule(), trail),
         b'<' => taken_back(session, trail),
-        b'?' => {
-            show_judged(session.verdict(trail));
-            session
-        }
+        b'?' => asked(session, trail),
+        b'>' => looked_ahead(session, call, trail),
+        b'^' => looked_ahead(session, call, trail),
+        b'_' => looked_ahead(session, call, trail),
         b'#' => {
             scribble(7, trail);
             session
@@ -143,7 +176,8 @@ fn turn(session: Session, call: u8, trail: &mut [u16]) -> Session {
     text(&[call]);
     text(b"\t");
     let next = answered(session, call, trail);
-    show_trail(trail);
+    show_places(trail);
+    text(b"\n");
     next
 }
 
@@ -170,8 +204,8 @@ fn many_places() -> [u16; 4100] {
     trail
 }
 
-// A session and a trail as 4,096 additions leave them, in a trail longer than that: a verdict, one more, a name above the rule's, taking back while a
-// place past the room is damaged, and after it is mended.
+// A session and a trail as 4,096 additions leave them, in a trail longer than that: a verdict, the names that may come next, one more, a name above the
+// rule's, taking back while a place past the room is damaged, and after it is mended.
 fn play_full() {
     let mut trail = many_places();
     let full = Session {
@@ -180,7 +214,9 @@ fn play_full() {
     };
     let asked = answered(full, b'?', &mut trail);
     text(b"\t");
-    let one_more = answered(asked, b'1', &mut trail);
+    let ahead = answered(asked, b'>', &mut trail);
+    text(b"\t");
+    let one_more = answered(ahead, b'1', &mut trail);
     text(b"\t");
     let unnamed = answered(one_more, b'2', &mut trail);
     text(b"\t");
@@ -198,6 +234,9 @@ fn main() {
     let mut trail = [7u16; 5];
     play(b"?1<m?1?2?3?4?5?59<?0?<?6<<<<<?2?1?<<d?", &mut trail);
     play(b"m1#?1<d=?p?1?2?<1?2?3x?1<m?", &mut trail);
-    play(b"m?1<", &mut trail[0..0]);
+    play(b">m>^_1>2>^3>4>_5>5<<<>5>5>_0>_", &mut trail);
+    play(b"m2>_<1#>_=>x>_#>=d>", &mut trail);
+    play(b"p>1>1>^1>2>_<<<2>", &mut trail);
+    play(b"m?>_1<", &mut trail[0..0]);
     play_full();
 }

@@ -1,15 +1,24 @@
 -- The ends: what the desk's promises come to. Each proof is a citation.
 use mathlib.Core.{Path._≡_, Logic._↔_}
-use Prim.Native.Nat.{ℕ}
-use Rattle.model.specs.declared.verdict.Verdict.{Verdict}
+use Prim.Native.Nat.{ℕ, _<_}
+use Rattle.model.specs.{declared.verdict.Verdict.Verdict, Word.Word}
 use Rattle.fields.specs.Bytes.{Text}
-use Rattle.judge.specs.Reply.{Reply, ChildrenJudges}
-use Rattle.desk.specs.{Desk.replyNumber, Desk.verdictNumber, Desk.deskAnswer, Desk.Laws.answer-exactly, Child.Part, Child.Finds, Child.found}
-use Rattle.desk.specs.{Child.Laws.finds-exactly}
+use Rattle.judge.specs.{Reply.Reply, Reply.good, Reply.ChildrenJudges, Next.NextReply, Next.nextListed, Next.ChildrenNextStands, Next.childrenNext}
+use Rattle.judge.specs.Ends.{children-next-exactly}
+use Rattle.desk.specs.{Desk.replyNumber, Desk.verdictNumber, Desk.deskAnswer, Desk.refusalBase, Desk.deskNext, Desk.Laws.answer-exactly}
+use Rattle.desk.specs.{Desk.Laws.next-told, Child.Part, Child.Finds, Child.found, Child.Laws.finds-exactly}
 
 -- `desk_judge`: the number is that of the one reply that the meaning gives
 pub desk-exactly : (m c : Text) (r : Reply Verdict) → (deskAnswer m c ≡ replyNumber verdictNumber r) ↔ ChildrenJudges m c r
 desk-exactly = answer-exactly
+
+-- `desk_next`: its number is `deskNext`, which is the number of this one reply, and the row that it is lent holds the reply's list. Below 2,147,483,648
+-- it is the length of a list, from there on a refusal.
+pub desk-next-exactly : (m c : Text) (k : ℕ) (r : Reply NextReply) → (childrenNext m c k ≡ r) ↔ ChildrenNextStands m c k r
+desk-next-exactly = children-next-exactly
+
+pub desk-next-told : (m c : Text) (k : ℕ) → (deskNext m c k < refusalBase) ↔ ((l : Word) × (childrenNext m c k ≡ good (nextListed l)))
+desk-next-told = next-told
 
 -- `child` and `child_refusal`: one reply, and only one
 pub child-exactly : (m c : Text) (k : ℕ) (r : Reply Part) → (found m c k ≡ r) ↔ Finds m c k r

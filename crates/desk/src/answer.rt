@@ -1,12 +1,20 @@
-// The number that the desk answers.
+// The numbers that the desk answers.
 
 ghost use mathlib.Core.Path.{_≡_};
-ghost use Rattle.desk.specs.Desk.{verdictNumber, deskAnswer};
+ghost use lib.ListN.{length};
+ghost use Rattle.desk.specs.Desk.{verdictNumber, deskAnswer, deskNext, deskRow};
 use fields::fault::cue_number;
+use judge::fault::judge_number;
+use judge::next::next_children;
 use judge::reply::judge_children;
 use judge::verdict::ChildrenJudged;
+use judge::verdict::ChildrenNext;
+use judge::verdict::Next;
 use model::fault::model_number;
 use model::verdict::Verdict;
+
+// A refusal's number has this added where the answer is else a length.
+const REFUSED: u32 = 2147483648;
 
 fn verdict_number(verdict: Verdict) -> u32
     ensures { λ r. ⌜ r ≡ verdictNumber verdict ⌝ }
@@ -27,5 +35,23 @@ pub extern "C" fn desk_judge(model: &[u8], children: &[u8]) -> u32
         ChildrenJudged::Verdict(v) => verdict_number(v),
         ChildrenJudged::ModelRefused(f) => model_number(f),
         ChildrenJudged::ChildrenRefused(f) => cue_number(f),
+    }
+}
+
+// Writes the numbers of the names that may come next behind the children into the lent row and hands back how many they are. Or, with 2,147,483,648
+// added, the refusal of the model text, 10 to 17, then of the children text, 30, 35, 36, then 46: the lent row is shorter than the list. A refusal
+// changes no place of the row.
+#[no_mangle]
+pub extern "C" fn desk_next(model: &[u8], children: &[u8], row: &mut [u16]) -> u32
+    ensures { λ r. ⌜ r ≡ deskNext (now (model .entry)) (now (children .entry)) (length (now (row .entry))) ⌝ }
+    ensures { λ r. ⌜ now (row .exit) ≡ deskRow (now (model .entry)) (now (children .entry)) (now (row .entry)) ⌝ }
+{
+    match next_children(model, children, row) {
+        ChildrenNext::Next(next) => match next {
+            Next::Names(n) => n as u32,
+            Next::Refused(f) => REFUSED + judge_number(f),
+        },
+        ChildrenNext::ModelRefused(f) => REFUSED + model_number(f),
+        ChildrenNext::ChildrenRefused(f) => REFUSED + cue_number(f),
     }
 }

@@ -2,20 +2,22 @@
 pub mod Laws
 pub mod Attribute
 pub mod Tally
+pub mod Stack
 pub mod Root
 pub mod Pass
 pub mod Code
 use mathlib.Core.{List.[], List._∷_, Bool.Bool, Bool.true, Bool.cond, Bool._&&_}
 use Prim.Native.Nat.{ℕ, _≤_, _<_}
 use lib.{ListN.length, Dec.leb}
-use Rattle.judge.specs.{declared.fault.JudgeFault.JudgeFault, declared.verdict.Judged.Judged}
-use Rattle.judge.specs.declared.fault.JudgeFault.the-variants.{Unreadable, LongRow, BadTrail, UnknownName, NoRoom, NothingToTakeBack}
+use Rattle.judge.specs.{declared.fault.JudgeFault.JudgeFault, declared.verdict.Judged.Judged, declared.row.Tested.Tested}
+use Rattle.judge.specs.declared.fault.JudgeFault.the-variants.{Unreadable, LongRow, BadTrail, UnknownName, NoRoom, NothingToTakeBack, ShortRow}
 use Rattle.judge.specs.declared.verdict.Judged.the-variants.{Verdict as Said, Refused}
+use Rattle.judge.specs.declared.row.Tested.the-variants.{Passed, Refused as Failed}
 use Rattle.model.specs.{declared.rule.Rule.Rule, Word.Word, Types.Ty, Verdict.Says, Verdict.verdict, Rule.Readable, Rule.Means, Rule.names, Rule.ruleType}
 use Rattle.model.specs.{Check.readable, declared.verdict.Verdict.Verdict}
 use Rattle.fields.specs.Limits.{maxRow}
 
--- document 01's numbers
+-- document 01's numbers, and 46 of document 02
 abbrev pub judgeNumber : JudgeFault → ℕ
 judgeNumber Unreadable = 40
 judgeNumber LongRow = 41
@@ -23,6 +25,7 @@ judgeNumber BadTrail = 42
 judgeNumber UnknownName = 43
 judgeNumber NoRoom = 44
 judgeNumber NothingToTakeBack = 45
+judgeNumber ShortRow = 46
 
 -- no number is above n
 abbrev pub Upto : ℕ → Word → Type 0
@@ -44,8 +47,16 @@ abbrev pub upto : ℕ → Word → Bool
 upto n [] = true
 upto n (x ∷ w) = leb x n && upto n w
 
-unfoldable pub judged : Rule → Word → Judged
-judged r w =
+-- 40, 41 and 43, or how many names the rule has
+unfoldable pub rowTested : Rule → Word → Tested
+rowTested r w =
     cond (readable r)
-    (cond (leb (length w) maxRow) (cond (upto (names r) w) (Said (verdict (ruleType r) w)) (Refused UnknownName)) (Refused LongRow))
-    (Refused Unreadable)
+    (cond (leb (length w) maxRow) (cond (upto (names r) w) (Passed (names r)) (Failed UnknownName)) (Failed LongRow))
+    (Failed Unreadable)
+
+abbrev pub judgedIf : Verdict → Tested → Judged
+judgedIf v (Passed n) = Said v
+judgedIf v (Failed f) = Refused f
+
+unfoldable pub judged : Rule → Word → Judged
+judged r w = judgedIf (verdict (ruleType r) w) (rowTested r w)

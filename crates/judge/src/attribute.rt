@@ -20,6 +20,18 @@ pub(crate) struct Attribute {
     pub(crate) alive: bool,
 }
 
+// What fills a stack at first: zeros are made fastest, and no place is read before it is written.
+pub(crate) fn blank() -> Attribute
+    ensures { λ r. ⌜ r .behind ≡ 0 ⌝ }
+{
+    Attribute {
+        first: 0,
+        behind: 0,
+        done: false,
+        alive: false,
+    }
+}
+
 fn earlier(a: u16, b: u16) -> u16
     ensures { λ r. ⌜ r ≡ min a b ⌝ }
 {
@@ -98,7 +110,7 @@ fn is_begun(
     }
 }
 
-fn pair(sign: Sign, x: Attribute, y: Attribute) -> Attribute
+pub(crate) fn pair(sign: Sign, x: Attribute, y: Attribute) -> Attribute
     ensures { λ r. ⌜ r ≡ pairAttribute (operator sign) x y ⌝ }
 {
     let ordered = x.behind <= y.first;

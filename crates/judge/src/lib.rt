@@ -1,8 +1,10 @@
 // The judge: model texts, and what they say of rows.
 
+mod ahead;
 mod attribute;
 pub mod fault;
 mod lexeme;
+pub mod next;
 mod packed;
 mod reader;
 pub mod reading;

@@ -3,14 +3,14 @@
 ghost use mathlib.Core.{Path._≡_, List.[]};
 ghost use Prim.Native.Nat.{_≤_};
 ghost use lib.ListN.{length};
-ghost use Rattle.fields.specs.{Limits.maxFile, Limits.maxAtoms, Children.shortName};
-ghost use Rattle.judge.specs.{declared.lexeme.NameEnd.NameEnd, Reading.Lexeme.NameEnds, Reading.Whole.Whole, Row.Tally.Seeing};
+ghost use Rattle.fields.specs.{Limits.maxFile, Limits.maxAtoms, Limits.maxNodes, Children.shortName};
+ghost use Rattle.judge.specs.{declared.lexeme.NameEnd.NameEnd, Reading.Lexeme.NameEnds, Row.Tally.Seeing};
 ghost use Rattle.judge.specs.{Reply.childrenIn, Reply.childrenReply, Reply.judgedOf, Reply.Children.childFrom, Reply.Children.ChildrenTallied};
+ghost use Rattle.judge.specs.Reply.Read.{TextsRead};
 ghost use Rattle.judge.specs.Reading.Table.{Tabled, Distinct, partsIn};
 use crate::lexeme::NameEnd;
 use crate::lexeme::name_end;
 use crate::lexeme::stands;
-use crate::reader::Cursor;
 use crate::reader::Got;
 use crate::reader::read_whole;
 use crate::row::verdict_by;
@@ -26,6 +26,7 @@ use fields::limits::MAX_FILE;
 use fields::limits::MAX_NAME;
 use fields::limits::MAX_ROW;
 use fields::split::TAB;
+use model::fault::ModelFault;
 use model::rule::MAX_ATOMS;
 use model::rule::MAX_NODES;
 
@@ -83,45 +84,66 @@ fn tally_children(
     }
 }
 
-// The verdict on the children, or their refusal, by a model that was read into the arrays.
-fn judge_read(
+// What was read: how many nodes and names the model has, and how many children there are. The two counts of the reader stand apart: side by side they
+// are copied as one, which waits until both have been stored.
+pub(crate) struct Sizes {
+    pub(crate) nodes: usize,
+    pub(crate) children: u16,
+    pub(crate) names: usize,
+}
+
+pub(crate) enum ChildrenRead {
+    Both(Sizes),
+    ModelRefused(ModelFault),
+    ChildrenRefused(CueFault),
+}
+
+// Reads the model text into the words of its nodes, and what is seen of each name in the children, a field each, into the other array, which holds
+// zeros; or gives the model text's refusal, or the children's. No bytes are no children.
+pub(crate) fn read_children(
     model: &[u8],
-    work: &[u64; MAX_NODES],
-    names: &[u64; MAX_NODES],
-    heads: &[u8; SLOTS],
-    past: Cursor,
     children: &[u8],
-) -> ChildrenJudged
-    requires { ⌜ Whole (now model) (now work) (now names, now heads) past × (length (now children) ≤ maxFile) ⌝ }
-    ensures { λ r. ⌜ r ≡ judgedOf (childrenReply (now (model .entry)) (now (children .entry))) ⌝ }
+    words: &mut [u64; MAX_NODES],
+    seen: &mut [u64; MAX_ATOMS + 1],
+) -> ChildrenRead
+    requires { ⌜ (length (now words) ≡ maxNodes) × Seeing maxAtoms [] (now seen) ⌝ }
+    ensures { λ r. ⌜ TextsRead (now (model .entry)) (now (children .entry)) (now (words .exit)) (now (seen .exit)) r ⌝ }
 {
-    let mut seen = [0u64; MAX_ATOMS + 1];
-    match tally_children(model, names, past.names, heads, children, &mut seen) {
-        Children::Count(n) => ChildrenJudged::Verdict(verdict_by(
-            work,
-            past.nodes,
-            past.names,
-            n as u16,
-            &seen,
-        )),
-        Children::Refused(f) => ChildrenJudged::ChildrenRefused(f),
+    let mut names = [0u64; MAX_NODES];
+    let mut heads = [0u8; SLOTS];
+    match read_whole(model, words, &mut names, &mut heads) {
+        Got::Past(past) => {
+            if MAX_FILE < children.len() {
+                return ChildrenRead::ChildrenRefused(CueFault::LongFile);
+            }
+            match tally_children(model, &names, past.names, &heads, children, seen) {
+                Children::Count(n) => ChildrenRead::Both(Sizes {
+                    nodes: past.nodes,
+                    children: n as u16,
+                    names: past.names,
+                }),
+                Children::Refused(f) => ChildrenRead::ChildrenRefused(f),
+            }
+        }
+        Got::Fault(f, _) => ChildrenRead::ModelRefused(f),
     }
 }
 
-// The verdict on the children, a field each, by the model that a text spells; or the model text's refusal, or the children's. No bytes are no children.
+// The verdict on the children by the model that a text spells; or the model text's refusal, or the children's.
 pub fn judge_children(model: &[u8], children: &[u8]) -> ChildrenJudged
     ensures { λ r. ⌜ r ≡ judgedOf (childrenReply (now (model .entry)) (now (children .entry))) ⌝ }
 {
-    let mut work = [0u64; MAX_NODES];
-    let mut names = [0u64; MAX_NODES];
-    let mut heads = [0u8; SLOTS];
-    match read_whole(model, &mut work, &mut names, &mut heads) {
-        Got::Past(past) => {
-            if MAX_FILE < children.len() {
-                return ChildrenJudged::ChildrenRefused(CueFault::LongFile);
-            }
-            judge_read(model, &work, &names, &heads, past, children)
-        }
-        Got::Fault(f, _) => ChildrenJudged::ModelRefused(f),
+    let mut words = [0u64; MAX_NODES];
+    let mut seen = [0u64; MAX_ATOMS + 1];
+    match read_children(model, children, &mut words, &mut seen) {
+        ChildrenRead::Both(read) => ChildrenJudged::Verdict(verdict_by(
+            &words,
+            read.nodes,
+            read.names,
+            read.children,
+            &seen,
+        )),
+        ChildrenRead::ModelRefused(f) => ChildrenJudged::ModelRefused(f),
+        ChildrenRead::ChildrenRefused(f) => ChildrenJudged::ChildrenRefused(f),
     }
 }

@@ -1,20 +1,25 @@
--- The book that a list of calls agrees with: document 01, "Sessions". It is fed the trail's length and, for each call, which one it is and the rule
--- or name number that it is given; never a session, an answer or a place of the trail. `Ends.calls-keep-book` says that sessions agree with it.
+-- The book that a list of calls agrees with: document 01, "Sessions", and document 02, W1. It is fed the trail's length and, for each call, which one
+-- it is and the rule or name number that it is given, or how many places it is lent; never a session, an answer or a place of the trail or of another
+-- lent row. `Ends.calls-keep-book` says that sessions agree with it.
 pub mod Laws
 use mathlib.Core.{Path._≡_, List.List, List.[], List._∷_, List._++_}
 use Prim.Native.Nat.{ℕ, _≤_, _<_, min}
 use lib.ListN.{length}
 use Rattle.model.specs.{declared.rule.Rule.Rule, declared.verdict.Verdict.Verdict, Word.Word, Types.Ty, Verdict.Says, Rule.Readable, Rule.Means, Rule.names}
+use Rattle.judge.specs.Next.{NextNames}
 use Rattle.fields.specs.Limits.{maxRow}
 
 pub data Call : Type 0 where
   opening : Rule → Call
   adding : ℕ → Call
   takingBack asking : Call
+  -- asking for the names that may come next, with a row of so many places lent
+  lookingAhead : ℕ → Call
 
--- a verdict, a refusal with the table's number, or neither
+-- a verdict, the names that may come next, a refusal with the table's number, or none of these
 pub data CallReply : Type 0 where
   says : Verdict → CallReply
+  lists : Word → CallReply
   refuses : ℕ → CallReply
   nothing : CallReply
 
@@ -44,6 +49,12 @@ pub data Enters (n : ℕ) : Book → Call → CallReply → Book → Type 0 wher
   takes : {r : Rule} {w : Word} (x : ℕ) → Enters n (book r (w ++ (x ∷ []))) takingBack nothing (book r w)
   -- Asking is never refused. It gives the verdict on the row by any model text that reads into the kept rule.
   asks : {r : Rule} {w : Word} {A : Ty} {v : Verdict} → Means r A → Says A w v → Enters n (book r w) asking (says v) (book r w)
+  -- Looking ahead: if the lent places are fewer than the names that may come next by any model text that reads into the kept rule, 46. Else it gives
+  -- these names. The room plays no part.
+  not-listed : {r : Rule} {w l : Word} {A : Ty} {k : ℕ} → Means r A → NextNames A (names r) w l → k < length l
+      → Enters n (book r w) (lookingAhead k) (refuses 46) (book r w)
+  lists-next : {r : Rule} {w l : Word} {A : Ty} {k : ℕ} → Means r A → NextNames A (names r) w l → length l ≤ k
+      → Enters n (book r w) (lookingAhead k) (lists l) (book r w)
 
 -- A list of calls, with the book's reply to each (`Ends.book-once`: there are no other replies, and no other book at the end).
 pub data Keeps (n : ℕ) : Book → List Call → List CallReply → Book → Type 0 where

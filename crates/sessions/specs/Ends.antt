@@ -5,11 +5,12 @@ use lib.ListN.{length, replicate, length-map}
 use Rattle.model.specs.{declared.rule.Rule.Rule, declared.verdict.Verdict.Verdict, Word.Word, Types.Ty, Verdict.Says, Rule.Means, Rule.names, Syntax.Syntax}
 use Rattle.model.specs.{Syntax.writtenNames, Syntax.numberIn, Fault.Answers, Fault.accepted, Model.modelOf, Model.typeOf}
 use Rattle.judge.specs.{declared.verdict.Judged.Judged, declared.verdict.Judged.the-variants.Verdict as Said, Row.Upto, Reading.reading, Reading.partsOf}
-use Rattle.judge.specs.{Named.rowOf}
+use Rattle.judge.specs.{Named.rowOf, Next.NextReply}
 use Rattle.judge.specs.Named.Laws.{rule-means, row-named, row-written}
 use Rattle.sessions.specs.{declared.session.Outcome.Outcome, declared.session.Session.Session, Book.Laws.keeps-once, Refusal.Tried, Refusal.Asks}
-use Rattle.sessions.specs.{Refusal.Laws.outcome-is, Refusal.Laws.asked-is, Calls.World, Calls.Plays, Calls.PlaysAll, Calls.shown}
-use Rattle.sessions.specs.Session.{Trail, outcome, asked, Gives}
+use Rattle.sessions.specs.{Refusal.AsksNext, Refusal.Laws.outcome-is, Refusal.Laws.asked-is, Refusal.Laws.next-is, Calls.World, Calls.Plays}
+use Rattle.sessions.specs.{Calls.PlaysAll, Calls.shown}
+use Rattle.sessions.specs.Session.{Trail, outcome, asked, Gives, nextAsked}
 use Rattle.sessions.specs.Calls.Theorem.{plays-all, agrees-with-book, judges-row}
 use Rattle.sessions.specs.Book.{Call, opening, adding, CallReply, nothing, Book, book, room, Keeps}
 use Rattle.fields.specs.Bytes.{Text}
@@ -21,9 +22,14 @@ refused-exactly = outcome-is
 pub asked-exactly : (s : Session) (t : Trail) (a : Judged) → (asked s t ≡ a) ↔ Asks s t a
 asked-exactly = asked-is
 
+-- Document 02, W1: looking ahead, of any session with any trail and k places lent, is refused just as the table says, and else answered with the names
+-- that may come next by the meaning.
+pub next-exactly : (s : Session) (t : Trail) (k : ℕ) (a : NextReply) → (nextAsked s t k ≡ a) ↔ AsksNext s t k a
+next-exactly = next-is
+
 -- Demand 3: whatever session and trail there were, every list of calls behind an opening that was not refused has the book's replies and leaves what
--- the book has, with any answers, sessions and trails that the methods' promises allow. There are such for every list, and the book gives one reply
--- to each call.
+-- the book has, with any answers, sessions, trails and lent rows that the methods' promises allow. There are such for every list, and the book gives
+-- one reply to each call.
 pub calls-keep-book : {u₀ u₁ u₂ : World} {r : Rule} {qs : List Call} {rs : List CallReply}
     → Plays u₀ (opening r) nothing u₁ → PlaysAll u₁ qs rs u₂ →
     let n = length (u₀ .trail) in

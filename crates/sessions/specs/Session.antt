@@ -1,18 +1,19 @@
--- What each call of a session answers, and what it leaves: document 01, "Sessions", with refusals 40 and 42 to 45 in the order tried.
--- The methods of src/session.rt promise just this, of any session and any trail.
+-- What each call of a session answers, and what it leaves: document 01, "Sessions", and document 02, W1, with refusals 40 and 42 to 46 in the order
+-- tried. The methods of src/session.rt promise just this, of any session and any trail.
 pub mod Laws
 pub mod Code
 use mathlib.Core.{Path._≡_, Bool.Bool, Bool.true, Bool.cond, Bool._&&_, List.List, List.[], List._∷_}
 use Prim.Native.Nat.{ℕ, _+_, _-_}
 use lib.Dec.{leb, ltb, eqb}
 use lib.ListN.{length, take, drop, set, replicate}
-use Rattle.judge.specs.{declared.fault.JudgeFault.JudgeFault, declared.verdict.Judged.Judged, Row.upto}
-use Rattle.judge.specs.declared.fault.JudgeFault.the-variants.{Unreadable, BadTrail, UnknownName, NoRoom, NothingToTakeBack}
+use Rattle.judge.specs.{declared.fault.JudgeFault.JudgeFault, declared.verdict.Judged.Judged, Row.upto, Next.nextNames, Next.NextReply, Next.nextListed}
+use Rattle.judge.specs.Next.{nextRefused}
+use Rattle.judge.specs.declared.fault.JudgeFault.the-variants.{Unreadable, BadTrail, UnknownName, NoRoom, NothingToTakeBack, ShortRow}
 use Rattle.judge.specs.declared.verdict.Judged.the-variants.{Verdict, Refused as RefusedRow}
 use Rattle.sessions.specs.{declared.session.Outcome.Outcome, declared.session.Session.Session, declared.session.Step.Step}
 use Rattle.sessions.specs.declared.session.Outcome.the-variants.{Done, Refused}
-use Rattle.sessions.specs.Book.{Call, opening, adding, takingBack, asking, room}
-use Rattle.model.specs.{Verdict.verdict, Rule.names, Rule.ruleType, Check.readable}
+use Rattle.sessions.specs.Book.{Call, opening, adding, takingBack, asking, lookingAhead, room}
+use Rattle.model.specs.{Word.Word, Verdict.verdict, Rule.names, Rule.ruleType, Check.readable}
 
 -- the places of a trail
 abbrev pub Trail : Type 0
@@ -44,12 +45,17 @@ infixr 20 _then_
 unfoldable pub checked : Session → Trail → Outcome
 checked s t = check (readable (s .rule)) Unreadable then check (intact (s .children) (names (s .rule)) t) BadTrail
 
+-- the names that may come next behind the children
+abbrev pub namesAhead : Session → Trail → Word
+namesAhead s t = nextNames (ruleType (s .rule)) (names (s .rule)) (take (s .children) t)
+
 -- what each call tries, in this order
 unfoldable pub outcome : Call → Session → Trail → Outcome
 outcome (opening r) s t = check (readable r) Unreadable
 outcome (adding x) s t = checked s t then check (leb x (names (s .rule))) UnknownName then check (ltb (s .children) (room (length t))) NoRoom
 outcome takingBack s t = checked s t then check (ltb 0 (s .children)) NothingToTakeBack
 outcome asking s t = checked s t
+outcome (lookingAhead k) s t = checked s t then check (leb (length (namesAhead s t)) k) ShortRow
 
 -- what is new where the call was done, and what was where it was refused
 abbrev pub whenDone : {A : Type 0} → Outcome → A → A → A
@@ -61,12 +67,14 @@ newSession (opening r) s = record { rule = r; children = 0 }
 newSession (adding x) s = record { rule = s .rule; children = s .children + 1 }
 newSession takingBack s = record { rule = s .rule; children = s .children - 1 }
 newSession asking s = s
+newSession (lookingAhead k) s = s
 
 abbrev pub newTrail : Call → Session → Trail → Trail
 newTrail (opening r) s t = replicate (length t) free
 newTrail (adding x) s t = set t (s .children) x
 newTrail takingBack s t = set t (s .children - 1) free
 newTrail asking s t = t
+newTrail (lookingAhead k) s t = t
 
 -- the answer of opening, adding and taking back, and the trail at exit
 abbrev pub callStep : Call → Session → Trail → Step
@@ -90,3 +98,11 @@ asked s t = judgedBy (outcome asking s t) s t
 -- what asking promises of the answer a; it hands back no session and writes nothing lent
 abbrev pub Gives : Session → Trail → Judged → Type 0
 Gives s t a = a ≡ asked s t
+
+-- the reply of looking ahead with a row of k places lent; what is handed back of it, and what is written into that row, is `HandsNext` (judge/Next)
+abbrev pub listedBy : Outcome → Session → Trail → NextReply
+listedBy Done s t = nextListed (namesAhead s t)
+listedBy (Refused f) s t = nextRefused f
+
+abbrev pub nextAsked : Session → Trail → ℕ → NextReply
+nextAsked s t k = listedBy (outcome (lookingAhead k) s t) s t

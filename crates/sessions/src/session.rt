@@ -2,14 +2,17 @@
 
 ghost use mathlib.Core.Path.{_≡_};
 ghost use lib.ListN.{length, replicate};
+ghost use Rattle.judge.specs.Next.{HandsNext};
 ghost use Rattle.sessions.specs.Book.{opening, adding, takingBack, room};
-ghost use Rattle.sessions.specs.Session.{free, allFree, intact, checked, Does, Gives};
+ghost use Rattle.sessions.specs.Session.{free, allFree, intact, checked, Does, Gives, nextAsked};
 use fields::limits::MAX_ROW;
 use fields::limits::lesser;
 use judge::fault::JudgeFault;
+use judge::next::next_names;
 use judge::row::all_named;
 use judge::row::judge_row;
 use judge::verdict::Judged;
+use judge::verdict::Next;
 use model::check::is_readable;
 use model::nodes::names;
 use model::rule::NameNumber;
@@ -188,5 +191,22 @@ impl Session {
             return Judged::Refused(JudgeFault::BadTrail);
         }
         Judged::Refused(JudgeFault::Unreadable)
+    }
+
+    // Refused with 40, 42 or 46. Else how many names may come next: they stand, rising, in the row's first places; its others are as they were.
+    pub fn next(self, trail: &[u16], row: &mut [u16]) -> Next
+        ensures { λ r. ⌜ HandsNext (nextAsked self (now (trail .entry)) (length (now (row .entry)))) r (now (row .entry)) (now (row .exit)) ⌝ }
+    {
+        let rule = self.rule;
+        let children = self.children;
+        let whole = is_intact(children, names(rule), trail);
+        if whole {
+            return next_names(rule, &trail[0..children], row);
+        }
+        let good = is_readable(rule);
+        if good {
+            return Next::Refused(JudgeFault::BadTrail);
+        }
+        Next::Refused(JudgeFault::Unreadable)
     }
 }

@@ -18,7 +18,7 @@ use Rattle.model.specs.{Fault.Answered.name-inside, Syntax.Number.number-below}
 use Rattle.model.specs.Fault.{modelNumber, Answer, Answers, refused, accepted, places}
 use Rattle.judge.specs.{declared.reading.Names.Names, declared.reading.Reading.Reading, Reading.Laws.names-are, Reading.Search.name-fits}
 use Rattle.judge.specs.{Reading.Search.parts-many}
-use Rattle.judge.specs.{Reply.Children.Laws.children-some, Reply.Judged.childrenGive}
+use Rattle.judge.specs.{Reply.Children.Laws.children-some, Reply.Read.childrenGive}
 use Rattle.judge.specs.declared.reading.Outcome.the-variants.{Read, Refused as Unread}
 use Rattle.judge.specs.Reading.{noPlace, namesOf, readingBy, reading, partsOf}
 use Rattle.judge.specs.Reply.{childrenIn, child, Reply, modelRefused, childrenRefused, good, childrenBy, no-child}

@@ -1,30 +1,48 @@
--- A reply is known by its number.
-use mathlib.Core.{Path._≡_, Path.refl, Path.sym, Path.ap, Path._∙_, Logic._↔_}
-use Prim.Native.Nat.{ℕ, _≤_, _<_}
+-- A verdict or refusal is known by its number, and a list of names is told from a refusal.
+use mathlib.Core.{Path._≡_, Path.refl, Path.sym, Path.ap, Path.subst, Path._∙_, Logic._↔_}
+use Prim.Native.Nat.{ℕ, _+_, _≤_, _<_}
 use native.Mathlib.Omega.{arith}
-use Rattle.fields.specs.{declared.fault.CueFault.CueFault, Bytes.Text, Children.cueNumber}
+use lib.ListN.{length, length-map}
+use Rattle.fields.specs.{declared.fault.CueFault.CueFault, Bytes.Text, Children.cueNumber, Limits.maxAtoms}
 use Rattle.fields.specs.declared.fault.CueFault.the-variants.{LongFile, Unended, BadFields, BadNumber, NotAbove, NoName, ManyChildren, NoChild}
-use Rattle.model.specs.{declared.fault.ModelFault.ModelFault, declared.verdict.Verdict.Verdict, Fault.modelNumber}
+use Rattle.model.specs.{declared.fault.ModelFault.ModelFault, declared.verdict.Verdict.Verdict, Word.Word, Types.Ty, Types.ConflictFree, Fault.modelNumber}
+use Rattle.model.specs.{Fault.Answers, Fault.accepted, Syntax.Syntax, Syntax.writtenNames, Tree.leaves, Tree.Leaves.length-leaves, Model.modelOf}
+use Rattle.model.specs.{Model.Types.type-conflict-free, Accept.Laws.accepted-within, Accept.Laws.accepted-counts}
 use Rattle.model.specs.declared.verdict.Verdict.the-variants.{Complete, Open, Dead}
 use Rattle.model.specs.Fault.Answered.{number-injective, number-over, number-under}
-use Rattle.judge.specs.{declared.verdict.ChildrenJudged.ChildrenJudged, Reply.Laws.cue-injective, Reply.Laws.judges-exactly}
+use Rattle.judge.specs.{declared.fault.JudgeFault.JudgeFault, Row.judgeNumber, Reply.Laws.cue-injective, Reply.Laws.judges-exactly}
+use Rattle.judge.specs.{declared.verdict.ChildrenJudged.ChildrenJudged, declared.verdict.ChildrenNext.ChildrenNext}
 use Rattle.judge.specs.declared.verdict.ChildrenJudged.the-variants.{Verdict as Said, ModelRefused, ChildrenRefused}
+use Rattle.judge.specs.declared.verdict.Next.the-variants.{Names, Refused}
+use Rattle.judge.specs.declared.verdict.ChildrenNext.the-variants.{Next as Answered, ModelRefused as NoModel, ChildrenRefused as NoChildren}
+use Rattle.judge.specs.declared.fault.JudgeFault.the-variants.{Unreadable, LongRow, BadTrail, UnknownName, NoRoom, NothingToTakeBack, ShortRow}
 use Rattle.judge.specs.Reply.{Reply, modelRefused, childrenRefused, good, ChildrenJudges, childrenReply, judgedOf}
-use Rattle.desk.specs.Desk.{replyNumber, verdictNumber, deskAnswer}
+use Rattle.judge.specs.Next.{NextReply, nextListed, nextRefused, NextInto, all-listed, childrenNext, childrenAnswer}
+use Rattle.judge.specs.Next.Laws.{list-exactly, next-few, next-replies-exactly}
+use Rattle.desk.specs.Desk.{replyNumber, verdictNumber, deskAnswer, refusalBase, nextNumber, deskNext}
 
--- those of the model text are below 18, those of the children text from 30 on, verdicts below 3
-model-under : (f : ModelFault) → (10 ≤ modelNumber f) × (modelNumber f < 18)
+-- those of the model text are 10 to 17, those of the children text 30 to 37, the judge's own below 47, verdicts below 3
+pub model-under : (f : ModelFault) → (10 ≤ modelNumber f) × (modelNumber f < 18)
 model-under f = (number-over f, number-under f)
 
-cue-over : (f : CueFault) → 30 ≤ cueNumber f
-cue-over LongFile = omega arith
-cue-over Unended = omega arith
-cue-over BadFields = omega arith
-cue-over BadNumber = omega arith
-cue-over NotAbove = omega arith
-cue-over NoName = omega arith
-cue-over ManyChildren = omega arith
-cue-over NoChild = omega arith
+pub cue-under : (f : CueFault) → (30 ≤ cueNumber f) × (cueNumber f < 38)
+cue-under LongFile = (omega arith, omega arith)
+cue-under Unended = (omega arith, omega arith)
+cue-under BadFields = (omega arith, omega arith)
+cue-under BadNumber = (omega arith, omega arith)
+cue-under NotAbove = (omega arith, omega arith)
+cue-under NoName = (omega arith, omega arith)
+cue-under ManyChildren = (omega arith, omega arith)
+cue-under NoChild = (omega arith, omega arith)
+
+pub judge-under : (f : JudgeFault) → judgeNumber f < 47
+judge-under Unreadable = omega arith
+judge-under LongRow = omega arith
+judge-under BadTrail = omega arith
+judge-under UnknownName = omega arith
+judge-under NoRoom = omega arith
+judge-under NothingToTakeBack = omega arith
+judge-under ShortRow = omega arith
 
 verdict-under : (v : Verdict) → verdictNumber v < 3
 verdict-under Complete = omega arith
@@ -44,13 +62,13 @@ verdict-injective Dead Dead e = refl
 
 reply-injective : (r s : Reply Verdict) → replyNumber verdictNumber r ≡ replyNumber verdictNumber s → r ≡ s
 reply-injective (modelRefused f) (modelRefused g) e = let d : f ≡ g = number-injective f g e in cc
-reply-injective (modelRefused f) (childrenRefused g) e = absurd (omega (arith, model-under f, cue-over g))
+reply-injective (modelRefused f) (childrenRefused g) e = absurd (omega (arith, model-under f, cue-under g))
 reply-injective (modelRefused f) (good v) e = absurd (omega (arith, model-under f, verdict-under v))
-reply-injective (childrenRefused f) (modelRefused g) e = absurd (omega (arith, cue-over f, model-under g))
+reply-injective (childrenRefused f) (modelRefused g) e = absurd (omega (arith, cue-under f, model-under g))
 reply-injective (childrenRefused f) (childrenRefused g) e = let d : f ≡ g = cue-injective f g e in cc
-reply-injective (childrenRefused f) (good v) e = absurd (omega (arith, cue-over f, verdict-under v))
+reply-injective (childrenRefused f) (good v) e = absurd (omega (arith, cue-under f, verdict-under v))
 reply-injective (good u) (modelRefused g) e = absurd (omega (arith, verdict-under u, model-under g))
-reply-injective (good u) (childrenRefused g) e = absurd (omega (arith, verdict-under u, cue-over g))
+reply-injective (good u) (childrenRefused g) e = absurd (omega (arith, verdict-under u, cue-under g))
 reply-injective (good u) (good v) e = let d : u ≡ v = verdict-injective u v e in cc
 
 pub answer-exactly : (m c : Text) (r : Reply Verdict) → (deskAnswer m c ≡ replyNumber verdictNumber r) ↔ ChildrenJudges m c r
@@ -72,3 +90,60 @@ judged-number m c e d = sym (ap judgedNumber d) ∙ ap judgedNumber e ∙ go (ch
     go (modelRefused f) = refl
     go (childrenRefused f) = refl
     go (good v) = refl
+
+-- a list is no longer than the model has names, at most 64
+written-few : (m : Text) (t : Syntax) → Answers m (accepted t) → length (writtenNames t) ≤ maxAtoms
+written-few m t a = omega (arith, length-map (leaves t) (λ s. s .name), length-leaves t, accepted-within m t a .few-atoms)
+
+all-listed-few : {A : Ty} {n : ℕ} {w l : Word} {k : ℕ} → ConflictFree A → NextInto A n w k (nextListed l) → length l ≤ n
+all-listed-few {A} {n} {w} {l} g (all-listed h i) = rw (list-exactly A g n w l .1 h) at (next-few A g n w)
+
+module _ (m c : Text) (k : ℕ) where
+  list-few : (l : Word) → childrenNext m c k ≡ good (nextListed l) → length l ≤ maxAtoms
+  list-few l e =
+      let (t, a, n, h) = next-replies-exactly m c k (good (nextListed l)) .0 e in
+      omega (arith, written-few m t a, all-listed-few (type-conflict-free (modelOf t) (accepted-counts m t a)) h)
+
+  pub next-told : (deskNext m c k < refusalBase) ↔ ((l : Word) × (childrenNext m c k ≡ good (nextListed l)))
+  next-told = (
+    told (childrenNext m c k),
+    λ (l, e). let b = list-few l e in let d : deskNext m c k ≡ length l = ap nextNumber e in omega arith,
+  )
+    where
+      told : (r : Reply NextReply) → nextNumber r < refusalBase → (l : Word) × (r ≡ good (nextListed l))
+      told (modelRefused f) h = absurd (omega arith)
+      told (childrenRefused f) h = absurd (omega arith)
+      told (good (nextListed l)) h = (l, refl)
+      told (good (nextRefused f)) h = absurd (omega arith)
+
+-- as the code takes them from the judge
+abbrev Few : ChildrenNext → Type 0
+Few (Answered (Names n)) = n ≤ maxAtoms
+Few (Answered (Refused f)) = Unit {0}
+Few (NoModel f) = Unit {0}
+Few (NoChildren f) = Unit {0}
+
+abbrev answeredNumber : ChildrenNext → ℕ
+answeredNumber (Answered (Names n)) = n
+answeredNumber (Answered (Refused f)) = refusalBase + judgeNumber f
+answeredNumber (NoModel f) = refusalBase + modelNumber f
+answeredNumber (NoChildren f) = refusalBase + cueNumber f
+
+module _ (m c : Text) (k : ℕ) {x y : ChildrenNext} (e : x ≡ childrenAnswer (childrenNext m c k)) (d : x ≡ y) where
+  pub answer-few : Few y
+  answer-few = subst Few (sym e ∙ d) (go (childrenNext m c k) refl)
+    where
+      go : (r : Reply NextReply) → childrenNext m c k ≡ r → Few (childrenAnswer r)
+      go (modelRefused f) h = tt
+      go (childrenRefused f) h = tt
+      go (good (nextListed l)) h = list-few m c k l h
+      go (good (nextRefused f)) h = tt
+
+  pub answer-number : answeredNumber y ≡ deskNext m c k
+  answer-number = sym (ap answeredNumber d) ∙ ap answeredNumber e ∙ go (childrenNext m c k)
+    where
+      go : (r : Reply NextReply) → answeredNumber (childrenAnswer r) ≡ nextNumber r
+      go (modelRefused f) = refl
+      go (childrenRefused f) = refl
+      go (good (nextListed l)) = refl
+      go (good (nextRefused f)) = refl

@@ -1,17 +1,17 @@
--- What `judge_row` answers, with what its calls gave, is `judged`.
-use mathlib.Core.{Path._≡_, Path.sym, Path.ap, Path._∙_, Bool.Bool, Bool.true, Bool.false, List.List, List.map}
-use Prim.Native.Nat.{ℕ, _≤_, _<_}
+-- What is known of a row where it is judged: by its tests, of its rule when that is packed, and by the tally.
+use mathlib.Core.{Path._≡_, Path.refl, Path.sym, Path.ap, Path._∙_, Bool.true, List.List, List.map}
+use Prim.Native.Nat.{ℕ, _≤_}
 use native.Mathlib.Omega.{arith}
-use borrow.Author.Tests.{le-leb, lt-leb}
-use lib.{ListN.length, ListN.take, ListN.getD}
-use Rattle.judge.specs.{Reading.Buffer.Stores, Packed.nodeIn, Packed.ruleIn, Row.upto, Row.judged, Row.Tally.seenOf}
-use Rattle.judge.specs.{Row.Tally.Tallied, Row.Pass.seenVerdict, Row.Pass.verdict-seen}
-use Rattle.judge.specs.declared.fault.JudgeFault.the-variants.{Unreadable, LongRow, UnknownName}
+use borrow.Author.Tests.{leb-true}
+use lib.{Dec.leb, ListN.length, ListN.take, ListN.getD}
+use Rattle.judge.specs.{Reading.Buffer.Stores, Packed.nodeIn, Packed.ruleIn, Row.upto, Row.rowTested, Row.judged, Row.Attribute.seen, Row.Tally.seenOf}
+use Rattle.judge.specs.{Row.Tally.Tallied, Row.Pass.seenVerdict, Row.Pass.verdict-seen, declared.row.Tested.Tested}
+use Rattle.judge.specs.declared.row.Tested.the-variants.{Passed, Refused as Failed}
 use Rattle.judge.specs.declared.verdict.Judged.the-variants.{Verdict, Refused}
-use Rattle.model.specs.{declared.rule.Rule.Rule, declared.rule.Node.Node, declared.verdict.Verdict.Verdict as Said, Word.Word}
+use Rattle.model.specs.{declared.rule.Rule.Rule, declared.rule.Node.Node, Word.Word}
 use Rattle.model.specs.{Verdict.verdict, Tree.atoms, Tree.nodes, Model.Laws.length-encode, Model.atomsIn, Rule.names, Rule.ruleWith, Rule.ruleType, Rule.used}
 use Rattle.model.specs.{Rule.Laws.used-with, Rule.Laws.used-is, Rule.Names.names-model, Check.readable, Check.Exact.readable-formed}
-use Rattle.fields.specs.Limits.{maxAtoms, maxNodes, maxRow}
+use Rattle.fields.specs.{Tests.by-test, Limits.maxAtoms, Limits.maxNodes, Limits.maxRow}
 
 -- the limits that the passes ask for
 pub readable-within : (r : Rule) → readable r ≡ true → (r .len ≤ maxNodes) × (names r ≤ maxAtoms)
@@ -25,50 +25,52 @@ readable-within r e =
 pub readable-with : (r : Rule) → readable r ≡ true → r ≡ ruleWith (used r)
 readable-with r e = let w = readable-formed r e in rw (w .rule-is) (ap ruleWith (sym (used-is (w .model))))
 
-pub atoms-within : (l : List Node) → readable (ruleWith l) ≡ true → atomsIn l ≤ maxAtoms
-atoms-within l e = rw (used-with l) at (readable-within (ruleWith l) e .1)
+pub atoms-within : (l : List Node) → readable (ruleWith l) ≡ true → {m : ℕ} → m ≡ atomsIn l → m ≤ maxAtoms
+atoms-within l e f = rw (f, ← used-with l) (readable-within (ruleWith l) e .1)
+
+-- what the tests of 40, 41 and 43 tell
+pub record Passes (r : Rule) (w : Word) (n : ℕ) : Type 0 where
+  pub good : readable r ≡ true
+  pub short : length w ≤ maxRow
+  pub named : upto n w ≡ true
+  pub names-are : n ≡ names r
+  pub answer : judged r w ≡ Verdict (verdict (ruleType r) w)
+
+abbrev pub TestTells : Rule → Word → Tested → Type 0
+TestTells r w (Passed n) = Passes r w n
+TestTells r w (Failed f) = judged r w ≡ Refused f
+
+test-tells : (r : Rule) (w : Word) → TestTells r w (rowTested r w)
+unfolding judged rowTested
+test-tells r w =
+    by-test (readable r)
+    (λ a. by-test (leb (length w) maxRow)
+    (λ b. by-test (upto (names r) w)
+    (λ c. rw (a, b, c) record { good = a; short = leb-true (length w) maxRow b; named = c; names-are = refl; answer = rw (a, b, c) })
+    (λ c. rw (a, b, c) (rw (a, b, c))))
+    (λ b. rw (a, b) (rw (a, b))))
+    (λ a. rw a (rw a))
+
+pub tested : (r : Rule) (w : Word) {t : Tested} → rowTested r w ≡ t → TestTells r w t
+tested r w e = rw e at (test-tells r w)
 
 -- packed, it is still the same rule
-module _ (r : Rule) (e : readable r ≡ true) (words : List ℕ) (h : Stores nodeIn maxNodes words (r .len) (used r)) where
+module _ {r : Rule} {w : Word} {n : ℕ} (p : Passes r w n) (words : List ℕ) (h : Stores nodeIn maxNodes words (r .len) (used r)) where
   pub packed-is : ruleIn words (r .len) ≡ r
-  packed-is = rw (h .held) (sym (readable-with r e))
+  packed-is = rw (h .held) (sym (readable-with r (p .good)))
 
-  pub packed-readable : readable (ruleIn words (r .len)) ≡ true
-  packed-readable = rw packed-is e
+  -- what is asked where the row is judged by it
+  pub packed-passes : ((r .len ≤ maxNodes) × (length words ≡ maxNodes))
+      × (((readable (ruleIn words (r .len)) ≡ true) × (n ≡ atomsIn (map nodeIn (take (r .len) words)))) × ((length w ≤ maxRow) × (upto n w ≡ true)))
+  packed-passes = ((h .few, h .whole), ((rw packed-is (p .good), rw (h .held) (p .names-are)), (p .short, p .named)))
 
-  pub packed-names : (m : ℕ) → m ≡ names r → m ≡ atomsIn (map nodeIn (take (r .len) words))
-  packed-names m f = rw (h .held) f
+-- the first pass has counted each name of a readable rule
+pub names-tallied : (r : Rule) → readable r ≡ true → (w : Word) (s : List ℕ) → Tallied w s
+    → (k : ℕ) → k ≤ names r → seenOf (length w) (getD s k 0) ≡ seen w k
+names-tallied r e w s g k h = g k (omega (arith, readable-within r e .1))
 
--- with what the first pass has counted
+-- the second pass, with what the first has counted
 pub verdict-tallied : (l : List Node) → readable (ruleWith l) ≡ true → (w : Word) {m : ℕ} → m ≡ atomsIn l → upto m w ≡ true → (s : List ℕ) → Tallied w s
     → seenVerdict (ruleWith l) (length w) (λ k. seenOf (length w) (getD s k 0)) ≡ verdict (ruleType (ruleWith l)) w
 verdict-tallied l e w {m} f h s g =
-    let n : m ≡ names (ruleWith l) = rw (used-with l) f in
-    let c = readable-within (ruleWith l) e in
-    verdict-seen (ruleWith l) e w (rw n at h) (λ k. seenOf (length w) (getD s k 0)) (λ k j. g k (omega arith))
-
--- the test of 40
-module _ (r : Rule) (good : Bool) (e : good ≡ readable r) where
-  pub tested : (b : Bool) → good ≡ b → readable r ≡ b
-  tested b f = sym e ∙ f
-
-  module _ (w : Word) where
-    pub no-model : good ≡ false → Refused Unreadable ≡ judged r w
-    unfolding judged
-    no-model f = rw (tested false f)
-
-    pub long-row : good ≡ true → maxRow < length w → Refused LongRow ≡ judged r w
-    unfolding judged
-    long-row f h = rw (tested true f, lt-leb (length w) maxRow h)
-
-    module _ (f : good ≡ true) (h : length w ≤ maxRow) (m : ℕ) (n : m ≡ names r) (named : Bool) (g : named ≡ upto m w) where
-      upto-is : (b : Bool) → named ≡ b → upto (names r) w ≡ b
-      upto-is b i = rw (← n) (sym g ∙ i)
-
-      pub no-name : named ≡ false → Refused UnknownName ≡ judged r w
-      unfolding judged
-      no-name i = rw (tested true f, le-leb (length w) maxRow h, upto-is false i)
-
-      pub a-verdict : named ≡ true → (v : Said) → v ≡ verdict (ruleType r) w → Verdict v ≡ judged r w
-      unfolding judged
-      a-verdict i v j = rw (tested true f, le-leb (length w) maxRow h, upto-is true i) (ap Verdict j)
+    verdict-seen (ruleWith l) e w (rw (used-with l, ← f) h) (λ k. seenOf (length w) (getD s k 0)) (names-tallied (ruleWith l) e w s g)

@@ -7,7 +7,7 @@ use Rattle.model.specs.{declared.rule.Rule.Rule, Word.Word, Verdict.Laws.verdic
 use Rattle.model.specs.{Check.readable, declared.verdict.Verdict.Verdict, Types.Ty, Verdict.Says, Rule.Laws.means-once}
 use Rattle.model.specs.Check.Exact.{readable-is, type-means, means-type, means-conflict-free}
 use Rattle.judge.specs.{declared.verdict.Judged.Judged, declared.verdict.Judged.the-variants.Verdict as Said}
-use Rattle.judge.specs.Row.{Upto, Judges, judged, upto, unreadable, long-row, unknown-name, by-meaning}
+use Rattle.judge.specs.Row.{Upto, Judges, rowTested, judged, upto, unreadable, long-row, unknown-name, by-meaning}
 use Rattle.fields.specs.Tests.{by-test, Tells, untold, fails, tells-le, tells-and}
 use Rattle.fields.specs.Limits.{maxRow}
 
@@ -16,7 +16,7 @@ upto-tells n [] = (λ e. tt, λ h. refl)
 upto-tells n (x ∷ w) = tells-and (leb x n) (upto n w) (tells-le x n) (upto-tells n w)
 
 pub judged-judges : (r : Rule) (w : Word) → Judges r w (judged r w)
-unfolding judged
+unfolding judged rowTested
 judged-judges r w =
     by-test (readable r)
     (λ a. let i = readable-is r .0 a in
@@ -31,7 +31,7 @@ judged-judges r w =
 
 -- there is no second one
 pub judged-is : (r : Rule) (w : Word) {a : Judged} → Judges r w a → a ≡ judged r w
-unfolding judged
+unfolding judged rowTested
 judged-is r w (unreadable h) = rw (fails (readable r) (readable-is r) h)
 judged-is r w (long-row i h) =
     rw (readable-is r .1 i, fails (leb (length w) maxRow) (tells-le (length w) maxRow) (λ l. omega arith))

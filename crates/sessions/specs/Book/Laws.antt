@@ -1,11 +1,13 @@
 -- The book is a function of what it is fed: it gives one reply to each call, and there is one book after it.
-use mathlib.Core.{Path._≡_, Path.refl, Path.sym, Path.ap, Path._∙_, List.List, List.[], List._∷_, List._++_}
+use mathlib.Core.{Path._≡_, Path.refl, Path.sym, Path.ap, Path._∙_, Logic._↔_, List.List, List.[], List._∷_, List._++_}
 use Prim.Native.Nat.{ℕ}
 use native.Mathlib.Omega.{arith}
 use lib.ListN.{length, length-append}
-use Rattle.model.specs.{declared.rule.Rule.Rule, Word.Word, Verdict.Laws.says-once, Rule.names, Rule.Laws.means-once}
-use Rattle.sessions.specs.Book.{Call, takingBack, CallReply, says, nothing, Book, book, Enters, not-opened, opens, not-named, no-space, adds}
-use Rattle.sessions.specs.Book.{none-to-take, takes, asks, Keeps, done, next}
+use Rattle.model.specs.{declared.rule.Rule.Rule, Word.Word, Types.Ty, Verdict.Laws.says-once, Rule.Means, Rule.names, Rule.ruleType, Rule.Laws.means-once}
+use Rattle.model.specs.Check.Exact.{means-type, means-conflict-free}
+use Rattle.judge.specs.{Next.NextNames, Next.nextNames, Next.Laws.list-exactly}
+use Rattle.sessions.specs.Book.{Call, takingBack, CallReply, says, lists, nothing, Book, book, Enters, not-opened, opens, not-named, no-space, adds}
+use Rattle.sessions.specs.Book.{none-to-take, takes, asks, not-listed, lists-next, Keeps, done, next}
 
 -- no word that ends in x is empty
 pub ends-not-empty : (w : Word) (x : ℕ) → ¬ w ++ (x ∷ []) ≡ []
@@ -20,6 +22,15 @@ before-last (a ∷ v) (b ∷ w) x y e =
     let t : v ++ (x ∷ []) ≡ w ++ (y ∷ []) = cc in
     let h : a ≡ b = cc in
     let i = before-last v w x y t in cc
+
+-- the names that may come next, by any type that the rule means
+pub rule-lists : {r : Rule} {A : Ty} {w l : Word} → Means r A → (nextNames (ruleType r) (names r) w ≡ l) ↔ NextNames A (names r) w l
+rule-lists {r} {A} {w} {l} m = rw (← means-type m) (list-exactly A (means-conflict-free m) (names r) w l)
+
+same-list : {r q : Rule} {A B : Ty} {v w l k : Word} → book r v ≡ book q w → Means r A → NextNames A (names r) v l
+    → Means q B → NextNames B (names q) w k → l ≡ k
+same-list e m h i j =
+    sym (rule-lists m .1 h) ∙ ap (λ (b : Book). nextNames (ruleType (b .rule)) (names (b .rule)) (b .row)) e ∙ rule-lists i .1 j
 
 module _ {n : ℕ} where
   enters-same : {b b′ c d : Book} {q : Call} {a a′ : CallReply} → b ≡ b′ → Enters n b q a c → Enters n b′ q a′ d → (a ≡ a′) × (c ≡ d)
@@ -45,6 +56,10 @@ module _ {n : ℕ} where
   enters-same e (asks {w = w} {A = A} {v = u} m h) (asks {v = v} m′ k) =
       let a = means-once m (rw (sym (ap (λ (b : Book). b .rule) e)) at m′) in
       (ap says (says-once A w u v h (rw (sym a, sym (ap (λ (b : Book). b .row) e)) at k)), e)
+  enters-same e (not-listed m h i) (not-listed m′ k j) = (refl, e)
+  enters-same e (not-listed m h i) (lists-next m′ k j) = absurd (omega (arith, ap length (same-list e m h m′ k)))
+  enters-same e (lists-next m h i) (not-listed m′ k j) = absurd (omega (arith, ap length (same-list e m h m′ k)))
+  enters-same e (lists-next m h i) (lists-next m′ k j) = (ap lists (same-list e m h m′ k), e)
 
   -- the last number goes
   pub takes-last : {r : Rule} (u w : Word) (x : ℕ) → u ≡ w ++ (x ∷ []) → Enters n (book r u) takingBack nothing (book r w)

@@ -3,18 +3,18 @@ use mathlib.Core.{Path._≡_, Path.refl, Path.sym, Path.ap, Path._∙_, Logic._�
 use Prim.Native.Nat.{ℕ, zero, suc, _+_, _-_, _≤_, _<_}
 use native.Mathlib.{Nat.sub-zero, Omega.arith}
 use lib.{Dec.leb, Dec.ltb, Seq.take-at, Seq.drop-at, Seq.set-at}
-use lib.ListN.{length, set, replicate, length-append, length-replicate}
+use lib.ListN.{length, drop, set, replicate, length-append, length-replicate}
 use borrow.Author.Tests.{leb-true, leb-false, ltb-true, ltb-false}
-use Rattle.judge.specs.{declared.verdict.Judged.the-variants.Verdict as Said, Row.Upto}
+use Rattle.judge.specs.{declared.verdict.Judged.the-variants.Verdict as Said, declared.verdict.Next.Next, Row.Upto, Next.NextNames, Next.HandsNext}
 use Rattle.model.specs.{declared.rule.Rule.Rule, declared.verdict.Verdict.Verdict, Word.Word, Types.Ty, Verdict.Says, Verdict.verdict}
 use Rattle.model.specs.{Verdict.Laws.verdict-says, Verdict.Laws.verdict-is, Rule.Readable, Rule.Means, Rule.names, Rule.ruleType, Check.readable}
 use Rattle.model.specs.Check.Exact.{readable-is, type-means, means-type, means-conflict-free}
 use Rattle.sessions.specs.{declared.session.Outcome.the-variants.Done, declared.session.Step.Step, Book.Laws.takes-last, Refusal.AllFree}
-use Rattle.sessions.specs.{Session.Laws.intact-tells}
-use Rattle.sessions.specs.Calls.{World, world, ofOutcome, ofJudged, Plays, by-open, by-add, by-take-back, by-verdict, shown}
-use Rattle.sessions.specs.Book.{Call, opening, adding, takingBack, asking, CallReply, nothing, refuses, Book, book, room, Enters, not-opened, opens}
-use Rattle.sessions.specs.Book.{not-named, no-space, adds, none-to-take, asks}
-use Rattle.sessions.specs.Session.{Trail, free, intact, checked, outcome, callStep, trailAfter, asked, Does, Gives}
+use Rattle.sessions.specs.{Session.Laws.intact-tells, Session.Laws.next-by-asked, Book.Laws.rule-lists}
+use Rattle.sessions.specs.Calls.{World, world, ofOutcome, ofJudged, ofNext, Plays, by-open, by-add, by-take-back, by-verdict, by-next, shown}
+use Rattle.sessions.specs.Book.{Call, opening, adding, takingBack, asking, lookingAhead, CallReply, nothing, refuses, Book, book, room, Enters}
+use Rattle.sessions.specs.Book.{not-opened, opens, not-named, no-space, adds, none-to-take, asks, not-listed, lists-next}
+use Rattle.sessions.specs.Session.{Trail, free, intact, checked, namesAhead, outcome, callStep, trailAfter, asked, Does, Gives, nextAsked}
 use Rattle.fields.specs.Tests.{by-test, untold}
 
 replicate-free : (n : ℕ) → AllFree (replicate n free)
@@ -180,6 +180,20 @@ module _ (n : ℕ) (b : Book) (k : Matches n b) where
       said : {u v : Verdict} → Said u ≡ Said v → u ≡ v
       said e = cc
 
+  -- what looking ahead promises
+  ahead-shown : NextNames (ruleType (b .rule)) (names (b .rule)) (b .row) (namesAhead (shown n b .session) (shown n b .trail))
+  ahead-shown = rw (take-at (b .row) (replicate (n - length (b .row)) free) (length (b .row)) refl) (rule-lists (type-means (k .known)) .0 refl)
+
+  agrees-ahead : {a : Next} {lent′ : Word} (lent : Word) → HandsNext (nextAsked (shown n b .session) (shown n b .trail) (length lent)) a lent lent′
+      → Agrees n b (lookingAhead (length lent)) (ofNext a lent′) (shown n b)
+  agrees-ahead lent (d, f) =
+      let l = namesAhead (shown n b .session) (shown n b .trail) in
+      let m = type-means (k .known) in
+      let g = next-by-asked (shown n b .session) (shown n b .trail) (length lent) in
+      by-test (leb (length l) (length lent))
+      (λ e. rw (d, f, g, asked-shown, e, take-at l (drop (length l) lent) (length l) refl) (b, lists-next m ahead-shown (leb-true _ _ e), refl, k))
+      (λ e. rw (d, f, g, asked-shown, e) (b, not-listed m ahead-shown (leb-false _ _ e), refl, k))
+
   agreed : {q : Call} {a : Step} {t : Trail} → Does q (shown n b .session) (shown n b .trail) a t → Promised q
       → Agrees n b q (ofOutcome (a .outcome)) (world (a .session) t)
   agreed (e, f) h = rw (e, f) h
@@ -189,3 +203,4 @@ module _ (n : ℕ) (b : Book) (k : Matches n b) where
   agrees (by-add {x} d) = agreed d (agrees-adding x)
   agrees (by-take-back d) = agreed d agrees-taking
   agrees (by-verdict e) = rw e agrees-asking
+  agrees (by-next lent d) = agrees-ahead lent d

@@ -2,20 +2,24 @@
 use mathlib.Core.{Path._≡_, Path.refl, Logic._↔_, List.List, List.[], List._∷_, List._++_, List.map, List.append-nil, List.append-assoc}
 use Prim.Native.Nat.{ℕ, suc, _≤_, _<_}
 use native.Mathlib.Omega.{arith}
-use lib.ListN.{length, replicate, length-append}
+use lib.ListN.{length, replicate, length-append, length-replicate}
 use Rattle.model.specs.{declared.rule.Rule.Rule, declared.verdict.Verdict.Verdict, Word.Word, Types.Ty, Verdict.Says, Rule.Means, Rule.names}
 use Rattle.judge.specs.{declared.verdict.Judged.the-variants.Verdict as Said, Row.Upto}
-use Rattle.sessions.specs.Book.{Call, opening, adding, takingBack, asking, CallReply, nothing, Book, book, room, Keeps, done, next, adds}
-use Rattle.sessions.specs.{Book.Laws.keeps-once, Session.Gives}
-use Rattle.sessions.specs.Calls.{World, Plays, by-open, by-add, by-take-back, by-verdict, PlaysAll, no-more, and-then, shown}
+use Rattle.sessions.specs.Book.{Call, opening, adding, takingBack, asking, lookingAhead, CallReply, nothing, Book, book, room, Keeps, done, next}
+use Rattle.sessions.specs.{Book.adds, Book.Laws.keeps-once, Session.free, Session.Gives}
+use Rattle.sessions.specs.Calls.{World, Plays, by-open, by-add, by-take-back, by-verdict, by-next, PlaysAll, no-more, and-then, shown}
 use Rattle.sessions.specs.Calls.Agree.{Matches, below-apart, done-opened, readable-opened, asked-says, agrees}
 
--- the promises of a call can be met, in every world, and so can those of a list
+-- the promises of a call can be met, in every world and with any row lent, and so can those of a list
+plays-ahead : (u : World) (lent : Word) → (a : CallReply) × (v : World) × Plays u (lookingAhead (length lent)) a v
+plays-ahead u lent = (_, u, by-next lent (refl, refl))
+
 plays-some : (u : World) (q : Call) → (a : CallReply) × (v : World) × Plays u q a v
 plays-some u (opening r) = (_, _, by-open (refl, refl))
 plays-some u (adding x) = (_, _, by-add (refl, refl))
 plays-some u takingBack = (_, _, by-take-back (refl, refl))
 plays-some u asking = (_, u, by-verdict refl)
+plays-some u (lookingAhead k) = rw length-replicate at (plays-ahead u (replicate k free))
 
 pub plays-all : (u : World) (qs : List Call) → (rs : List CallReply) × (v : World) × PlaysAll u qs rs v
 plays-all u [] = ([], u, no-more)

@@ -4,17 +4,20 @@ use Prim.Native.Nat.{ℕ, _≤_, _<_}
 use native.Mathlib.Omega.{arith}
 use lib.{Dec.leb, Dec.ltb, Dec.eqb, ListN.length, ListN.take}
 use borrow.Author.Tests.{leb-true, leb-false, ltb-true, ltb-false}
-use Rattle.judge.specs.{declared.fault.JudgeFault.JudgeFault, declared.verdict.Judged.Judged, Row.judgeNumber}
-use Rattle.judge.specs.declared.fault.JudgeFault.the-variants.{Unreadable, LongRow, BadTrail, UnknownName, NoRoom, NothingToTakeBack}
+use Rattle.judge.specs.{declared.fault.JudgeFault.JudgeFault, declared.verdict.Judged.Judged, Row.judgeNumber, Next.NextReply, Next.nextListed}
+use Rattle.judge.specs.Next.{nextRefused}
+use Rattle.judge.specs.declared.fault.JudgeFault.the-variants.{Unreadable, LongRow, BadTrail, UnknownName, NoRoom, NothingToTakeBack, ShortRow}
 use Rattle.judge.specs.declared.verdict.Judged.the-variants.{Verdict, Refused as RefusedRow}
 use Rattle.model.specs.{declared.rule.Rule.Rule, Verdict.Laws.says-once, Verdict.Laws.verdict-says, Rule.Laws.means-once, Rule.Readable, Rule.names}
 use Rattle.model.specs.{Rule.ruleType, Check.readable}
 use Rattle.model.specs.Check.Exact.{readable-is, type-means, means-conflict-free}
-use Rattle.sessions.specs.{declared.session.Outcome.Outcome, declared.session.Session.Session, Session.Laws.intact-tells, Session.Laws.checked-done}
+use Rattle.sessions.specs.{declared.session.Outcome.Outcome, declared.session.Session.Session, Session.Laws.intact-tells, Session.Laws.then-done}
+use Rattle.sessions.specs.{Session.Laws.checked-done, Book.Laws.rule-lists}
 use Rattle.sessions.specs.declared.session.Outcome.the-variants.{Done, Refused}
-use Rattle.sessions.specs.Book.{Call, opening, adding, takingBack, asking, room}
-use Rattle.sessions.specs.Session.{Trail, intact, _then_, checked, outcome, judgedBy, asked}
-use Rattle.sessions.specs.Refusal.{Intact, Later, CallStands, no-rule, bad-rule, bad-trail, high-number, full-room, none-added, Tried, Asks}
+use Rattle.sessions.specs.Book.{Call, opening, adding, takingBack, asking, lookingAhead, room}
+use Rattle.sessions.specs.Session.{Trail, intact, _then_, checked, namesAhead, outcome, judgedBy, asked, listedBy, nextAsked}
+use Rattle.sessions.specs.Refusal.{Intact, Later, CallStands, no-rule, bad-rule, bad-trail, high-number, full-room, none-added, few-places, Tried}
+use Rattle.sessions.specs.Refusal.{Asks, AsksNext}
 use Rattle.fields.specs.{Tests.by-test, Tests.untold, Least.NoneStands, Least.Laws.least-once, Least.Laws.exactly}
 
 then-no-more : (o : Outcome) → (o then Done) ≡ o
@@ -24,7 +27,8 @@ then-no-more (Refused f) = refl
 -- a fault is known by its number
 numbered : ℕ → JudgeFault
 numbered n =
-    cond (eqb n 40) Unreadable (cond (eqb n 41) LongRow (cond (eqb n 42) BadTrail (cond (eqb n 43) UnknownName (cond (eqb n 44) NoRoom NothingToTakeBack))))
+    cond (eqb n 40) Unreadable (cond (eqb n 41) LongRow (cond (eqb n 42) BadTrail (cond (eqb n 43) UnknownName (
+    cond (eqb n 44) NoRoom (cond (eqb n 45) NothingToTakeBack ShortRow)))))
 
 numbered-is : (f : JudgeFault) → numbered (judgeNumber f) ≡ f
 unfolding numbered
@@ -34,6 +38,7 @@ numbered-is BadTrail = refl
 numbered-is UnknownName = refl
 numbered-is NoRoom = refl
 numbered-is NothingToTakeBack = refl
+numbered-is ShortRow = refl
 
 judge-injective : (f g : JudgeFault) → judgeNumber f ≡ judgeNumber g → f ≡ g
 judge-injective f g e = sym (numbered-is f) ∙ ap numbered e ∙ numbered-is g
@@ -56,6 +61,7 @@ module _ (s : Session) (t : Trail) where
   above-model g (high-number h) = omega arith
   above-model g (full-room h) = omega arith
   above-model g (none-added h) = omega arith
+  above-model g (few-places m h i) = omega arith
 
   openable : (r : Rule) → Readable r → NoneStands (CallStands s t (opening r))
   openable r k g (no-rule h) = h k
@@ -70,6 +76,7 @@ module _ (s : Session) (t : Trail) where
     above-trail l g (high-number h) = omega arith
     above-trail l g (full-room h) = omega arith
     above-trail l g (none-added h) = omega arith
+    above-trail l g (few-places m h i) = omega arith
 
     module _ (i : Intact (s .children) (names (s .rule)) t) where
       above-name : (x : ℕ) → Above (adding x) 43
@@ -104,6 +111,16 @@ module _ (s : Session) (t : Trail) where
       askable g (bad-rule l h) = absurd (h r)
       askable g (bad-trail l h) = absurd (h i)
 
+      above-list : (k : ℕ) → Above (lookingAhead k) 46
+      above-list k g (bad-rule l h) = absurd (h r)
+      above-list k g (bad-trail l h) = absurd (h i)
+      above-list k g (few-places m h j) = omega arith
+
+      listable : (k : ℕ) → length (namesAhead s t) ≤ k → NoneStands (CallStands s t (lookingAhead k))
+      listable k n g (bad-rule l h) = absurd (h r)
+      listable k n g (bad-trail l h) = absurd (h i)
+      listable k n g (few-places m h j) = absurd (omega (arith, ap length (rule-lists m .1 h)))
+
   opening-answers : (r : Rule) → Tried s t (opening r) (outcome (opening r) s t)
   unfolding outcome
   opening-answers r = by-test (readable r)
@@ -137,6 +154,10 @@ module _ (s : Session) (t : Trail) where
       (λ e. rw e (takeable r i (ltb-true _ _ e)))
       (λ e. let h : s .children ≤ 0 = ltb-false _ _ e in rw e (none-added (omega arith), above-children r i)))
   outcome-answers asking = rw (then-no-more (checked s t)) at (checked-answers asking tt Done (λ r i. askable r i))
+  outcome-answers (lookingAhead k) = checked-answers (lookingAhead k) tt _ (λ r i.
+      by-test (leb (length (namesAhead s t)) k)
+      (λ e. rw e (listable r i k (leb-true _ _ e)))
+      (λ e. let m = type-means r in rw e (few-places m (rule-lists m .0 refl) (leb-false _ _ e), above-list r i k)))
 
   -- a call is refused exactly as the table says
   pub outcome-is : (q : Call) (o : Outcome) → (outcome q s t ≡ o) ↔ Tried s t q o
@@ -160,3 +181,20 @@ module _ (s : Session) (t : Trail) where
 
   pub asked-is : (a : Judged) → (asked s t ≡ a) ↔ Asks s t a
   asked-is = exactly (Asks s t) asks-once (asked s t) (asked-asks (outcome asking s t) refl)
+
+module _ (s : Session) (t : Trail) (k : ℕ) where
+  lists-once : (a b : NextReply) → AsksNext s t k a → AsksNext s t k b → a ≡ b
+  lists-once (nextListed u) (nextListed v) (h, (A, m, i)) (g, (B, n, j)) = ap nextListed (sym (rule-lists m .1 i) ∙ rule-lists n .1 j)
+  lists-once (nextListed u) (nextRefused g) h i = absurd (h .0 g (i .0))
+  lists-once (nextRefused f) (nextListed v) h i = absurd (i .0 f (h .0))
+  lists-once (nextRefused f) (nextRefused g) h i = ap nextRefused (least-once judgeNumber judge-injective f g h i)
+
+  next-lists : (o : Outcome) → o ≡ outcome (lookingAhead k) s t → AsksNext s t k (listedBy o s t)
+  unfolding outcome
+  next-lists Done e =
+      let m = type-means (readable-is (s .rule) .0 (checked-done s t (then-done (checked s t) _ (sym e) .0) .0)) in
+      (rw (sym e) at (outcome-answers s t (lookingAhead k)), (ruleType (s .rule), m, rule-lists m .0 refl))
+  next-lists (Refused f) e = rw (sym e) at (outcome-answers s t (lookingAhead k))
+
+  pub next-is : (a : NextReply) → (nextAsked s t k ≡ a) ↔ AsksNext s t k a
+  next-is = exactly (AsksNext s t k) lists-once (nextAsked s t k) (next-lists (outcome (lookingAhead k) s t) refl)

@@ -1,18 +1,20 @@
 -- How the answers of the methods come from what their calls give.
-use mathlib.Core.{Path._≡_, Path.refl, Path.ap, Bool.Bool, Bool.true, Bool.false, Bool._&&_}
+use mathlib.Core.{Path._≡_, Path.refl, Path.sym, Path.ap, Bool.Bool, Bool.true, Bool.false, Bool._&&_}
 use Prim.Native.Nat.{ℕ, _-_, _≤_, _<_}
 use native.Mathlib.{Nat.sub-zero, Omega.arith}
 use lib.ListN.{length, take, drop, length-take, length-drop}
 use lib.Seq.{take-all}
 use borrow.Author.Tests.{le-leb, lt-ltb, le-ltb, lt-leb}
-use Rattle.judge.specs.{declared.fault.JudgeFault.JudgeFault, Row.judged, Row.upto, Row.Laws.upto-tells}
+use Rattle.judge.specs.{declared.fault.JudgeFault.JudgeFault, Row.rowTested, Row.judged, Row.upto, Row.Laws.upto-tells, Next.nextJudged, Next.HandsNext}
 use Rattle.judge.specs.declared.fault.JudgeFault.the-variants.{Unreadable, BadTrail, UnknownName, NoRoom, NothingToTakeBack}
 use Rattle.judge.specs.declared.verdict.Judged.the-variants.{Verdict, Refused as RefusedRow}
-use Rattle.model.specs.{declared.rule.Rule.Rule, Verdict.verdict, Rule.names, Rule.ruleType, Check.readable}
+use Rattle.judge.specs.declared.verdict.Next.the-variants.{Refused as NoNames}
+use Rattle.model.specs.{declared.rule.Rule.Rule, Word.Word, Verdict.verdict, Rule.names, Rule.ruleType, Check.readable}
 use Rattle.sessions.specs.{declared.session.Session.Session, declared.session.Step.Step, Session.Laws.intact-tells, Session.Laws.checked-done}
+use Rattle.sessions.specs.Session.Laws.{next-by-asked}
 use Rattle.sessions.specs.declared.session.Outcome.the-variants.{Done, Refused}
 use Rattle.sessions.specs.Book.{Call, opening, adding, takingBack, room}
-use Rattle.sessions.specs.Session.{Trail, allFree, intact, check, checked, outcome, newSession, newTrail, Does, asked}
+use Rattle.sessions.specs.Session.{Trail, allFree, intact, check, checked, outcome, newSession, newTrail, Does, asked, nextAsked}
 use Rattle.fields.specs.{Limits.maxRow, Tests.by-test}
 
 -- with the tests of the two parts, `[0..k]` and from k to the end
@@ -103,13 +105,21 @@ module _ (s : Session) (t : Trail) where
         rw sub-zero (upto-tells (names (s .rule)) (take (s .children) t) .1 h)
 
     pub asked-judged : judged (s .rule) (take (s .children - 0) t) ≡ asked s t
-    unfolding outcome checked judged row-fits row-named
+    unfolding outcome checked judged rowTested row-fits row-named
     asked-judged =
         by-test (readable (s .rule))
         (λ e. rw (e, i, le-leb (length (take (s .children - 0) t)) maxRow row-fits, row-named)
         (ap (λ k. Verdict (verdict (ruleType (s .rule)) (take k t))) (sub-zero (s .children))))
         (λ e. rw e)
 
-  pub asked-refused : (f : JudgeFault) → checked s t ≡ Refused f → RefusedRow f ≡ asked s t
-  unfolding outcome
-  asked-refused f e = rw e
+    pub next-judged : (k : ℕ) → nextJudged (s .rule) (take (s .children - 0) t) k ≡ nextAsked s t k
+    unfolding nextJudged
+    next-judged k = rw (asked-judged, sub-zero) (sym (next-by-asked s t k))
+
+  module _ (f : JudgeFault) (e : checked s t ≡ Refused f) where
+    pub asked-refused : RefusedRow f ≡ asked s t
+    unfolding outcome
+    asked-refused = rw e
+
+    pub next-refused : (lent : Word) → HandsNext (nextAsked s t (length lent)) (NoNames f) lent lent
+    next-refused lent = rw (next-by-asked s t (length lent), ← asked-refused) (refl, refl)

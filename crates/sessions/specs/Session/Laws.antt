@@ -2,14 +2,14 @@
 use mathlib.Core.{Path._≡_, Path.refl, Bool.Bool, Bool.true, Bool.false, List.[], List._∷_}
 use Prim.Native.Nat.{ℕ}
 use native.Mathlib.Omega.{arith}
-use lib.{Dec.eqb, ListN.take, ListN.drop}
+use lib.{Dec.leb, Dec.eqb, ListN.length, ListN.take, ListN.drop}
 use borrow.Author.Tests.{eq-eqb, eqb-true}
-use Rattle.judge.specs.{declared.fault.JudgeFault.JudgeFault, Row.Laws.upto-tells}
-use Rattle.judge.specs.declared.fault.JudgeFault.the-variants.{Unreadable, BadTrail}
+use Rattle.judge.specs.{declared.fault.JudgeFault.JudgeFault, Row.Laws.upto-tells, Next.fitted, Next.nextBy}
+use Rattle.judge.specs.declared.fault.JudgeFault.the-variants.{Unreadable, BadTrail, ShortRow}
 use Rattle.sessions.specs.{declared.session.Session.Session, declared.session.Outcome.Outcome, Refusal.AllFree, Refusal.Intact}
 use Rattle.sessions.specs.declared.session.Outcome.the-variants.{Done, Refused}
-use Rattle.sessions.specs.Session.{Trail, free, allFree, intact, check, _then_, checked}
-use Rattle.fields.specs.Tests.{Tells, tells-le, tells-and, tells-three}
+use Rattle.sessions.specs.Session.{Trail, free, allFree, intact, check, _then_, checked, namesAhead, outcome, judgedBy, asked, listedBy, nextAsked}
+use Rattle.fields.specs.Tests.{by-test, Tells, tells-le, tells-and, tells-three}
 use Rattle.model.specs.{Rule.names, Check.readable}
 
 pub all-free-tells : (t : Trail) → Tells (allFree t) (AllFree t)
@@ -34,3 +34,12 @@ unfolding checked
 checked-done s t e =
     let (a, b) = then-done (check (readable (s .rule)) Unreadable) _ e in
     (check-done (readable (s .rule)) Unreadable a, check-done (intact (s .children) (names (s .rule)) t) BadTrail b)
+
+-- looking ahead is refused where asking is, and else where the list does not fit
+pub next-by-asked : (s : Session) (t : Trail) (k : ℕ) → nextAsked s t k ≡ nextBy (fitted k (namesAhead s t)) (asked s t)
+unfolding outcome
+next-by-asked s t k = go (checked s t)
+  where
+    go : (o : Outcome) → listedBy (o then check (leb (length (namesAhead s t)) k) ShortRow) s t ≡ nextBy (fitted k (namesAhead s t)) (judgedBy o s t)
+    go Done = by-test (leb (length (namesAhead s t)) k) (λ e. rw e) (λ e. rw e)
+    go (Refused f) = refl

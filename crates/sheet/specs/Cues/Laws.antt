@@ -10,7 +10,7 @@ use Rattle.fields.specs.{declared.split.Heads.Heads, Split.Laws.split-count, Sp
 use Rattle.fields.specs.{Split.Laws.Stand, Split.Laws.Next, Split.Laws.stand-stop, Heads.Laws.Three, Heads.Laws.fields-few}
 use Rattle.fields.specs.Bytes.{Text, bytes, isDigit, all, value, sameText}
 use Rattle.fields.specs.declared.fault.CueFault.the-variants.{LongFile, Unended, BadFields, BadNumber, NotAbove, NoName, ManyChildren}
-use Rattle.fields.specs.Split.{tab, split, lines, behind, fields, field, part, times}
+use Rattle.fields.specs.Split.{tab, split, lines, behind, field, part, times}
 use Rattle.sheet.specs.declared.cues.CueLine.the-variants.{Number, Bad}
 use Rattle.sheet.specs.declared.cues.CuesRead.the-variants.{Count, Refused}
 use Rattle.sheet.specs.Cues.{isCueNumber, children, cueLine, cueLines, cuesRead}

@@ -2,9 +2,9 @@
 use mathlib.Core.{Path._≡_, List.[], List._∷_, List._++_, List.append-assoc}
 use Prim.Native.Nat.{ℕ, _+_, _^_, _≤_, _<_}
 use native.Mathlib.Omega.{arith}
-use lib.ListN.{length, drop, length-append}
-use Rattle.fields.specs.{Bytes.Text, Bytes.digits, Bytes.Numeral.digits-length, Split.lineFeed, Split.tab}
-use Rattle.sheet.specs.{declared.refusal.Source.Source, RefusalLine.refusalHead, RefusalLine.refusalLine, Put.Put}
+use lib.ListN.{length}
+use Rattle.fields.specs.{Bytes.digits, Bytes.Numeral.digits-length, Split.lineFeed, Split.tab}
+use Rattle.sheet.specs.{declared.refusal.Source.Source, RefusalLine.refusalHead, RefusalLine.refusalLine}
 
 head-short : (s : Source) → length (refusalHead s) ≤ 16
 head-short Source.Sheet = omega arith

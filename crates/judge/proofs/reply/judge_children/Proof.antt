@@ -1,55 +1,59 @@
--- The model text first, then the size of the children text.
+-- The reply to what was read.
+use mathlib.Core.Path.{refl, sym, ap}
+use native.Mathlib.Omega.{arith}
 use borrow.Author.Needs.{needs}
-use Rattle.judge.specs.{Reading.Whole.whole-past, Reading.Whole.whole-fault, Reply.Judged.model-refused, Reply.Judged.long-refused}
+use Rattle.judge.specs.{Row.Tally.seeing-none, Reply.childrenReply, Reply.judgedOf}
+use Rattle.judge.specs.Reply.Read.{read-both, reply-model, reply-children, row-judged}
 use Rattle.judge.proofs.reply.judge_children.Statement.{statement}
 use Rattle.judge.proofs.reply.judge_children.Tie as tie
 
--- places: the start, and where the model text was read
-abbrev entry : tie.After-read-whole → tie.Start
-entry c = c .before .before .before .before .before .before
-
-abbrev read : tie.After-known-told → tie.After-read-whole
+-- places: where the texts were read, and where both were
+abbrev read : tie.After-known-told → tie.After-read-children
 read c = c .before .before .before
 
-read-whole-requires : tie.Need-read-whole-requires
-read-whole-requires c κs = search needs
+abbrev known : tie.After-seen2 → tie.After-known-told
+known c = c .before .before
 
-enum-known-past : tie.Need-enum-known-past
-enum-known-past c = search needs
+read-children-requires : tie.Need-read-children-requires
+read-children-requires c κs = (refl, seeing-none 64 65 (omega arith))
 
-returns : tie.Need-returns
-returns c =
-    let t = c .before in
-    long-refused (whole-past (read t .read-whole .ensures) (t .before .past .given .1)) (entry (read t) .args .children .now) (c .if1 .taken)
+enum-known-read : tie.Need-enum-known-read
+enum-known-read c = search needs
 
-judge-read-requires : tie.Need-judge-read-requires
-judge-read-requires c κs =
-    let e = c .before .before .before in
-    let t = e .before in
-    (whole-past (read t .read-whole .ensures) (t .before .past .given .1), e .if1 .left)
+verdict-by-requires : tie.Need-verdict-by-requires
+verdict-by-requires c κs =
+    let t = known c in
+    let b = read-both (read t .read-children .ensures) (t .before .read .given .1) in
+    (b .nodes, b .names)
 
 enum-known-f : tie.Need-enum-known-f
 enum-known-f c = search needs
 
+enum-known-f-2 : tie.Need-enum-known-f-2
+enum-known-f-2 c = search needs
+
+returns : tie.Need-returns
+returns c =
+    let t = known (c .before) in
+    row-judged (read-both (read t .read-children .ensures) (t .before .read .given .1)) (c .verdict-by .ensures)
+
 returns-2 : tie.Need-returns-2
-returns-2 c = search needs
+unfolding childrenReply
+returns-2 c = sym (ap judgedOf (reply-model (c .before .before .before .read-children .ensures) _ (c .before .f .given .1)))
 
 returns-3 : tie.Need-returns-3
-returns-3 c =
-    let t = c .before .before .before in
-    let a = entry t .args in
-    let last = t .read-whole .last in
-    model-refused (a .model .now) (a .children .now) _ _
-    (whole-fault (last .1 .0) (last .1 .1 .0, last .1 .1 .1 .0) (t .read-whole .ensures) (c .before .f .given .1))
+unfolding childrenReply
+returns-3 c = sym (ap judgedOf (reply-children (c .before .before .before .read-children .ensures) _ (c .before .f2 .given .1)))
 
 pub judge-children-spec : {M : Type 1} → statement M
 judge-children-spec =
     tie.close
     (tie.spec
-    read-whole-requires
-    enum-known-past
-    returns
-    judge-read-requires
+    read-children-requires
+    enum-known-read
+    verdict-by-requires
     enum-known-f
+    enum-known-f-2
+    returns
     returns-2
     returns-3)

@@ -1,11 +1,11 @@
 -- What a key tells of a text, and what comparing eight bytes at once does.
-use mathlib.Core.{Path._≡_, Path.refl, Path.sym, Path.ap, Path.ap₂, Path._∙_, Logic.by-cases, Bool.Bool, Bool.true, Bool.false, Bool.true≢false}
-use mathlib.Core.{Bool.and-eq-true-iff, List.List, List.[], List._∷_}
+use mathlib.Core.{Path._≡_, Path.refl, Path.sym, Path.ap₂, Path._∙_, Logic.by-cases, Bool.Bool, Bool.true, Bool.false, Bool.true≢false}
+use mathlib.Core.{Bool.and-eq-true-iff, List.[], List._∷_}
 use Prim.Native.Nat.{ℕ, zero, suc, _+_, _*_, _-_, _/_, _%_, _^_, _≤_, _<_}
 use native.Mathlib.{Decide.ℕ-discrete, Decide.decLt, Nat.mod-lt, Nat.mod-eq-of-lt, Nat.div-eq-of-lt, Nat.div-lt-iff-lt-mul, Omega.arith}
 use lib.ListN.{length, getD}
 use borrow.Author.Tests.{eqb-true, eq-eqb}
-use Rattle.fields.specs.{Tests.by-test, Bytes.Text, Bytes.sameText, Bytes.Laws.same-text, Bytes.Laws.same-lengths}
+use Rattle.fields.specs.{Tests.by-test, Bytes.Text, Bytes.sameText, Bytes.Laws.same-text}
 use Rattle.judge.specs.Reading.Table.{keyStep, keyFrom, keyOf, sameRun, sameEight}
 
 -- a turn stays below 2 ^ 64

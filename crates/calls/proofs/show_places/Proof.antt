@@ -2,14 +2,14 @@
 use Prim.Native.Nat.{_≤_, _-_}
 use lib.ListN.{length}
 use borrow.Author.Needs.{needs}
-use Rattle.calls.proofs.show_trail.Statement.{statement}
-use Rattle.calls.proofs.show_trail.Tie as tie
+use Rattle.calls.proofs.show_places.Statement.{statement}
+use Rattle.calls.proofs.show_places.Tie as tie
 
 abbrev Inv-loop : tie.InvT-loop
-Inv-loop trail i₀ t4 i = i ≤ length trail
+Inv-loop places i₀ i = i ≤ length places
 
 abbrev μ-loop : tie.MeasureT-loop
-μ-loop trail i₀ t4 i = length trail - i
+μ-loop places i₀ i = length places - i
 
 slice-aggregate-text : tie.Need-slice-aggregate-text Inv-loop μ-loop
 slice-aggregate-text c = search needs
@@ -38,17 +38,11 @@ loop-less c = search needs
 loop-again : tie.Need-loop-again Inv-loop μ-loop
 loop-again c = search needs
 
-slice-aggregate-text-2 : tie.Need-slice-aggregate-text-2 Inv-loop μ-loop
-slice-aggregate-text-2 c = search needs
-
-text-requires-2 : tie.Need-text-requires-2 Inv-loop μ-loop
-text-requires-2 c κs = search needs
-
 returns : tie.Need-returns Inv-loop μ-loop
 returns c = search needs
 
-pub show-trail-spec : {M : Type 1} → statement M
-show-trail-spec =
+pub show-places-spec : {M : Type 1} → statement M
+show-places-spec =
     tie.close
     (tie.spec
     Inv-loop
@@ -62,6 +56,4 @@ show-trail-spec =
     add-i
     loop-less
     loop-again
-    slice-aggregate-text-2
-    text-requires-2
     returns)

@@ -1,0 +1,15 @@
+-- the operator of each sign
+use borrow.Author.Needs.{needs}
+use Rattle.judge.proofs.ahead.second_open.Statement.{statement}
+use Rattle.judge.proofs.ahead.second_open.Tie as tie
+
+returns : tie.Need-returns
+returns c = rw (c .enum-told .given .1)
+
+returns-2 : tie.Need-returns-2
+returns-2 c = rw (c .enum-told2 .given .1)
+
+pub second-open-spec : {M : Type 1} → statement M
+second-open-spec =
+    tie.close
+    (tie.spec (λ c. search needs) (λ c. search needs) (λ c. search needs) (λ c. search needs) returns returns-2 (λ c. search needs) (λ c. search needs))
