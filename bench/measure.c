@@ -84,7 +84,7 @@ void measure(const struct job *jobs, int n, struct figures *figures)
         measure_round(jobs, n, &plan, round);
         for (int j = 0; j < n; j++) {
             ns[j][i] = round[j];
-            ratio[j][i] = round[j] / round[0];
+            ratio[j][i] = round[j] / round[jobs[j].against];
         }
     }
     for (int j = 0; j < n; j++)

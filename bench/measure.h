@@ -9,14 +9,15 @@
 
 enum { MOST_JOBS = 3 };
 
-/* Something to time: run(with, n) does it n times. */
+/* Something to time: run(with, n) does it n times. Its ratio is that to the job `against`. */
 struct job {
     void (*run)(void *with, long times);
     void *with;
+    int against;
 };
 
 struct figures {
-    double ns, ratio, noise; /* of a call; ratio to the first job */
+    double ns, ratio, noise; /* of a call */
 };
 
 /* Fills the figures of each of the n jobs. */

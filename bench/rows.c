@@ -5,7 +5,7 @@
 #include <string.h>
 
 enum {
-    NAMES = 64,
+    NAMES = MOST_NAMES,
     LONGEST = 32,     /* name */
     MANY = 4096,      /* children */
     MANY_LONG = 1985, /* children of the longest name: more have no room in a children text */
@@ -278,6 +278,11 @@ struct question question_of(judge_texts *judge, const struct row *row)
     return (struct question){judge, {written(&row->model), written(&row->children)}};
 }
 
+struct next_question next_question_of(next_names *next, const struct row *row)
+{
+    return (struct next_question){next, {written(&row->model), written(&row->children)}, {0}};
+}
+
 static volatile uint32_t sink; /* keeps the calls */
 
 void ask_again(void *question, long times)
@@ -285,4 +290,11 @@ void ask_again(void *question, long times)
     struct question q = *(struct question *)question;
     while (times-- > 0)
         sink = ask(q.judge, q.call);
+}
+
+void list_again(void *question, long times)
+{
+    struct next_question *q = question;
+    while (times-- > 0)
+        sink = ask_next(q->next, q->call, (struct places){q->row, MOST_NAMES});
 }

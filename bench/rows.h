@@ -11,7 +11,7 @@ struct row {
 };
 
 /* The last rows have names of one slot, or of one key. */
-enum { ROWS = 19, FIRST_OF_ONE_SLOT = 17 };
+enum { ROWS = 19, FIRST_OF_ONE_SLOT = 17, MOST_NAMES = 64 };
 
 /* Row i, from 0. */
 void make_row(struct row *row, int i);
@@ -24,7 +24,17 @@ struct question {
 
 struct question question_of(judge_texts *judge, const struct row *row);
 
-/* To be timed: the question asked so many times. */
+/* A lister of next names, what it is asked, and the row that it is lent. */
+struct next_question {
+    next_names *next;
+    struct call call;
+    uint16_t row[MOST_NAMES];
+};
+
+struct next_question next_question_of(next_names *next, const struct row *row);
+
+/* To be timed: the question asked, or the names listed, so many times. */
 void ask_again(void *question, long times);
+void list_again(void *question, long times);
 
 #endif

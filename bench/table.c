@@ -1,5 +1,6 @@
-/* Prints the table of desk_judge against its twin, in Markdown. Each argument is a file with what
-   bench.c printed at one placement of the code; a row's figures are medians over the placements. */
+/* Prints the table of desk_judge against its twin and that of desk_next against desk_judge, in
+   Markdown. Each argument is a file with what bench.c printed at one placement of the code; a row's
+   figures are medians over the placements. */
 #include "measure.h"
 #include "rows.h"
 
@@ -7,17 +8,23 @@
 #include <stdlib.h>
 
 /* The ratios to reach. */
-static const double LIMIT = 1.3, LIMIT_OF_ONE_SLOT = 4, LIMIT_OF_MEDIAN = 1.1;
+static const double LIMIT = 1.3, LIMIT_OF_ONE_SLOT = 4, LIMIT_OF_MEDIAN = 1.1, LIMIT_OF_NEXT = 1.5;
 
 enum { MOST_PLACEMENTS = 64 };
 
-/* What a row took, at each placement. */
+/* What a row took, at each placement, and what it is measured against. */
 struct record {
-    double desk[MOST_PLACEMENTS], twin[MOST_PLACEMENTS];
+    double ns[MOST_PLACEMENTS], against[MOST_PLACEMENTS];
     double ratio[MOST_PLACEMENTS], noise[MOST_PLACEMENTS];
 };
 
-static struct record records[ROWS];
+static struct record judge[ROWS], next[ROWS];
+
+static void read_record(FILE *file, struct record *r, int p)
+{
+    if (fscanf(file, "%lf %lf %lf %lf", &r->ns[p], &r->against[p], &r->ratio[p], &r->noise[p]) != 4)
+        abort();
+}
 
 static void read_placement(const char *path, int p)
 {
@@ -25,10 +32,8 @@ static void read_placement(const char *path, int p)
     if (file == NULL)
         abort();
     for (int i = 0; i < ROWS; i++) {
-        struct record *r = &records[i];
-        if (fscanf(file, "%lf %lf %lf %lf", &r->desk[p], &r->twin[p], &r->ratio[p],
-                   &r->noise[p]) != 4)
-            abort();
+        read_record(file, &judge[i], p);
+        read_record(file, &next[i], p);
     }
     fclose(file);
 }
@@ -49,8 +54,8 @@ static double print_row(const char *title, struct record *r, int placements, dou
 {
     double ratio = median(r->ratio, placements);
     printf("| %-39s |", title);
-    print_ns(median(r->desk, placements));
-    print_ns(median(r->twin, placements));
+    print_ns(median(r->ns, placements));
+    print_ns(median(r->against, placements));
     printf(" %5.2f | %7.1f | %5.2f | %8.2f | %5.1f %% |\n", ratio, limit, r->ratio[0],
            r->ratio[placements - 1], 100 * median(r->noise, placements));
     return ratio;
@@ -70,22 +75,39 @@ static double greatest(const double *values, int n)
     return most;
 }
 
-static void print_table(int placements)
+static void print_head(const char *ns, const char *against)
+{
+    printf("| %-39s | %9s | %9s | %5s | %7s | %5s | %8s | %7s |\n", "Row", ns, against, "ratio",
+           "at most", "least", "greatest", "noise");
+    puts("|---|---|---|---|---|---|---|---|");
+}
+
+static void print_judge(int placements)
 {
     static struct row row;
     double ratios[ROWS];
-    printf("| %-39s | %9s | %9s | %5s | %7s | %5s | %8s | %7s |\n", "Row", "desk ns", "twin ns",
-           "ratio", "at most", "least", "greatest", "noise");
-    puts("|---|---|---|---|---|---|---|---|");
+    print_head("desk ns", "twin ns");
     for (int i = 0; i < ROWS; i++) {
         make_row(&row, i);
-        ratios[i] = print_row(row.title, &records[i], placements,
+        ratios[i] = print_row(row.title, &judge[i], placements,
                               i < FIRST_OF_ONE_SLOT ? LIMIT : LIMIT_OF_ONE_SLOT);
     }
     print_last("worst", greatest(ratios, FIRST_OF_ONE_SLOT), LIMIT);
     print_last("worst, names of one slot",
                greatest(ratios + FIRST_OF_ONE_SLOT, ROWS - FIRST_OF_ONE_SLOT), LIMIT_OF_ONE_SLOT);
     print_last("median", median(ratios, ROWS), LIMIT_OF_MEDIAN);
+}
+
+static void print_next(int placements)
+{
+    static struct row row;
+    double ratios[ROWS];
+    print_head("next ns", "judge ns");
+    for (int i = 0; i < ROWS; i++) {
+        make_row(&row, i);
+        ratios[i] = print_row(row.title, &next[i], placements, LIMIT_OF_NEXT);
+    }
+    print_last("worst", greatest(ratios, ROWS), LIMIT_OF_NEXT);
 }
 
 int main(int count, char **path)
@@ -95,6 +117,8 @@ int main(int count, char **path)
         return 2;
     for (int p = 0; p < placements; p++)
         read_placement(path[p + 1], p);
-    print_table(placements);
+    print_judge(placements);
+    putchar('\n');
+    print_next(placements);
     return 0;
 }

@@ -34,7 +34,9 @@ static void print_language(const struct language *language, const struct row *ro
         printf(" %11s | %11s |", why, why);
         return;
     }
-    struct job jobs[JOBS] = {{ask_again, &desk}, {validate, v}, {compile_and_validate, v}};
+    struct job jobs[JOBS] = {
+        {ask_again, &desk, DESK}, {validate, v, DESK}, {compile_and_validate, v, DESK},
+    };
     struct figures f[JOBS];
     measure(jobs, JOBS, f);
     free_validator(v);

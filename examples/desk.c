@@ -1,5 +1,6 @@
 /* A client of the desk: judges the children named on the command line by the model of the example,
-   and says the verdict in words. Without names it judges a cue that is still open. */
+   says the verdict in words, and which names may come next. Without names it judges a cue that is
+   still open. */
 #include "desk.h"
 
 #include <stdio.h>
@@ -7,8 +8,13 @@
 
 static const char MODEL[] = "(axis,target,(crawl&gather)?,hold[0..2])";
 static const char *const DEFAULT[] = {"axis", "target", "crawl"};
+static const char LETTERS[] = "abcdefghijklmnopqrstuvwxyz";
+static const char NAME_BYTES[] = "abcdefghijklmnopqrstuvwxyz0123456789-";
 
-enum { ROOM = 65536 }; /* one byte more than a children text may have */
+enum {
+    ROOM = 65536, /* one byte more than a children text may have */
+    NAMES = 64    /* a model has no more */
+};
 
 static const char *in_words(uint32_t answer)
 {
@@ -44,6 +50,31 @@ static size_t write_children(char *text, const char *const *names, size_t count)
     return len;
 }
 
+/* The names of a model text are its words that begin with a letter. */
+static void print_name(uint16_t number)
+{
+    const char *name = MODEL + strcspn(MODEL, LETTERS);
+    while (--number > 0) {
+        name += strspn(name, NAME_BYTES);
+        name += strcspn(name, LETTERS);
+    }
+    printf(" %.*s", (int)strspn(name, NAME_BYTES), name);
+}
+
+/* Where there is a verdict and room for every name, desk_next refuses nothing. */
+static void print_next(const char *children, size_t len)
+{
+    uint16_t row[NAMES];
+    uint32_t count = desk_next((const uint8_t *)MODEL, strlen(MODEL), (const uint8_t *)children,
+                               len, row, NAMES);
+    if (count >= DESK_REFUSED)
+        return;
+    printf("next:");
+    for (uint32_t i = 0; i < count; i++)
+        print_name(row[i]);
+    puts(count == 0 ? " none" : "");
+}
+
 int main(int argc, char **argv)
 {
     static char children[ROOM];
@@ -53,5 +84,8 @@ int main(int argc, char **argv)
     uint32_t answer = desk_judge((const uint8_t *)MODEL, strlen(MODEL),
                                  (const uint8_t *)children, len);
     puts(in_words(answer));
-    return answer > 2;
+    if (answer > 2)
+        return 1;
+    print_next(children, len);
+    return 0;
 }

@@ -1,8 +1,11 @@
-/* The desk: judges a row of children by a model. Link with libdesk.a (rt staticlib desk).
+/* The desk: judges a row of children by a model, and lists the names that may come next. Link with
+   libdesk.a (rt staticlib desk).
 
    A model text is one member: `(axis,target,(crawl&gather)?,hold[0..2])`. A children text is names
    parted by tabs; no bytes mean no children, and then the pointer may be null. Texts are bytes with
-   a length, not ended by a zero. Nothing is written, nothing is kept from call to call.
+   a length, not ended by a zero. They are not written, and nothing is kept from call to call.
+
+   desk_judge writes nothing.
 
    Answer      When
         0      complete: the row is in the model
@@ -23,7 +26,19 @@
        36      over 4,096 children
 
    10 comes first; of 11 to 17 the one at the smallest place of the text wins, then the smallest
-   number. Of 30, 35 and 36 the smallest number wins. */
+   number. Of 30, 35 and 36 the smallest number wins.
+
+   desk_next lists the names that may come next behind the children: those whose addition would
+   leave the row complete or open. It writes their numbers into the row that it is lent, from the
+   first place on, each once, rising. Names are numbered from 1 as they are written in the model
+   text. Places behind the last number stay as they were. From a dead row there are none; behind
+   4,096 children names are listed as well. row_len counts places: 64 are always enough, and where
+   it is 0 the pointer may be null.
+
+   Answer             When
+   below DESK_REFUSED how many names are listed, at most 64
+   DESK_REFUSED + n   nothing is written: n is a refusal from 10 to 36 above, else
+                  46  the lent row is shorter than the list */
 #ifndef DESK_H
 #define DESK_H
 
@@ -34,8 +49,13 @@
 extern "C" {
 #endif
 
+#define DESK_REFUSED UINT32_C(2147483648)
+
 uint32_t desk_judge(const uint8_t *model, size_t model_len,
                     const uint8_t *children, size_t children_len);
+
+uint32_t desk_next(const uint8_t *model, size_t model_len,
+                   const uint8_t *children, size_t children_len, uint16_t *row, size_t row_len);
 
 #ifdef __cplusplus
 }

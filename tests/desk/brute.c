@@ -6,7 +6,9 @@
 
    Verdict: the model as a type of document 001, derived (Brzozowski) by each child in turn. Two
    further ways must agree on small inputs: membership by definition 2.1 word for word, and a search
-   through derived types for a longer row. */
+   through derived types for a longer row.
+
+   Next names: the verdict on the row with each name behind it. */
 #include "brute.h"
 
 #include <stdbool.h>
@@ -294,7 +296,7 @@ struct type {
     long min, max; /* of an atom; max -1: no upper end */
     const struct type *left, *right;
     struct type *next; /* in its bucket */
-    bool seen;         /* by the search */
+    bool seen;         /* by the search under way */
 };
 
 /* All types of one call; equal ones are made once. */
@@ -561,6 +563,8 @@ static bool search(struct pool *pool, const struct type *from, size_t names)
             queue[count++] = next;
         }
     }
+    while (count-- > 0)
+        ((struct type *)queue[count])->seen = false;
     free(queue);
     return found;
 }
@@ -569,11 +573,20 @@ static bool search(struct pool *pool, const struct type *from, size_t names)
 
 enum { FEW_NAMES = 6 };
 
-static uint32_t verdict(struct model *model, const struct type *type, const uint8_t *row, size_t n)
+static const uint32_t REFUSED = 2147483648; /* is added to a refusal where a list is asked for */
+
+static const struct type *derive_row(struct pool *pool, const struct type *t, const uint8_t *row,
+                                     size_t n)
 {
-    const struct type *rest = type;
     for (size_t i = 0; i < n; i++)
-        rest = derive(model->pool, rest, row[i]);
+        t = derive(pool, t, row[i]);
+    return t;
+}
+
+/* `rest` is the type derived by the row. */
+static uint32_t verdict(struct model *model, const struct type *type, const struct type *rest,
+                        const uint8_t *row, size_t n)
+{
     bool complete = nullable(rest), possible = !barren(rest);
     if (n <= SHORT && model->names <= FEW_NAMES && holds(type, row, n) != complete)
         return BRUTE_SPLIT;
@@ -581,6 +594,22 @@ static uint32_t verdict(struct model *model, const struct type *type, const uint
         && search(model->pool, rest, model->names) != possible)
         return BRUTE_SPLIT;
     return complete ? 0 : possible ? 1 : 2;
+}
+
+/* How many names may come next, written into the list; there is room for one more in the row. */
+static uint32_t list_next(struct model *model, const struct type *type, const struct type *rest,
+                          uint8_t *row, size_t n, uint16_t *list)
+{
+    uint32_t listed = 0;
+    for (size_t name = 0; name < model->names; name++) {
+        row[n] = (uint8_t)name;
+        uint32_t answer = verdict(model, type, derive(model->pool, rest, name), row, n + 1);
+        if (answer == BRUTE_SPLIT)
+            return REFUSED + BRUTE_SPLIT;
+        if (answer != 2)
+            list[listed++] = (uint16_t)(name + 1);
+    }
+    return listed;
 }
 
 /* ---- children ---- */
@@ -621,8 +650,9 @@ static uint8_t number_of(const struct model *model, struct piece child)
     return FOREIGN;
 }
 
-static uint32_t judge_children(const uint8_t *text, size_t len, const struct piece *children,
-                               size_t n)
+/* The verdict, or with a list to fill how many names may come next. */
+static uint32_t answer_children(const uint8_t *text, size_t len, const struct piece *children,
+                                size_t n, uint16_t *list)
 {
     struct model model = {.pool = calloc(1, sizeof(struct pool)), .small = true};
     uint8_t *row = grown(NULL, n + 1);
@@ -631,26 +661,52 @@ static uint32_t judge_children(const uint8_t *text, size_t len, const struct pie
     const struct type *type = type_of(&model, text, len);
     for (size_t i = 0; i < n; i++)
         row[i] = number_of(&model, children[i]);
-    uint32_t answer = verdict(&model, type, row, n);
+    const struct type *rest = derive_row(model.pool, type, row, n);
+    uint32_t answer = list == NULL ? verdict(&model, type, rest, row, n)
+                                   : list_next(&model, type, rest, row, n, list);
     free(row);
     free_pool(model.pool);
+    return answer;
+}
+
+/* ---- both texts ---- */
+
+/* The same of two texts, or their refusal. */
+static uint32_t answer_texts(const uint8_t *model, size_t model_len, const uint8_t *children,
+                             size_t children_len, uint16_t *list)
+{
+    const uint32_t refused = list == NULL ? 0 : REFUSED;
+    size_t place;
+    uint32_t refusal = brute_model(model, model_len, &place);
+    if (refusal != 0)
+        return refused + refusal;
+    if (children_len > 65535)
+        return refused + 30;
+    struct piece *pieces = grown(NULL, (children_len + 1) * sizeof *pieces);
+    size_t n = split(children, children_len, pieces);
+    refusal = children_refusal(pieces, n);
+    uint32_t answer = refusal != 0 ? refused + refusal
+                                   : answer_children(model, model_len, pieces, n, list);
+    free(pieces);
     return answer;
 }
 
 uint32_t brute_judge(const uint8_t *model, size_t model_len,
                      const uint8_t *children, size_t children_len)
 {
-    size_t place;
-    uint32_t answer = brute_model(model, model_len, &place);
-    if (answer != 0)
+    return answer_texts(model, model_len, children, children_len, NULL);
+}
+
+uint32_t brute_next(const uint8_t *model, size_t model_len, const uint8_t *children,
+                    size_t children_len, uint16_t *row, size_t row_len)
+{
+    uint16_t list[64];
+    uint32_t answer = answer_texts(model, model_len, children, children_len, list);
+    if (answer >= REFUSED)
         return answer;
-    if (children_len > 65535)
-        return 30;
-    struct piece *pieces = grown(NULL, (children_len + 1) * sizeof *pieces);
-    size_t n = split(children, children_len, pieces);
-    answer = children_refusal(pieces, n);
-    if (answer == 0)
-        answer = judge_children(model, model_len, pieces, n);
-    free(pieces);
+    if (answer > row_len)
+        return REFUSED + 46;
+    for (uint32_t i = 0; i < answer; i++)
+        row[i] = list[i];
     return answer;
 }

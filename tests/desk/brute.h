@@ -15,4 +15,8 @@ uint32_t brute_model(const uint8_t *text, size_t len, size_t *place);
 uint32_t brute_judge(const uint8_t *model, size_t model_len,
                      const uint8_t *children, size_t children_len);
 
+/* The answer that desk_next has to give, with its list, or BRUTE_SPLIT as a refusal. */
+uint32_t brute_next(const uint8_t *model, size_t model_len, const uint8_t *children,
+                    size_t children_len, uint16_t *row, size_t row_len);
+
 #endif

@@ -1,4 +1,4 @@
-/* One call of a judge. */
+/* One call of a judge, or of a lister of next names. */
 #ifndef CALL_H
 #define CALL_H
 
@@ -8,13 +8,28 @@
 typedef uint32_t judge_texts(const uint8_t *model, size_t model_len,
                              const uint8_t *children, size_t children_len);
 
+/* desk_next, and whatever answers as it does */
+typedef uint32_t next_names(const uint8_t *model, size_t model_len, const uint8_t *children,
+                            size_t children_len, uint16_t *row, size_t row_len);
+
 struct call {
     struct bytes model, children;
+};
+
+/* A row to be lent; where it has no places, the pointer may be null. */
+struct places {
+    uint16_t *at;
+    size_t len;
 };
 
 static inline uint32_t ask(judge_texts *judge, struct call c)
 {
     return judge(c.model.at, c.model.len, c.children.at, c.children.len);
+}
+
+static inline uint32_t ask_next(next_names *next, struct call c, struct places row)
+{
+    return next(c.model.at, c.model.len, c.children.at, c.children.len, row.at, row.len);
 }
 
 #endif

@@ -15,6 +15,9 @@ void check_known_rows(judge_texts *judge, struct report *report);
 void check_known_texts(judge_texts *judge, struct report *report);
 void check_known_places(place_refusal *model, struct report *report);
 
+/* Lists of next names that stand in document 02 or follow from it. */
+void check_known_lists(next_names *next, struct report *report);
+
 /* Model texts at and past every limit, and children texts likewise. */
 void try_limits(try_call *f, struct report *to);
 

@@ -1,5 +1,7 @@
-/* Rows and texts whose answers stand in document 01 or follow from it. */
+/* Rows and texts whose answers stand in documents 01 and 02 or follow from them. */
 #include "cases.h"
+#include "desk.h"
+#include "lists.h"
 
 /* Children are parted by spaces here. */
 static const struct {
@@ -106,6 +108,37 @@ static const struct {
     {"(", 11, 1},
 };
 
+#define EXAMPLE "(axis,target,(crawl&gather)?,hold[0..2])"
+#define NO_LIST(n) (DESK_REFUSED + (n))
+
+/* The names that may come next; ROOM is room for every name. */
+enum { ROOM = 64 };
+static const struct {
+    const char *model, *children;
+    size_t places;
+    struct list list;
+} LISTS[] = {
+    {EXAMPLE, "", ROOM, {1, {1}}},
+    {EXAMPLE, "axis", ROOM, {1, {2}}},
+    {EXAMPLE, "axis target", ROOM, {3, {3, 4, 5}}},
+    {EXAMPLE, "axis target crawl", ROOM, {1, {4}}},
+    {EXAMPLE, "axis target hold", ROOM, {1, {5}}},
+    {EXAMPLE, "axis target gather crawl", ROOM, {1, {5}}},
+    {EXAMPLE, "axis target gather crawl hold hold", ROOM, {0, {0}}},
+    /* dead rows, by order and by a foreign name */
+    {EXAMPLE, "axis crawl gather", ROOM, {0, {0}}},
+    {EXAMPLE, "axis stage", ROOM, {0, {0}}},
+    /* a lent row that is just long enough, and one that is too short */
+    {EXAMPLE, "axis target", 3, {3, {3, 4, 5}}},
+    {EXAMPLE, "axis target", 2, {NO_LIST(46), {0}}},
+    {"()", "", 0, {0, {0}}},
+    {"a", "a", 0, {0, {0}}},
+    {"a", "", 0, {NO_LIST(46), {0}}},
+    /* 46 comes behind every refusal of a text */
+    {"a??", "A", 0, {NO_LIST(11), {0}}},
+    {"a", "A", 0, {NO_LIST(35), {0}}},
+};
+
 /* 01, the last of the rows to try: 4,096 of a in a[60000..60000] are open. */
 static void check_long_row(judge_texts *judge, struct report *report)
 {
@@ -116,16 +149,22 @@ static void check_long_row(judge_texts *judge, struct report *report)
     report_answer(report, c, ask(judge, c), 1);
 }
 
-void check_known_rows(judge_texts *judge, struct report *report)
+/* The children's text stays until the next call. */
+static struct call call_of(const char *model, const char *spaced)
 {
     static struct text children;
+    begin(&children, spaced);
+    for (size_t k = 0; k < children.len; k++)
+        if (children.byte[k] == ' ')
+            children.byte[k] = '\t';
+    return (struct call){bytes_of(model), written(&children)};
+}
+
+void check_known_rows(judge_texts *judge, struct report *report)
+{
     check_long_row(judge, report);
     for (size_t i = 0; i < LENGTH(ROWS); i++) {
-        begin(&children, ROWS[i].children);
-        for (size_t k = 0; k < children.len; k++)
-            if (children.byte[k] == ' ')
-                children.byte[k] = '\t';
-        struct call c = {bytes_of(ROWS[i].model), written(&children)};
+        struct call c = call_of(ROWS[i].model, ROWS[i].children);
         report_answer(report, c, ask(judge, c), ROWS[i].answer);
     }
 }
@@ -149,4 +188,25 @@ void check_known_places(place_refusal *model, struct report *report)
         if (answer != 0)
             report_value(report, c, "place", place, TEXTS[i].place);
     }
+}
+
+/* Behind 4,096 children names are listed; 4,097 are refused. */
+static void check_long_lists(next_names *next, struct report *report)
+{
+    static struct text children;
+    begin(&children, "a");
+    put_times(&children, "\ta", 4095);
+    struct bytes model = bytes_of("a[0..*]");
+    check_lists(report, next, (struct call){model, written(&children)}, (struct list){1, {1}});
+    put(&children, "\ta");
+    check_lists(report, next, (struct call){model, written(&children)},
+                (struct list){NO_LIST(36), {0}});
+}
+
+void check_known_lists(next_names *next, struct report *report)
+{
+    check_long_lists(next, report);
+    for (size_t i = 0; i < LENGTH(LISTS); i++)
+        check_list(report, next, call_of(LISTS[i].model, LISTS[i].children), LISTS[i].list,
+                   LISTS[i].places);
 }

@@ -1,11 +1,15 @@
 #include "report.h"
+#include "desk.h"
 
 #include <stdio.h>
 
 enum { SHOWN = 20, SHOWN_BYTES = 200 };
 
-/* Every answer of include/desk.h. */
-static const uint32_t ANSWERS[] = {0, 1, 2, 10, 11, 12, 13, 14, 15, 16, 17, 30, 35, 36};
+/* Every answer of include/desk.h; a list of no names stands as 0 here, one of some names as 1. */
+static const uint32_t OF_JUDGE[] = {0, 1, 2, 10, 11, 12, 13, 14, 15, 16, 17, 30, 35, 36};
+static const uint32_t OF_NEXT[] = {0, 1, 10, 11, 12, 13, 14, 15, 16, 17, 30, 35, 36, 46};
+const struct answers ANSWERS_OF_JUDGE = {OF_JUDGE, LENGTH(OF_JUDGE)};
+const struct answers ANSWERS_OF_NEXT = {OF_NEXT, LENGTH(OF_NEXT)};
 
 static void print_text(const char *title, struct bytes b)
 {
@@ -28,21 +32,33 @@ void report_value(struct report *report, struct call c, const char *what, size_t
     print_text("children", c.children);
 }
 
-void report_answer(struct report *report, struct call c, uint32_t got, uint32_t right)
+static void count(struct report *report, uint32_t answer)
 {
     report->tried++;
-    if (right < LENGTH(report->met))
-        report->met[right]++;
+    if (answer < LENGTH(report->met))
+        report->met[answer]++;
+}
+
+void report_answer(struct report *report, struct call c, uint32_t got, uint32_t right)
+{
+    count(report, right);
     report_value(report, c, "answer", got, right);
 }
 
-int report_end(const struct report *report, const char *title)
+void report_list(struct report *report, struct call c, uint32_t got, uint32_t right)
+{
+    count(report, right < DESK_REFUSED ? right != 0 : right - DESK_REFUSED);
+    report_value(report, c, "answer of the list", got, right);
+}
+
+int report_end(const struct report *report, const char *title, struct answers to_meet)
 {
     unsigned long missing = 0;
     printf("%s: met", title);
-    for (size_t i = 0; i < LENGTH(ANSWERS); i++) {
-        printf(" %u:%lu", ANSWERS[i], report->met[ANSWERS[i]]);
-        missing += report->met[ANSWERS[i]] == 0;
+    for (size_t i = 0; i < to_meet.count; i++) {
+        unsigned long met = report->met[to_meet.number[i]];
+        printf(" %u:%lu", to_meet.number[i], met);
+        missing += met == 0;
     }
     printf("\n%s: %lu tried, %lu different, %lu answers never met\n", title, report->tried,
            report->different, missing);

@@ -1,9 +1,12 @@
-/* Compares the twin with the oracle: answers and places, known, at limits and random. */
+/* Compares the twin with the oracle: answers, places and lists, known, at limits and random. */
 #include "brute.h"
 #include "cases.h"
+#include "lists.h"
 #include "twin.h"
 
 static const struct amounts HOW_MANY = {.small = 60000, .damaged = 60000, .large = 60};
+
+static struct report lists;
 
 static void compare(struct report *to, struct call c)
 {
@@ -12,6 +15,7 @@ static void compare(struct report *to, struct call c)
     twin_model(c.model.at, c.model.len, &twin_place);
     brute_model(c.model.at, c.model.len, &place);
     report_value(to, c, "place", twin_place, place);
+    check_lists(&lists, twin_next, c, list_by(brute_next, c));
 }
 
 int main(void)
@@ -22,7 +26,10 @@ int main(void)
     check_known_texts(twin_judge, &report);
     check_known_places(twin_model, &report);
     check_known_places(brute_model, &report);
+    check_known_lists(twin_next, &lists);
+    check_known_lists(brute_next, &lists);
     try_limits(compare, &report);
     try_random(1, HOW_MANY, compare, &report);
-    return report_end(&report, "twin and oracle");
+    int judged = report_end(&report, "twin and oracle", ANSWERS_OF_JUDGE);
+    return report_end(&lists, "twin and oracle, next names", ANSWERS_OF_NEXT) | judged;
 }

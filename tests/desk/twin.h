@@ -1,4 +1,5 @@
-/* The plain C twin of desk_judge: independent code for the same answers (include/desk.h). */
+/* The plain C twin of desk_judge and desk_next: independent code for the same answers
+   (include/desk.h). */
 #ifndef TWIN_H
 #define TWIN_H
 
@@ -8,6 +9,10 @@
 /* The same arguments and answers as desk_judge. */
 uint32_t twin_judge(const uint8_t *model, size_t model_len,
                     const uint8_t *children, size_t children_len);
+
+/* The same arguments and answers as desk_next. */
+uint32_t twin_next(const uint8_t *model, size_t model_len, const uint8_t *children,
+                   size_t children_len, uint16_t *row, size_t row_len);
 
 /* 0 for a model text, or its refusal, 10 to 17, with its place (counted from 0) in *place. */
 uint32_t twin_model(const uint8_t *text, size_t len, size_t *place);
