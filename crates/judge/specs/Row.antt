@@ -2,6 +2,7 @@
 pub mod Laws
 pub mod Attribute
 pub mod Tally
+pub mod Joined
 pub mod Stack
 pub mod Root
 pub mod Pass

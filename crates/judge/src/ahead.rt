@@ -44,7 +44,7 @@ fn only_if(test: bool, set: u64) -> u64
     if test { set } else { 0 }
 }
 
-fn has_room(count: u16, max: Upper) -> bool
+fn one_more_fits(count: u16, max: Upper) -> bool
     ensures { λ r. ⌜ r ≡ under (suc count) max ⌝ }
 {
     match max {
@@ -102,10 +102,10 @@ pub(crate) fn begin_ahead(length: u16, kind: Kind, seen: Seen, name: usize) -> A
     let part = begin(length, kind, seen);
     match kind {
         Kind::Atom { min: _, max } => {
-            let room = has_room(seen.count, max);
+            let more = one_more_fits(seen.count, max);
             Ahead {
                 part: part,
-                next: only_if(room, single(name)),
+                next: only_if(more, single(name)),
             }
         }
         Kind::Group {

@@ -1,14 +1,14 @@
 -- What the pass over the nodes computes of a type beside its attribute: which of its names may come next. `aheadBy` is the same over a model.
 pub mod Laws
 use mathlib.Core.Bool.{Bool, not, cond, _&&_}
-use mathlib.Core.List.{List, [], _∷_}
+use mathlib.Core.List.{List, []}
 use Prim.Native.Nat.{ℕ, suc}
 use lib.{Dec.eqb, Dec.leb, Dec.ltb, Bits.bitOr, ListN.getD}
 use Rattle.model.specs.{declared.rule.Upper.Upper, declared.rule.Mark.Mark, declared.rule.Kind.Kind, declared.rule.Rule.Rule, Membership.under}
 use Rattle.model.specs.{Rule.used, Types.Operator, Types.sequence, Types.choice, Types.interleaving, Types.Ty, Types.ε, Types.atom, Types.join}
 use Rattle.model.specs.declared.rule.Kind.the-variants.{Atom, Group}
 use Rattle.model.specs.Model.{Algebra, operator, eval}
-use Rattle.judge.specs.{declared.tally.Seen.Seen, declared.ahead.Ahead.Ahead, Next.Set.single}
+use Rattle.judge.specs.{declared.tally.Seen.Seen, declared.ahead.Ahead.Ahead, Row.Joined.joinedAll, Next.Set.single}
 use Rattle.judge.specs.Row.Attribute.{emptyAttribute, atomAttribute, pairAttribute, countedAttribute, markedAttribute}
 
 -- Of a join: t tells whether the row has names of its second member, y′ whether that can be made longer; names of the first member may then come.
@@ -49,14 +49,9 @@ ahead n s (atom a m k) = record { part = atomAttribute m k (s a); next = atomNex
 ahead n s (join o A B) = pairAhead o (ahead n s A) (ahead n s B)
 
 -- over a model: a mark forbids no name
-abbrev pub joinedAheadFrom : Operator → Ahead → List Ahead → Ahead
-joinedAheadFrom o x [] = x
-joinedAheadFrom o x (y ∷ l) = joinedAheadFrom o (pairAhead o x y) l
-
 module _ (n : ℕ) where
   abbrev pub joinedAhead : Operator → List Ahead → Ahead
-  joinedAhead o [] = emptyAhead n
-  joinedAhead o (x ∷ l) = joinedAheadFrom o x l
+  joinedAhead o l = joinedAll (pairAhead o) (emptyAhead n) l
 
   abbrev pub countedAhead : ℕ → ℕ → Upper → Seen → Ahead
   countedAhead a lo hi x = record { part = countedAttribute n lo hi x; next = atomNext a hi x }

@@ -51,12 +51,12 @@ module _ {s i left found : ℕ} (k : Looked s i left found) where
       }
 
 -- The same with the names found: they stand in the first places of a lent row.
-pub record Placed (s : ℕ) (lent : Word) (i left found : ℕ) (row : Word) : Type 0 where
+pub record NamesPut (s : ℕ) (lent : Word) (i left found : ℕ) (row : Word) : Type 0 where
   pub looked : Looked s i left found
   pub row-is : row ≡ namesIn s i ++ drop found lent
   pub whole : length row ≡ length lent
 
-pub placed-none : (s : ℕ) (lent : Word) → Placed s lent 0 s 0 lent
+pub placed-none : (s : ℕ) (lent : Word) → NamesPut s lent 0 s 0 lent
 unfolding keep
 placed-none s lent = record { looked = looked-none s; row-is = refl; whole = refl }
 
@@ -65,13 +65,13 @@ kept-grows p i n h =
     le-ind (λ m. length (keep p (numbersTo i)) ≤ length (keep p (numbersTo m))) (omega arith)
     (λ m _ l. by-test (p (suc m)) (λ e. rw (kept-more p m e, length-append) (omega arith)) (λ e. rw (kept-same p m e) l)) n h
 
-module _ {s i left found : ℕ} {lent row : Word} (k : Placed s lent i left found row) where
+module _ {s i left found : ℕ} {lent row : Word} (k : NamesPut s lent i left found row) where
   -- a row with a place for each name of the set among the first n has one for the next
   pub placed-room : (n : ℕ) → left % 2 ≡ 1 → i < n → length (namesIn s n) ≤ length lent → found < length row
   placed-room n e h g =
       omega (arith, k .whole, looked-turn (k .looked) .found-is, kept-grows (inSet s) (i + 1) n (omega arith))
 
-  pub placed-more : left % 2 ≡ 1 → found < length row → Placed s lent (i + 1) (left / 2) (found + 1) (set row found (i + 1))
+  pub placed-more : left % 2 ≡ 1 → found < length row → NamesPut s lent (i + 1) (left / 2) (found + 1) (set row found (i + 1))
   placed-more e h =
       let r : found < length lent = omega (arith, k .whole) in
       record {
@@ -82,7 +82,7 @@ module _ {s i left found : ℕ} {lent row : Word} (k : Placed s lent i left foun
         whole = rw length-set (k .whole);
       }
 
-  pub placed-same : ¬ (left % 2 ≡ 1) → Placed s lent (i + 1) (left / 2) found row
+  pub placed-same : ¬ (left % 2 ≡ 1) → NamesPut s lent (i + 1) (left / 2) found row
   placed-same n =
       let z : left % 2 ≡ 0 = omega arith in
       record {

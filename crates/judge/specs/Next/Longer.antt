@@ -25,10 +25,10 @@ untouched-ordered p q [] t = refl
 untouched-ordered p q (y ∷ w) t =
     by-test (q y) (λ e. absurd (true≢false (rw e at t))) (λ e. rw e (untouched-ordered p q w (rw e at t)))
 
-over-more : (p : Names) (w : Word) (x : ℕ) → over? p (w ++ (x ∷ [])) ≡ (over? p w && p x)
+over-longer : (p : Names) (w : Word) (x : ℕ) → over? p (w ++ (x ∷ [])) ≡ (over? p w && p x)
 unfolding over?
-over-more p [] x = and-true (p x)
-over-more p (y ∷ w) x = by-test (p y) (λ e. rw e (over-more p w x)) (λ e. rw e)
+over-longer p [] x = and-true (p x)
+over-longer p (y ∷ w) x = by-test (p y) (λ e. rw e (over-longer p w x)) (λ e. rw e)
 
 -- what is done can be made longer, by nothing
 done-alive : (A : Ty) → ConflictFree A → (w : Word) → done A w ≡ true → alive A w ≡ true
@@ -153,7 +153,7 @@ module _ (w : Word) (x : ℕ) where
   pub may-come-is : (A : Ty) → ConflictFree A → mayCome A w x ≡ (over? (symbols A) w && (symbols A x && alive A longer))
   unfolding mayCome verdict holds? extends?
   may-come-is A g =
-      rw (live-is, over-more (symbols A) w x) (
+      rw (live-is, over-longer (symbols A) w x) (
       by-test (done A longer)
       (λ e. rw (e, done-alive A g longer e, and-true (over? (symbols A) w && symbols A x), and-true (symbols A x)) (or-self _))
       (λ e. rw (e, and-false) (and-assoc (over? (symbols A) w) (symbols A x) (alive A longer))))

@@ -8,17 +8,18 @@ use Rattle.model.specs.{declared.rule.Upper.Upper, declared.rule.Sign.Sign, dec
 use Rattle.model.specs.{Word.count}
 use Rattle.model.specs.{Word.Laws.only-self, Word.Laws.either-left, Word.Laws.either-right, Word.Span.touched-behind, Word.Span.ordered-span}
 use Rattle.model.specs.{Types.Operator, Types.Ty, Types.ε, Types.atom, Types.join, Types.symbols, Types.ConflictFree, Membership.under, Membership.alive}
-use Rattle.model.specs.{Tree.atoms, Model.Model, Model.typeBy, Model.typeOf, Model.operator, Model.joinedFrom, Model.Eval.eval-map}
+use Rattle.model.specs.{Tree.atoms, Model.Model, Model.typeBy, Model.typeOf, Model.operator, Model.Eval.eval-map}
 use Rattle.model.specs.{Model.Types.Fits, Model.Types.type-conflict-free, Model.Types.type-symbols, Rule.ruleOf, Rule.names, Rule.ruleType, Rule.used}
 use Rattle.model.specs.{Rule.Laws.rule-eval, Rule.Names.names-model, Check.readable, Check.Exact.readable-formed, Check.Exact.rule-type}
 use Rattle.model.specs.declared.rule.Mark.the-variants.{Plain, Optional}
 use Rattle.judge.specs.{declared.tally.Seen.Seen, declared.ahead.Ahead.Ahead, Row.upto, Row.Attribute.seen, Row.Attribute.attribute}
 use Rattle.judge.specs.{Row.Attribute.attributeOf}
-use Rattle.judge.specs.{Row.Attribute.attribute-is, Row.Pass.eval-same, Row.Pass.over-known, Next.numbersTo, Next.nextNames, Next.mayCome}
+use Rattle.judge.specs.{Row.Attribute.attribute-is, Row.Joined.carried, Row.Pass.eval-same, Row.Pass.over-known, Next.numbersTo, Next.nextNames}
+use Rattle.judge.specs.{Next.mayCome}
 use Rattle.judge.specs.{Next.Laws.kept-agreeing, Next.Longer.join-comes, Next.Longer.atom-comes, Next.Longer.may-come-is, Next.Set.single}
 use Rattle.judge.specs.{Next.Set.inSet}
 use Rattle.judge.specs.Next.Set.Laws.{in-none, in-either, in-only-if, in-single}
-use Rattle.judge.specs.Next.Ahead.{firstOpen, secondOpen, pairAhead, emptyAhead, ahead, joinedAheadFrom, aheadBy, rootAhead, seenNext}
+use Rattle.judge.specs.Next.Ahead.{firstOpen, secondOpen, pairAhead, emptyAhead, ahead, aheadBy, rootAhead, seenNext}
 
 -- the attribute beside the set
 part-is : (n : ℕ) (s : ℕ → Seen) (A : Ty) → ahead n s A .part ≡ attribute n s A
@@ -68,15 +69,9 @@ module _ (n : ℕ) (s : ℕ → Seen) where
   ahead-atom a zero hi = rw none-or
   ahead-atom a (suc lo) hi = refl
 
-  ahead-from : (o : Operator) (A : Ty) (l : List Ty) → ahead n s (joinedFrom o A l) ≡ joinedAheadFrom o (ahead n s A) (map (ahead n s) l)
-  unfolding ahead
-  ahead-from o A [] = refl
-  ahead-from o A (B ∷ l) = ahead-from o (join o A B) l
-
   ahead-group : (a : ℕ) (sign : Sign) (l : List Ty) → ahead n s (typeBy .onGroup a sign l) ≡ aheadBy n s .onGroup a sign (map (ahead n s) l)
   unfolding ahead
-  ahead-group a sign [] = refl
-  ahead-group a sign (A ∷ l) = ahead-from (operator sign) A l
+  ahead-group a sign l = carried (ahead n s) pairAhead (λ o B C. refl) (emptyAhead n) refl (operator sign) l
 
   ahead-mark : (m : Mark) (A : Ty) → ahead n s (typeBy .onMark m A) ≡ aheadBy n s .onMark m (ahead n s A)
   unfolding ahead

@@ -8,8 +8,8 @@ use Rattle.model.specs.declared.rule.Mark.the-variants.{Plain, Optional}
 use Rattle.model.specs.Word.Span.{firstPlace, lastBehind, first-untouched, behind-untouched, touched-behind, ordered-span, first-either, behind-either}
 use Rattle.model.specs.Types.{Operator, choice, Ty, ε, atom, join, symbols, ConflictFree}
 use Rattle.model.specs.Membership.{under, joined, begun, done, alive}
-use Rattle.model.specs.Model.{Algebra, operator, joinedFrom, joinedType, typeBy}
-use Rattle.judge.specs.{declared.tally.Seen.Seen, declared.attribute.Attribute.Attribute}
+use Rattle.model.specs.Model.{Algebra, operator, typeBy}
+use Rattle.judge.specs.{declared.tally.Seen.Seen, declared.attribute.Attribute.Attribute, Row.Joined.joinedAll, Row.Joined.carried}
 
 abbrev pub emptyAttribute : ℕ → Attribute
 emptyAttribute n = record { first = n; behind = 0; done = true; alive = true }
@@ -61,18 +61,13 @@ attribute-is (join o A B) g w =
     )
 
 -- the attributes of a model's nodes, each as the type of that node has it
-abbrev pub joinedAttributeFrom : Operator → Attribute → List Attribute → Attribute
-joinedAttributeFrom o x [] = x
-joinedAttributeFrom o x (y ∷ l) = joinedAttributeFrom o (pairAttribute o x y) l
-
 module _ (n : ℕ) where
   abbrev pub countedAttribute : ℕ → Upper → Seen → Attribute
   countedAttribute zero k x = pairAttribute choice (emptyAttribute n) (atomAttribute 1 k x)
   countedAttribute (suc m) k x = atomAttribute (suc m) k x
 
   abbrev pub joinedAttribute : Operator → List Attribute → Attribute
-  joinedAttribute o [] = emptyAttribute n
-  joinedAttribute o (x ∷ l) = joinedAttributeFrom o x l
+  joinedAttribute o l = joinedAll (pairAttribute o) (emptyAttribute n) l
 
   abbrev pub markedAttribute : Mark → Attribute → Attribute
   markedAttribute Plain x = x
@@ -93,20 +88,10 @@ module _ (n : ℕ) (s : ℕ → Seen) where
   attribute-atom a zero hi = refl
   attribute-atom a (suc lo) hi = refl
 
-  attribute-from : (o : Operator) (A : Ty) (l : List Ty)
-      → attribute n s (joinedFrom o A l) ≡ joinedAttributeFrom o (attribute n s A) (map (attribute n s) l)
-  unfolding attribute
-  attribute-from o A [] = refl
-  attribute-from o A (B ∷ l) = attribute-from o (join o A B) l
-
-  attribute-joined : (o : Operator) (l : List Ty) → attribute n s (joinedType o l) ≡ joinedAttribute n o (map (attribute n s) l)
-  unfolding attribute
-  attribute-joined o [] = refl
-  attribute-joined o (A ∷ l) = attribute-from o A l
-
   pub attribute-group : (a : ℕ) (sign : Sign) (l : List Ty)
       → attribute n s (typeBy .onGroup a sign l) ≡ attributeBy n s .onGroup a sign (map (attribute n s) l)
-  attribute-group a sign l = attribute-joined (operator sign) l
+  unfolding attribute
+  attribute-group a sign l = carried (attribute n s) pairAttribute (λ o B C. refl) (emptyAttribute n) refl (operator sign) l
 
   pub attribute-mark : (m : Mark) (A : Ty) → attribute n s (typeBy .onMark m A) ≡ attributeBy n s .onMark m (attribute n s A)
   unfolding attribute

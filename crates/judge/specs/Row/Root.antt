@@ -1,13 +1,11 @@
 -- The second pass over a row: the attributes that it computes, member by member, and at its end that of the first node.
 use mathlib.Core.{Path._≡_, Path.refl, Bool.Bool, Bool.cond, List.List, List.[], List._∷_, List._++_}
 use Prim.Native.Nat.{ℕ, zero, suc}
-use native.Mathlib.Omega.{arith}
 use lib.{Dec.eqb, ListN.length, ListN.getD}
-use borrow.Author.Tests.{ne-eqb}
-use Rattle.model.specs.{declared.rule.Upper.Upper, declared.rule.Kind.Kind, declared.rule.Rule.Rule, Types.Operator, Rule.used, Model.operator, Model.eval}
+use Rattle.model.specs.{declared.rule.Upper.Upper, declared.rule.Kind.Kind, declared.rule.Rule.Rule, Rule.used, Model.operator, Model.eval}
 use Rattle.model.specs.declared.rule.Kind.the-variants.{Atom, Group}
-use Rattle.judge.specs.{declared.tally.Seen.Seen, declared.attribute.Attribute.Attribute, Row.Stack.Parts}
-use Rattle.judge.specs.Row.Attribute.{emptyAttribute, atomAttribute, pairAttribute, countedAttribute, joinedAttributeFrom, joinedAttribute, attributeBy}
+use Rattle.judge.specs.{declared.tally.Seen.Seen, declared.attribute.Attribute.Attribute, Row.Stack.Parts, Row.Joined.members-more}
+use Rattle.judge.specs.Row.Attribute.{emptyAttribute, atomAttribute, pairAttribute, countedAttribute, joinedAttribute, attributeBy}
 
 -- of the first node of a rule, in a row of n children
 abbrev pub rootAttribute : Rule → ℕ → (ℕ → Seen) → Attribute
@@ -27,18 +25,11 @@ pub counted-from : (n m : ℕ) (k : Upper) (x : Seen) → ¬ (m ≡ 0) → count
 counted-from n zero k x h = absurd (h refl)
 counted-from n (suc m) k x h = refl
 
-joined-more : (o : Operator) (x : Attribute) (l : List Attribute) (y : Attribute)
-    → joinedAttributeFrom o x (l ++ (y ∷ [])) ≡ pairAttribute o (joinedAttributeFrom o x l) y
-joined-more o x [] y = refl
-joined-more o x (z ∷ l) y = joined-more o (pairAttribute o x z) l y
-
 part-more : (n : ℕ) (κ : Kind) (z : Seen) (l : List Attribute) (y : Attribute)
     → partAttribute n κ z (l ++ (y ∷ [])) ≡ grownAttribute κ (eqb (length l) 0) (partAttribute n κ z l) y
 unfolding partAttribute grownAttribute
 part-more n (Atom lo hi) z l y = refl
-part-more n (Group s m) z [] y = refl
-part-more n (Group s m) z (x ∷ l) y =
-    let e = ne-eqb (suc (length l)) 0 (λ f. omega arith) in rw e (joined-more (operator s) x l y)
+part-more n (Group s m) z l y = members-more (pairAttribute (operator s)) (emptyAttribute n) l y
 
 -- the attributes of nodes, member by member
 pub attribute-parts : (n : ℕ) (s : ℕ → Seen) → Parts (attributeBy n s) (λ κ a l. partAttribute n κ (s a) l) grownAttribute

@@ -4,12 +4,12 @@ use native.Mathlib.Omega.{arith}
 use mathlib.Core.{Path._≡_, Logic.⊎-elim}
 use Prim.Native.Nat.{_≤_, _<_, _-_, _%_}
 use lib.ListN.{length}
-use Rattle.judge.specs.Next.Code.{Placed, placed-none, placed-more, placed-room, placed-same, placed-all, looked-few}
+use Rattle.judge.specs.Next.Code.{NamesPut, placed-none, placed-more, placed-room, placed-same, placed-all, looked-few}
 use Rattle.judge.proofs.next.put_names.Statement.{statement}
 use Rattle.judge.proofs.next.put_names.Tie as tie
 
 abbrev Inv-loop : tie.InvT-loop
-Inv-loop set n row₀ left₀ found₀ i₀ row left found i = (i ≤ n) × Placed set row₀ i left found row
+Inv-loop set n row₀ left₀ found₀ i₀ row left found i = (i ≤ n) × NamesPut set row₀ i left found row
 
 abbrev μ-loop : tie.MeasureT-loop
 μ-loop set n row₀ left₀ found₀ i₀ row left found i = n - i
