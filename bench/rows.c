@@ -11,6 +11,8 @@ enum {
     MANY_LONG = 1985, /* children of the longest name: more have no room in a children text */
 };
 
+static const char ANY[] = "[0..*]", ONCE[] = "";
+
 struct list {
     char name[NAMES][LONGEST + 1];
 };
@@ -117,16 +119,24 @@ static void add_child(struct row *row, const char *name)
     put(&row->children, name);
 }
 
-/* A group of the first n names, each with the same count or mark behind it. */
-static void group_of(struct row *row, const struct list *list, int n, const char *sign,
-                     const char *behind)
+/* The names `from` to n - 1 as members, each with the same count or mark behind it; the first name
+   of the list has no sign before it. */
+static void members_of(struct row *row, const struct list *list, int from, int n, const char *sign,
+                       const char *behind)
 {
-    put(&row->model, "(");
-    for (int i = 0; i < n; i++) {
+    for (int i = from; i < n; i++) {
         put(&row->model, i == 0 ? "" : sign);
         put(&row->model, list->name[i]);
         put(&row->model, behind);
     }
+}
+
+/* A group of the first n names. */
+static void group_of(struct row *row, const struct list *list, int n, const char *sign,
+                     const char *behind)
+{
+    put(&row->model, "(");
+    members_of(row, list, 0, n, sign, behind);
     put(&row->model, ")");
 }
 
@@ -141,17 +151,20 @@ static void interleaving(struct row *row, int n)
 static void disorder(struct row *row, const struct list *list, int children)
 {
     uint32_t random = 1;
-    group_of(row, list, NAMES, "&", "[0..*]");
+    group_of(row, list, NAMES, "&", ANY);
     for (int i = 0; i < children; i++) {
         random = random * 1664525u + 1013904223u;
         add_child(row, list->name[random >> 26]);
     }
 }
 
-/* One child less than many, in the order of the model. */
-static void order(struct row *row, const struct list *list)
+/* One child less than many, in the order of the model; the first name has a count of its own. */
+static void order(struct row *row, const struct list *list, const char *first)
 {
-    group_of(row, list, NAMES, ",", "[0..*]");
+    put(&row->model, "(");
+    members_of(row, list, 0, 1, ",", first);
+    members_of(row, list, 1, NAMES, ",", ANY);
+    put(&row->model, ")");
     for (int i = 0; i < MANY - 1; i++)
         add_child(row, list->name[i * NAMES / MANY]);
 }
@@ -193,7 +206,7 @@ static void many_names(struct row *row) { disorder(row, &WORDS, MANY); }
 /* The first name comes once more, behind names that it has to precede. */
 static void dead_at_last(struct row *row)
 {
-    order(row, &WORDS);
+    order(row, &WORDS, ANY);
     add_child(row, WORDS.name[0]);
 }
 
@@ -212,15 +225,28 @@ static void smallest(struct row *row)
 static void numbers(struct row *row) { disorder(row, numbered("name"), MANY); }
 
 /* A foreign name, which looks like the others, comes first. */
-static void numbers_dead_at_first(struct row *row)
+static void numbers_foreign_at_first(struct row *row)
 {
     add_child(row, "name00");
-    order(row, numbered("name"));
+    order(row, numbered("name"), ANY);
+}
+
+/* The first name may stand once, and the second child has it again. */
+static void numbers_second_too_many(struct row *row)
+{
+    add_child(row, "name01");
+    order(row, numbered("name"), ONCE);
+}
+
+static void numbers_foreign_at_last(struct row *row)
+{
+    order(row, numbered("name"), ANY);
+    add_child(row, "name00");
 }
 
 static void numbers_dead_at_last(struct row *row)
 {
-    order(row, numbered("name"));
+    order(row, numbered("name"), ANY);
     add_child(row, "name01");
 }
 
@@ -255,7 +281,9 @@ static const struct {
     {"model text alone", 1, model_alone},
     {"model a, child a", 0, smallest},
     {"name01 to name64, 4,096 children", 0, numbers},
-    {"name01 to name64, dead at the first", 2, numbers_dead_at_first},
+    {"name01 to name64, foreign at the first", 2, numbers_foreign_at_first},
+    {"name01 to name64, second one too many", 2, numbers_second_too_many},
+    {"name01 to name64, foreign at the last", 2, numbers_foreign_at_last},
     {"name01 to name64, dead at the last", 2, numbers_dead_at_last},
     {"64 names, 30 first bytes equal", 0, long_beginning},
     {"64 names, 30 last bytes equal", 0, long_end},
@@ -273,14 +301,19 @@ void make_row(struct row *row, int i)
     PLAN[i].make(row);
 }
 
+struct call call_of(const struct row *row)
+{
+    return (struct call){written(&row->model), written(&row->children)};
+}
+
 struct question question_of(judge_texts *judge, const struct row *row)
 {
-    return (struct question){judge, {written(&row->model), written(&row->children)}};
+    return (struct question){judge, call_of(row)};
 }
 
 struct next_question next_question_of(next_names *next, const struct row *row)
 {
-    return (struct next_question){next, {written(&row->model), written(&row->children)}, {0}};
+    return (struct next_question){next, call_of(row), {0}};
 }
 
 static volatile uint32_t sink; /* keeps the calls */

@@ -11,12 +11,14 @@ struct row {
 };
 
 /* The last rows have names of one slot, or of one key. */
-enum { ROWS = 19, FIRST_OF_ONE_SLOT = 17, MOST_NAMES = 64 };
+enum { ROWS = 21, FIRST_OF_ONE_SLOT = 19, MOST_NAMES = 64 };
 
 /* Row i, from 0. */
 void make_row(struct row *row, int i);
 
-/* A judge and what it is asked. */
+struct call call_of(const struct row *row);
+
+/* A judge, or a finder of faults, and what it is asked. */
 struct question {
     judge_texts *judge;
     struct call call;

@@ -1,16 +1,24 @@
-/* Prints the table of desk_judge against its twin and that of desk_next against desk_judge, in
-   Markdown. Each argument is a file with what bench.c printed at one placement of the code; a row's
-   figures are medians over the placements. */
+/* Prints the table of desk_judge against its twin and those of desk_next and of desk_first_fault
+   against desk_judge, in Markdown. Each argument is a file with what bench.c printed at one
+   placement of the code; a row's figures are medians over the placements. */
 #include "measure.h"
 #include "rows.h"
 
 #include <stdio.h>
 #include <stdlib.h>
 
-/* The ratios to reach. */
-static const double LIMIT = 1.3, LIMIT_OF_ONE_SLOT = 4, LIMIT_OF_MEDIAN = 1.1, LIMIT_OF_NEXT = 1.5;
+enum { TABLES = 3, MOST_PLACEMENTS = 64 };
 
-enum { MOST_PLACEMENTS = 64 };
+/* The heads of two columns and the ratios to reach; 0 where no other one is set for names of one
+   slot, or none for the median. */
+static const struct table {
+    const char *ns, *against;
+    double limit, limit_of_one_slot, limit_of_median;
+} TABLE[TABLES] = {
+    {"desk ns", "twin ns", 1.3, 4, 1.1},
+    {"next ns", "judge ns", 1.5, 0, 0},
+    {"fault ns", "judge ns", 1.1, 0, 0},
+};
 
 /* What a row took, at each placement, and what it is measured against. */
 struct record {
@@ -18,7 +26,7 @@ struct record {
     double ratio[MOST_PLACEMENTS], noise[MOST_PLACEMENTS];
 };
 
-static struct record judge[ROWS], next[ROWS];
+static struct record record[TABLES][ROWS];
 
 static void read_record(FILE *file, struct record *r, int p)
 {
@@ -31,10 +39,9 @@ static void read_placement(const char *path, int p)
     FILE *file = fopen(path, "r");
     if (file == NULL)
         abort();
-    for (int i = 0; i < ROWS; i++) {
-        read_record(file, &judge[i], p);
-        read_record(file, &next[i], p);
-    }
+    for (int i = 0; i < ROWS; i++)
+        for (int t = 0; t < TABLES; t++)
+            read_record(file, &record[t][i], p);
     fclose(file);
 }
 
@@ -82,32 +89,23 @@ static void print_head(const char *ns, const char *against)
     puts("|---|---|---|---|---|---|---|---|");
 }
 
-static void print_judge(int placements)
+static void print_table(const struct table *t, struct record *r, int placements)
 {
     static struct row row;
     double ratios[ROWS];
-    print_head("desk ns", "twin ns");
+    int apart = t->limit_of_one_slot != 0 ? FIRST_OF_ONE_SLOT : ROWS; /* rows with another limit */
+    print_head(t->ns, t->against);
     for (int i = 0; i < ROWS; i++) {
         make_row(&row, i);
-        ratios[i] = print_row(row.title, &judge[i], placements,
-                              i < FIRST_OF_ONE_SLOT ? LIMIT : LIMIT_OF_ONE_SLOT);
+        ratios[i] = print_row(row.title, &r[i], placements,
+                              i < apart ? t->limit : t->limit_of_one_slot);
     }
-    print_last("worst", greatest(ratios, FIRST_OF_ONE_SLOT), LIMIT);
-    print_last("worst, names of one slot",
-               greatest(ratios + FIRST_OF_ONE_SLOT, ROWS - FIRST_OF_ONE_SLOT), LIMIT_OF_ONE_SLOT);
-    print_last("median", median(ratios, ROWS), LIMIT_OF_MEDIAN);
-}
-
-static void print_next(int placements)
-{
-    static struct row row;
-    double ratios[ROWS];
-    print_head("next ns", "judge ns");
-    for (int i = 0; i < ROWS; i++) {
-        make_row(&row, i);
-        ratios[i] = print_row(row.title, &next[i], placements, LIMIT_OF_NEXT);
-    }
-    print_last("worst", greatest(ratios, ROWS), LIMIT_OF_NEXT);
+    print_last("worst", greatest(ratios, apart), t->limit);
+    if (apart < ROWS)
+        print_last("worst, names of one slot", greatest(ratios + apart, ROWS - apart),
+                   t->limit_of_one_slot);
+    if (t->limit_of_median != 0)
+        print_last("median", median(ratios, ROWS), t->limit_of_median);
 }
 
 int main(int count, char **path)
@@ -117,8 +115,10 @@ int main(int count, char **path)
         return 2;
     for (int p = 0; p < placements; p++)
         read_placement(path[p + 1], p);
-    print_judge(placements);
-    putchar('\n');
-    print_next(placements);
+    for (int t = 0; t < TABLES; t++) {
+        if (t > 0)
+            putchar('\n');
+        print_table(&TABLE[t], record[t], placements);
+    }
     return 0;
 }

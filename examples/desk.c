@@ -1,6 +1,6 @@
 /* A client of the desk: judges the children named on the command line by the model of the example,
-   says the verdict in words, and which names may come next. Without names it judges a cue that is
-   still open. */
+   says the verdict in words, the first child that is foreign or one too many, if any, and which
+   names may come next. Without names it judges a cue that is still open. */
 #include "desk.h"
 
 #include <stdio.h>
@@ -61,6 +61,20 @@ static void print_name(uint16_t number)
     printf(" %.*s", (int)strspn(name, NAME_BYTES), name);
 }
 
+/* Where there is a verdict, nothing is refused here either, and a zero stands behind the children.
+   People count children from 1. */
+static void print_fault(const char *children, size_t len)
+{
+    uint32_t place = desk_first_fault((const uint8_t *)MODEL, strlen(MODEL),
+                                      (const uint8_t *)children, len);
+    if (place >= DESK_NO_FAULT)
+        return;
+    const char *name = children;
+    for (uint32_t passed = 0; passed < place; passed++)
+        name = strchr(name, '\t') + 1;
+    printf("fault: %.*s, child %u\n", (int)strcspn(name, "\t"), name, (unsigned)place + 1);
+}
+
 /* Where there is a verdict and room for every name, desk_next refuses nothing. */
 static void print_next(const char *children, size_t len)
 {
@@ -86,6 +100,7 @@ int main(int argc, char **argv)
     puts(in_words(answer));
     if (answer > 2)
         return 1;
+    print_fault(children, len);
     print_next(children, len);
     return 0;
 }

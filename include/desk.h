@@ -1,5 +1,5 @@
-/* The desk: judges a row of children by a model, and lists the names that may come next. Link with
-   libdesk.a (rt staticlib desk).
+/* The desk: judges a row of children by a model, lists the names that may come next, and finds the
+   first child that is foreign or one too many. Link with libdesk.a (rt staticlib desk).
 
    A model text is one member: `(axis,target,(crawl&gather)?,hold[0..2])`. A children text is names
    parted by tabs; no bytes mean no children, and then the pointer may be null. Texts are bytes with
@@ -38,7 +38,17 @@
    Answer             When
    below DESK_REFUSED how many names are listed, at most 64
    DESK_REFUSED + n   nothing is written: n is a refusal from 10 to 36 above, else
-                  46  the lent row is shorter than the list */
+                  46  the lent row is shorter than the list
+
+   desk_first_fault finds the first child that is foreign, its name not in the model, or one too
+   many of its name: up to and with it the name stands more often than the upper count of its atom
+   allows, n for a[m..n] and 1 for a; a[m..*] allows any number. Order, signs and marks play no
+   part: a row with such a child is dead, but not every dead row has one. It writes nothing.
+
+   Answer             When
+   0 to 4,095         the place of that child; the first child is at place 0
+   DESK_NO_FAULT      there is none
+   DESK_REFUSED + n   n is a refusal from 10 to 36 above, wherever such a child is */
 #ifndef DESK_H
 #define DESK_H
 
@@ -50,12 +60,16 @@ extern "C" {
 #endif
 
 #define DESK_REFUSED UINT32_C(2147483648)
+#define DESK_NO_FAULT UINT32_C(65535)
 
 uint32_t desk_judge(const uint8_t *model, size_t model_len,
                     const uint8_t *children, size_t children_len);
 
 uint32_t desk_next(const uint8_t *model, size_t model_len,
                    const uint8_t *children, size_t children_len, uint16_t *row, size_t row_len);
+
+uint32_t desk_first_fault(const uint8_t *model, size_t model_len,
+                          const uint8_t *children, size_t children_len);
 
 #ifdef __cplusplus
 }

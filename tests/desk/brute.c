@@ -8,7 +8,10 @@
    further ways must agree on small inputs: membership by definition 2.1 word for word, and a search
    through derived types for a longer row.
 
-   Next names: the verdict on the row with each name behind it. */
+   Next names: the verdict on the row with each name behind it.
+
+   First fault: the first child with which the row begins no row of a looser model any more, the one
+   of the same names in any order, each at most as often as its upper count. */
 #include "brute.h"
 
 #include <stdbool.h>
@@ -358,6 +361,7 @@ struct piece {
 struct model {
     struct pool *pool;
     struct piece name[64];
+    long max[64]; /* the upper count of each name; -1: no upper end */
     size_t names;
     bool small; /* low counts: the search through derived types ends soon */
 };
@@ -376,6 +380,7 @@ static const struct type *type_of_atom(struct model *model, const uint8_t *text,
         min = strtol((const char *)text + n + 1, &end, 10);
         max = end[2] == '*' ? -1 : strtol(end + 2, &end, 10);
     }
+    model->max[name] = max;
     if (min > 9 || max > 9)
         model->small = false;
     if (min > 0)
@@ -569,11 +574,23 @@ static bool search(struct pool *pool, const struct type *from, size_t names)
     return found;
 }
 
-/* ---- the verdict ---- */
+/* ---- answers on a row ---- */
 
 enum { FEW_NAMES = 6 };
 
-static const uint32_t REFUSED = 2147483648; /* is added to a refusal where a list is asked for */
+static const uint32_t REFUSED = 2147483648; /* is added to a refusal, save the judge's */
+static const uint32_t NO_FAULT = 65535;
+
+/* The answer on a row of n by a model and its type. The row has room for one name more; names are
+   listed in `list`. */
+typedef uint32_t answer_row(struct model *model, const struct type *type, uint8_t *row, size_t n,
+                            uint16_t *list);
+
+struct asked {
+    answer_row *answer;
+    uint16_t *list;   /* null where no list is asked for */
+    uint32_t refused; /* is added to a refusal */
+};
 
 static const struct type *derive_row(struct pool *pool, const struct type *t, const uint8_t *row,
                                      size_t n)
@@ -596,10 +613,18 @@ static uint32_t verdict(struct model *model, const struct type *type, const stru
     return complete ? 0 : possible ? 1 : 2;
 }
 
-/* How many names may come next, written into the list; there is room for one more in the row. */
-static uint32_t list_next(struct model *model, const struct type *type, const struct type *rest,
-                          uint8_t *row, size_t n, uint16_t *list)
+static uint32_t judge(struct model *model, const struct type *type, uint8_t *row, size_t n,
+                      uint16_t *list)
 {
+    (void)list;
+    return verdict(model, type, derive_row(model->pool, type, row, n), row, n);
+}
+
+/* How many names may come next, written into the list. */
+static uint32_t list_next(struct model *model, const struct type *type, uint8_t *row, size_t n,
+                          uint16_t *list)
+{
+    const struct type *rest = derive_row(model->pool, type, row, n);
     uint32_t listed = 0;
     for (size_t name = 0; name < model->names; name++) {
         row[n] = (uint8_t)name;
@@ -610,6 +635,29 @@ static uint32_t list_next(struct model *model, const struct type *type, const st
             list[listed++] = (uint16_t)(name + 1);
     }
     return listed;
+}
+
+/* The names of the model in any order, each at most as often as its upper count. */
+static const struct type *loosened(const struct model *model)
+{
+    const struct type *empty = leaf(model->pool, EMPTY_ROW), *all = empty;
+    for (size_t name = 0; name < model->names; name++)
+        all = both(model->pool, SHUFFLE, all,
+                   either(model->pool, empty, atom(model->pool, name, 1, model->max[name])));
+    return all;
+}
+
+static uint32_t first_fault(struct model *model, const struct type *type, uint8_t *row, size_t n,
+                            uint16_t *list)
+{
+    (void)type, (void)list;
+    const struct type *rest = loosened(model);
+    for (size_t i = 0; i < n; i++) {
+        rest = derive(model->pool, rest, row[i]);
+        if (barren(rest))
+            return (uint32_t)i;
+    }
+    return NO_FAULT;
 }
 
 /* ---- children ---- */
@@ -650,9 +698,9 @@ static uint8_t number_of(const struct model *model, struct piece child)
     return FOREIGN;
 }
 
-/* The verdict, or with a list to fill how many names may come next. */
+/* The children's numbers by a good model text, and the answer on them. */
 static uint32_t answer_children(const uint8_t *text, size_t len, const struct piece *children,
-                                size_t n, uint16_t *list)
+                                size_t n, struct asked asked)
 {
     struct model model = {.pool = calloc(1, sizeof(struct pool)), .small = true};
     uint8_t *row = grown(NULL, n + 1);
@@ -661,9 +709,7 @@ static uint32_t answer_children(const uint8_t *text, size_t len, const struct pi
     const struct type *type = type_of(&model, text, len);
     for (size_t i = 0; i < n; i++)
         row[i] = number_of(&model, children[i]);
-    const struct type *rest = derive_row(model.pool, type, row, n);
-    uint32_t answer = list == NULL ? verdict(&model, type, rest, row, n)
-                                   : list_next(&model, type, rest, row, n, list);
+    uint32_t answer = asked.answer(&model, type, row, n, asked.list);
     free(row);
     free_pool(model.pool);
     return answer;
@@ -671,22 +717,21 @@ static uint32_t answer_children(const uint8_t *text, size_t len, const struct pi
 
 /* ---- both texts ---- */
 
-/* The same of two texts, or their refusal. */
+/* The refusal of the texts, or the answer on the row. */
 static uint32_t answer_texts(const uint8_t *model, size_t model_len, const uint8_t *children,
-                             size_t children_len, uint16_t *list)
+                             size_t children_len, struct asked asked)
 {
-    const uint32_t refused = list == NULL ? 0 : REFUSED;
     size_t place;
     uint32_t refusal = brute_model(model, model_len, &place);
     if (refusal != 0)
-        return refused + refusal;
+        return asked.refused + refusal;
     if (children_len > 65535)
-        return refused + 30;
+        return asked.refused + 30;
     struct piece *pieces = grown(NULL, (children_len + 1) * sizeof *pieces);
     size_t n = split(children, children_len, pieces);
     refusal = children_refusal(pieces, n);
-    uint32_t answer = refusal != 0 ? refused + refusal
-                                   : answer_children(model, model_len, pieces, n, list);
+    uint32_t answer = refusal != 0 ? asked.refused + refusal
+                                   : answer_children(model, model_len, pieces, n, asked);
     free(pieces);
     return answer;
 }
@@ -694,14 +739,15 @@ static uint32_t answer_texts(const uint8_t *model, size_t model_len, const uint8
 uint32_t brute_judge(const uint8_t *model, size_t model_len,
                      const uint8_t *children, size_t children_len)
 {
-    return answer_texts(model, model_len, children, children_len, NULL);
+    return answer_texts(model, model_len, children, children_len, (struct asked){judge, NULL, 0});
 }
 
 uint32_t brute_next(const uint8_t *model, size_t model_len, const uint8_t *children,
                     size_t children_len, uint16_t *row, size_t row_len)
 {
     uint16_t list[64];
-    uint32_t answer = answer_texts(model, model_len, children, children_len, list);
+    uint32_t answer = answer_texts(model, model_len, children, children_len,
+                                   (struct asked){list_next, list, REFUSED});
     if (answer >= REFUSED)
         return answer;
     if (answer > row_len)
@@ -709,4 +755,11 @@ uint32_t brute_next(const uint8_t *model, size_t model_len, const uint8_t *child
     for (uint32_t i = 0; i < answer; i++)
         row[i] = list[i];
     return answer;
+}
+
+uint32_t brute_first_fault(const uint8_t *model, size_t model_len,
+                           const uint8_t *children, size_t children_len)
+{
+    return answer_texts(model, model_len, children, children_len,
+                        (struct asked){first_fault, NULL, REFUSED});
 }

@@ -19,4 +19,8 @@ uint32_t brute_judge(const uint8_t *model, size_t model_len,
 uint32_t brute_next(const uint8_t *model, size_t model_len, const uint8_t *children,
                     size_t children_len, uint16_t *row, size_t row_len);
 
+/* The answer that desk_first_fault has to give. */
+uint32_t brute_first_fault(const uint8_t *model, size_t model_len,
+                           const uint8_t *children, size_t children_len);
+
 #endif

@@ -1,4 +1,4 @@
-/* One call of a judge, or of a lister of next names. */
+/* One call of a judge, of a lister of next names, or of a finder of faults. */
 #ifndef CALL_H
 #define CALL_H
 
@@ -7,6 +7,9 @@
 /* desk_judge, and whatever answers as it does */
 typedef uint32_t judge_texts(const uint8_t *model, size_t model_len,
                              const uint8_t *children, size_t children_len);
+
+/* desk_first_fault, and whatever answers as it does; it is asked as a judge is */
+typedef judge_texts find_fault;
 
 /* desk_next, and whatever answers as it does */
 typedef uint32_t next_names(const uint8_t *model, size_t model_len, const uint8_t *children,

@@ -18,6 +18,12 @@ void check_known_places(place_refusal *model, struct report *report);
 /* Lists of next names that stand in document 02 or follow from it. */
 void check_known_lists(next_names *next, struct report *report);
 
+/* First faults that follow from document 02. */
+void check_known_faults(find_fault *find, struct report *report);
+
+/* The texts of all these. */
+void try_known(try_call *f, struct report *to);
+
 /* Model texts at and past every limit, and children texts likewise. */
 void try_limits(try_call *f, struct report *to);
 

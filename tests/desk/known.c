@@ -109,7 +109,7 @@ static const struct {
 };
 
 #define EXAMPLE "(axis,target,(crawl&gather)?,hold[0..2])"
-#define NO_LIST(n) (DESK_REFUSED + (n))
+#define REFUSAL(n) (DESK_REFUSED + (n))
 
 /* The names that may come next; ROOM is room for every name. */
 enum { ROOM = 64 };
@@ -130,13 +130,83 @@ static const struct {
     {EXAMPLE, "axis stage", ROOM, {0, {0}}},
     /* a lent row that is just long enough, and one that is too short */
     {EXAMPLE, "axis target", 3, {3, {3, 4, 5}}},
-    {EXAMPLE, "axis target", 2, {NO_LIST(46), {0}}},
+    {EXAMPLE, "axis target", 2, {REFUSAL(46), {0}}},
     {"()", "", 0, {0, {0}}},
     {"a", "a", 0, {0, {0}}},
-    {"a", "", 0, {NO_LIST(46), {0}}},
+    {"a", "", 0, {REFUSAL(46), {0}}},
     /* 46 comes behind every refusal of a text */
-    {"a??", "A", 0, {NO_LIST(11), {0}}},
-    {"a", "A", 0, {NO_LIST(35), {0}}},
+    {"a??", "A", 0, {REFUSAL(11), {0}}},
+    {"a", "A", 0, {REFUSAL(35), {0}}},
+};
+
+/* The first child that is foreign or one too many. */
+static const struct {
+    const char *model, *children;
+    uint32_t answer;
+} FAULTS[] = {
+    {"(a,b)", "", DESK_NO_FAULT},
+    {"(a,b)", "x", 0},
+    {"(a,b)", "a x", 1},
+    {"(a,b)", "a a", 1},
+    {"(a,b)", "a b b", 2},
+    {"(a,b)", "a b a", 2},
+    {"()", "", DESK_NO_FAULT},
+    {"()", "a", 0},
+    /* the upper count alone */
+    {"a[0..2]", "a a", DESK_NO_FAULT},
+    {"a[0..2]", "a a a", 2},
+    {"a[2..2]", "a", DESK_NO_FAULT},
+    {"a[3..*]", "a a a a", DESK_NO_FAULT},
+    {EXAMPLE, "axis target hold hold hold", 4},
+    /* dead by order, by exclusion, by too few of a name: no fault */
+    {"(a,b)", "b a", DESK_NO_FAULT},
+    {"(a|b)", "a b", DESK_NO_FAULT},
+    {"(a[2..3],b)", "a b", DESK_NO_FAULT},
+    {EXAMPLE, "hold hold gather target axis crawl", DESK_NO_FAULT},
+    /* a mark allows no more of a name */
+    {"a?", "a a", 1},
+    {"((a|b)?&c[0..*])?", "c b c a c a", 5},
+    /* the first of several */
+    {"(a,b)", "a b x a", 2},
+    {"(a,b)", "a b a x", 2},
+    {"(a,b)", "b a b a", 2},
+    /* a name that begins another one is not that one */
+    {"(a,b)", "a aa", 1},
+    {"(ab,a)", "a ab", DESK_NO_FAULT},
+    {"(ab,b)", "ab a", 1},
+    /* refusals come first, also that of a child behind the fault */
+    {"(a,b)", "x A", REFUSAL(35)},
+    {"(a,b)", "a a b 1", REFUSAL(35)},
+    {"(a,b)", "a a ", REFUSAL(35)},
+    {"(a,b)%", "x", REFUSAL(11)},
+    {"(a,a)", "x A", REFUSAL(17)},
+};
+
+/* The same, with so many of a between the first child and the last. */
+static const struct {
+    const char *model, *first;
+    size_t between;
+    const char *last;
+    uint32_t answer;
+} LONG_FAULTS[] = {
+    /* 4,096 children */
+    {"a[1..*]", "a", 4094, "a", DESK_NO_FAULT},
+    {"a[1..*]", "x", 4094, "a", 0},
+    {"a[1..*]", "a", 4094, "x", 4095},
+    {"a[1..60000]", "a", 4094, "a", DESK_NO_FAULT},
+    {"a[1..4096]", "a", 4094, "a", DESK_NO_FAULT},
+    {"a[1..4095]", "a", 4094, "a", 4095},
+    {"a[1..4094]", "a", 4094, "a", 4094},
+    /* 4,097, wherever the fault is; a child that is no name comes before their number */
+    {"a[1..*]", "a", 4095, "a", REFUSAL(36)},
+    {"a[1..*]", "x", 4095, "a", REFUSAL(36)},
+    {"a[1..*]", "a", 4095, "x", REFUSAL(36)},
+    {"a[1..4096]", "a", 4095, "a", REFUSAL(36)},
+    {"a", "x", 4095, "A", REFUSAL(35)},
+    /* 65,535 bytes, and two more */
+    {"a", "x", 32766, "a", REFUSAL(36)},
+    {"a", "x", 32766, "A", REFUSAL(35)},
+    {"a", "x", 32767, "A", REFUSAL(30)},
 };
 
 /* 01, the last of the rows to try: 4,096 of a in a[60000..60000] are open. */
@@ -158,6 +228,17 @@ static struct call call_of(const char *model, const char *spaced)
         if (children.byte[k] == ' ')
             children.byte[k] = '\t';
     return (struct call){bytes_of(model), written(&children)};
+}
+
+/* This one of the long faults; its text stays likewise. */
+static struct call long_call(size_t i)
+{
+    static struct text children;
+    begin(&children, LONG_FAULTS[i].first);
+    put_times(&children, "\ta", LONG_FAULTS[i].between);
+    put(&children, "\t");
+    put(&children, LONG_FAULTS[i].last);
+    return (struct call){bytes_of(LONG_FAULTS[i].model), written(&children)};
 }
 
 void check_known_rows(judge_texts *judge, struct report *report)
@@ -200,7 +281,7 @@ static void check_long_lists(next_names *next, struct report *report)
     check_lists(report, next, (struct call){model, written(&children)}, (struct list){1, {1}});
     put(&children, "\ta");
     check_lists(report, next, (struct call){model, written(&children)},
-                (struct list){NO_LIST(36), {0}});
+                (struct list){REFUSAL(36), {0}});
 }
 
 void check_known_lists(next_names *next, struct report *report)
@@ -209,4 +290,36 @@ void check_known_lists(next_names *next, struct report *report)
     for (size_t i = 0; i < LENGTH(LISTS); i++)
         check_list(report, next, call_of(LISTS[i].model, LISTS[i].children), LISTS[i].list,
                    LISTS[i].places);
+}
+
+/* A good model text without children has no fault. */
+void check_known_faults(find_fault *find, struct report *report)
+{
+    for (size_t i = 0; i < LENGTH(FAULTS); i++) {
+        struct call c = call_of(FAULTS[i].model, FAULTS[i].children);
+        report_fault(report, c, ask(find, c), FAULTS[i].answer);
+    }
+    for (size_t i = 0; i < LENGTH(LONG_FAULTS); i++) {
+        struct call c = long_call(i);
+        report_fault(report, c, ask(find, c), LONG_FAULTS[i].answer);
+    }
+    for (size_t i = 0; i < LENGTH(TEXTS); i++) {
+        struct call c = {bytes_of(TEXTS[i].text), NO_BYTES};
+        report_fault(report, c, ask(find, c),
+                     TEXTS[i].answer == 0 ? DESK_NO_FAULT : REFUSAL(TEXTS[i].answer));
+    }
+}
+
+void try_known(try_call *f, struct report *to)
+{
+    for (size_t i = 0; i < LENGTH(ROWS); i++)
+        f(to, call_of(ROWS[i].model, ROWS[i].children));
+    for (size_t i = 0; i < LENGTH(TEXTS); i++)
+        f(to, (struct call){bytes_of(TEXTS[i].text), NO_BYTES});
+    for (size_t i = 0; i < LENGTH(LISTS); i++)
+        f(to, call_of(LISTS[i].model, LISTS[i].children));
+    for (size_t i = 0; i < LENGTH(FAULTS); i++)
+        f(to, call_of(FAULTS[i].model, FAULTS[i].children));
+    for (size_t i = 0; i < LENGTH(LONG_FAULTS); i++)
+        f(to, long_call(i));
 }

@@ -222,6 +222,23 @@ static void try_odd_children(try_call *f, struct report *to)
         }
 }
 
+/* As many atoms and nodes as there may be; behind one child of each name, each once more, and a
+   foreign one. */
+static void try_repeats(try_call *f, struct report *to)
+{
+    static struct text model, children;
+    put_wide(&model, 63, 63, ",", "n63");
+    for (size_t repeated = 0; repeated <= 64; repeated++) {
+        begin(&children, "");
+        for (size_t k = 0; k < 64; k++) {
+            put_name(&children, k);
+            put(&children, "\t");
+        }
+        put_name(&children, repeated);
+        f(to, (struct call){written(&model), written(&children)});
+    }
+}
+
 void try_limits(try_call *f, struct report *to)
 {
     try_sizes(f, to);
@@ -233,4 +250,5 @@ void try_limits(try_call *f, struct report *to)
     try_many_children(f, to);
     try_long_children(f, to);
     try_odd_children(f, to);
+    try_repeats(f, to);
 }

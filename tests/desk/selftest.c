@@ -1,4 +1,5 @@
-/* Compares the twin with the oracle: answers, places and lists, known, at limits and random. */
+/* Compares the twin with the oracle: answers, places, lists and first faults, known, at limits and
+   random. */
 #include "brute.h"
 #include "cases.h"
 #include "lists.h"
@@ -6,7 +7,7 @@
 
 static const struct amounts HOW_MANY = {.small = 60000, .damaged = 60000, .large = 60};
 
-static struct report lists;
+static struct report lists, faults;
 
 static void compare(struct report *to, struct call c)
 {
@@ -16,6 +17,7 @@ static void compare(struct report *to, struct call c)
     brute_model(c.model.at, c.model.len, &place);
     report_value(to, c, "place", twin_place, place);
     check_lists(&lists, twin_next, c, list_by(brute_next, c));
+    report_fault(&faults, c, ask(twin_first_fault, c), ask(brute_first_fault, c));
 }
 
 int main(void)
@@ -28,8 +30,12 @@ int main(void)
     check_known_places(brute_model, &report);
     check_known_lists(twin_next, &lists);
     check_known_lists(brute_next, &lists);
+    check_known_faults(twin_first_fault, &faults);
+    check_known_faults(brute_first_fault, &faults);
+    try_known(compare, &report);
     try_limits(compare, &report);
     try_random(1, HOW_MANY, compare, &report);
     int judged = report_end(&report, "twin and oracle", ANSWERS_OF_JUDGE);
-    return report_end(&lists, "twin and oracle, next names", ANSWERS_OF_NEXT) | judged;
+    int listed = report_end(&lists, "twin and oracle, next names", ANSWERS_OF_NEXT);
+    return report_end(&faults, "twin and oracle, first fault", ANSWERS_OF_FAULT) | listed | judged;
 }

@@ -2,8 +2,6 @@
 #include "twin.h"
 #include "twin_parts.h"
 
-static const uint32_t REFUSED = 1u << 31; /* is added to a refusal */
-
 /* The verdict with this name behind a row of so many children. */
 static enum answer verdict_with(const struct rule *rule, struct tally *tally, uint32_t name,
                                 uint32_t children)

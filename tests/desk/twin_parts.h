@@ -46,6 +46,7 @@ enum answer {
     SHORT_ROW = 46
 };
 
+static const uint32_t REFUSED = 1u << 31;     /* is added to a refusal, save the judge's */
 static const uint32_t UNBOUNDED = UINT32_MAX; /* the upper count `*` */
 static const uint32_t NOWHERE = UINT32_MAX;   /* the first place of a name that is not there */
 

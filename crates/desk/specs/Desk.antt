@@ -1,11 +1,13 @@
--- The numbers that `desk_judge` and `desk_next` hand to C: document 01, "Desk and layers", and document 02, W1.
+-- The numbers that the desk's functions hand to C: document 01, "Desk and layers", and document 02, W1 and W2.
 pub mod Laws
-use Prim.Native.Nat.{ℕ, _+_}
+use Prim.Native.Nat.{ℕ, _+_, _<_}
 use lib.ListN.{length}
-use Rattle.fields.specs.{Bytes.Text, Children.cueNumber}
+use Rattle.fields.specs.{Bytes.Text, Children.cueNumber, Limits.maxRow}
 use Rattle.model.specs.{declared.verdict.Verdict.Verdict, Word.Word, Fault.modelNumber}
 use Rattle.model.specs.declared.verdict.Verdict.the-variants.{Complete, Open, Dead}
 use Rattle.judge.specs.{Row.judgeNumber, Next.NextReply, Next.nextListed, Next.nextRefused, Next.childrenNext, Next.childrenRowAfter}
+use Rattle.judge.specs.{declared.verdict.FirstFault.FirstFault, FirstFault.childrenFault}
+use Rattle.judge.specs.declared.verdict.FirstFault.the-variants.{At, Nothing}
 use Rattle.judge.specs.Reply.{Reply, modelRefused, childrenRefused, good, childrenReply}
 
 -- document 01's numbers
@@ -23,21 +25,39 @@ verdictNumber Dead = 2
 abbrev pub deskAnswer : Text → Text → ℕ
 deskAnswer m c = replyNumber verdictNumber (childrenReply m c)
 
--- Where the number is a length, a refusal's has this added (`Desk.Laws.next-told`: so the two are told apart).
+-- Where the number is a length or a place, a refusal's has this added (`Desk.Laws.next-told`, `Desk.Laws.fault-exactly`: so they are told apart).
 abbrev pub refusalBase : ℕ
 refusalBase = 2147483648
 
+abbrev pub basedNumber : {A : Type 0} → (A → ℕ) → Reply A → ℕ
+basedNumber n (modelRefused f) = refusalBase + modelNumber f
+basedNumber n (childrenRefused f) = refusalBase + cueNumber f
+basedNumber n (good v) = n v
+
 -- how many names are listed, or the refusal
-abbrev pub nextNumber : Reply NextReply → ℕ
-nextNumber (modelRefused f) = refusalBase + modelNumber f
-nextNumber (childrenRefused f) = refusalBase + cueNumber f
-nextNumber (good (nextListed l)) = length l
-nextNumber (good (nextRefused f)) = refusalBase + judgeNumber f
+abbrev pub nextNumber : NextReply → ℕ
+nextNumber (nextListed l) = length l
+nextNumber (nextRefused f) = refusalBase + judgeNumber f
 
 -- with a lent row of k places
 abbrev pub deskNext : Text → Text → ℕ → ℕ
-deskNext m c k = nextNumber (childrenNext m c k)
+deskNext m c k = basedNumber nextNumber (childrenNext m c k)
 
 -- the lent row at exit: the list, then the places as they were; or all as they were
 abbrev pub deskRow : Text → Text → Word → Word
 deskRow m c lent = childrenRowAfter (childrenNext m c (length lent)) lent
+
+-- the place of the first child that is foreign or one too many of its name, or that there is none
+abbrev pub faultNumber : FirstFault → ℕ
+faultNumber (At p) = p
+faultNumber Nothing = 65535
+
+abbrev pub deskFault : Text → Text → ℕ
+deskFault m c = basedNumber faultNumber (childrenFault m c)
+
+-- a reply whose place, if it has one, is that of one of 4,096 children
+abbrev pub PlaceFits : Reply FirstFault → Type 0
+PlaceFits (modelRefused f) = Unit {0}
+PlaceFits (childrenRefused f) = Unit {0}
+PlaceFits (good (At p)) = p < maxRow
+PlaceFits (good Nothing) = Unit {0}

@@ -4,8 +4,10 @@ use Prim.Native.Nat.{ℕ, _<_}
 use Rattle.model.specs.{declared.verdict.Verdict.Verdict, Word.Word}
 use Rattle.fields.specs.Bytes.{Text}
 use Rattle.judge.specs.{Reply.Reply, Reply.good, Reply.ChildrenJudges, Next.NextReply, Next.nextListed, Next.ChildrenNextStands, Next.childrenNext}
+use Rattle.judge.specs.{declared.verdict.FirstFault.FirstFault, FirstFault.ChildrenFaultStands}
 use Rattle.judge.specs.Ends.{children-next-exactly}
 use Rattle.desk.specs.{Desk.replyNumber, Desk.verdictNumber, Desk.deskAnswer, Desk.refusalBase, Desk.deskNext, Desk.Laws.answer-exactly}
+use Rattle.desk.specs.{Desk.basedNumber, Desk.faultNumber, Desk.deskFault, Desk.PlaceFits, Desk.Laws.fault-exactly}
 use Rattle.desk.specs.{Desk.Laws.next-told, Child.Part, Child.Finds, Child.found, Child.Laws.finds-exactly}
 
 -- `desk_judge`: the number is that of the one reply that the meaning gives
@@ -19,6 +21,10 @@ desk-next-exactly = children-next-exactly
 
 pub desk-next-told : (m c : Text) (k : ℕ) → (deskNext m c k < refusalBase) ↔ ((l : Word) × (childrenNext m c k ≡ good (nextListed l)))
 desk-next-told = next-told
+
+-- `desk_first_fault`: its number is that of the one reply by the upper counts, among all whose place is that of one of 4,096 children.
+pub desk-fault-exactly : (m c : Text) (r : Reply FirstFault) → PlaceFits r → (deskFault m c ≡ basedNumber faultNumber r) ↔ ChildrenFaultStands m c r
+desk-fault-exactly = fault-exactly
 
 -- `child` and `child_refusal`: one reply, and only one
 pub child-exactly : (m c : Text) (k : ℕ) (r : Reply Part) → (found m c k ≡ r) ↔ Finds m c k r

@@ -2,19 +2,25 @@
 
 ghost use mathlib.Core.Path.{_≡_};
 ghost use lib.ListN.{length};
-ghost use Rattle.desk.specs.Desk.{verdictNumber, deskAnswer, deskNext, deskRow};
+ghost use Rattle.desk.specs.Desk.{verdictNumber, deskAnswer, deskNext, deskRow, deskFault};
 use fields::fault::cue_number;
 use judge::fault::judge_number;
+use judge::first_fault::search_children;
 use judge::next::next_children;
 use judge::reply::judge_children;
 use judge::verdict::ChildrenJudged;
 use judge::verdict::ChildrenNext;
+use judge::verdict::ChildrenSearched;
+use judge::verdict::FirstFault;
 use judge::verdict::Next;
 use model::fault::model_number;
 use model::verdict::Verdict;
 
-// A refusal's number has this added where the answer is else a length.
+// A refusal's number has this added where the answer is else a length or a place.
 const REFUSED: u32 = 2147483648;
+
+// No place is as large.
+const NO_FAULT: u32 = 65535;
 
 fn verdict_number(verdict: Verdict) -> u32
     ensures { λ r. ⌜ r ≡ verdictNumber verdict ⌝ }
@@ -53,5 +59,21 @@ pub extern "C" fn desk_next(model: &[u8], children: &[u8], row: &mut [u16]) -> u
         },
         ChildrenNext::ModelRefused(f) => REFUSED + model_number(f),
         ChildrenNext::ChildrenRefused(f) => REFUSED + cue_number(f),
+    }
+}
+
+// The place, from 0, of the first child that is foreign or one too many of its name; 65,535 where there is none. Or, with 2,147,483,648 added, the
+// refusal of the model text, 10 to 17, then of the children text, 30, 35, 36.
+#[no_mangle]
+pub extern "C" fn desk_first_fault(model: &[u8], children: &[u8]) -> u32
+    ensures { λ r. ⌜ r ≡ deskFault (now (model .entry)) (now (children .entry)) ⌝ }
+{
+    match search_children(model, children) {
+        ChildrenSearched::Found(fault) => match fault {
+            FirstFault::At(place) => place as u32,
+            FirstFault::Nothing => NO_FAULT,
+        },
+        ChildrenSearched::ModelRefused(f) => REFUSED + model_number(f),
+        ChildrenSearched::ChildrenRefused(f) => REFUSED + cue_number(f),
     }
 }

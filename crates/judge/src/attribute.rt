@@ -2,14 +2,13 @@
 
 ghost use mathlib.Core.{Path._≡_, List.[]};
 ghost use Prim.Native.Nat.{max, min};
-ghost use Rattle.model.specs.{Membership.under, Membership.joined, Membership.begun, Model.operator};
+ghost use Rattle.model.specs.{Membership.joined, Membership.begun, Model.operator};
 ghost use Rattle.judge.specs.Row.Attribute.{emptyAttribute, atomAttribute, pairAttribute, countedAttribute, markedAttribute};
 ghost use Rattle.judge.specs.Row.Root.{partAttribute, grownAttribute};
 use crate::tally::Seen;
 use model::rule::Kind;
 use model::rule::Mark;
 use model::rule::Sign;
-use model::rule::Upper;
 
 // Of a node: the first place of its names or the row's length, one past their last place or 0, whether the part of the row that they make is in
 // the node's model, and whether it can be made longer to be in it.
@@ -56,24 +55,15 @@ pub(crate) fn empty(length: u16) -> Attribute
     }
 }
 
-fn at_most(count: u16, max: Upper) -> bool
-    ensures { λ r. ⌜ r ≡ under count max ⌝ }
+// That no name is seen too often was tested in the first pass.
+fn of_atom(min: u16, seen: Seen) -> Attribute
+    ensures { λ r. ⌜ r ≡ atomAttribute min seen ⌝ }
 {
-    match max {
-        Upper::Number(n) => count <= n,
-        Upper::Unbounded => true,
-    }
-}
-
-fn of_atom(min: u16, max: Upper, seen: Seen) -> Attribute
-    ensures { λ r. ⌜ r ≡ atomAttribute min max seen ⌝ }
-{
-    let few = at_most(seen.count, max);
     Attribute {
         first: seen.first,
         behind: seen.behind,
-        done: (min <= seen.count) & few,
-        alive: few,
+        done: min <= seen.count,
+        alive: true,
     }
 }
 
@@ -125,13 +115,13 @@ pub(crate) fn pair(sign: Sign, x: Attribute, y: Attribute) -> Attribute
 }
 
 // a[0..n] is a[1..n]?
-fn counted(length: u16, min: u16, max: Upper, seen: Seen) -> Attribute
-    ensures { λ r. ⌜ r ≡ countedAttribute length min max seen ⌝ }
+fn counted(length: u16, min: u16, seen: Seen) -> Attribute
+    ensures { λ r. ⌜ r ≡ countedAttribute length min seen ⌝ }
 {
     if min == 0 {
-        pair(Sign::Choice, empty(length), of_atom(1, max, seen))
+        pair(Sign::Choice, empty(length), of_atom(1, seen))
     } else {
-        of_atom(min, max, seen)
+        of_atom(min, seen)
     }
 }
 
@@ -150,7 +140,7 @@ pub(crate) fn begin(length: u16, kind: Kind, seen: Seen) -> Attribute
     ensures { λ r. ⌜ r ≡ partAttribute length kind seen [] ⌝ }
 {
     match kind {
-        Kind::Atom { min, max } => counted(length, min, max, seen),
+        Kind::Atom { min, max: _ } => counted(length, min, seen),
         Kind::Group {
             sign: _,
             members: _,

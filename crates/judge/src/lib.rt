@@ -3,6 +3,7 @@
 mod ahead;
 mod attribute;
 pub mod fault;
+pub mod first_fault;
 mod lexeme;
 pub mod next;
 mod packed;

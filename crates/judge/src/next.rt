@@ -7,7 +7,7 @@ ghost use Rattle.fields.specs.Limits.{maxAtoms, maxNodes, maxRow};
 ghost use Rattle.model.specs.{Word.keep, Model.atomsIn, Rule.names, Rule.ruleType, Check.readable};
 ghost use Rattle.judge.specs.{Packed.nodeIn, Packed.ruleIn, Row.upto, Row.Tally.seenOf};
 ghost use Rattle.judge.specs.Next.{numbersTo, nextNames, fitted, nextJudged, childrenNext, HandsNext, HandsChildrenNext, Set.inSet};
-ghost use Rattle.judge.specs.Next.Ahead.{rootAhead, seenNext};
+ghost use Rattle.judge.specs.Next.Ahead.{rootAhead};
 use crate::ahead::begin_ahead;
 use crate::ahead::blank_ahead;
 use crate::ahead::grown_ahead;
@@ -19,9 +19,10 @@ use crate::reply::ChildrenRead;
 use crate::reply::read_children;
 use crate::row::Tested;
 use crate::row::test_row;
+use crate::tally::search_row;
 use crate::tally::seen_of;
-use crate::tally::tally_row;
 use crate::verdict::ChildrenNext;
+use crate::verdict::FirstFault;
 use crate::verdict::Next;
 use fields::limits::lesser;
 use model::check::atoms_of;
@@ -30,7 +31,7 @@ use model::rule::MAX_ATOMS;
 use model::rule::MAX_NODES;
 use model::rule::Rule;
 
-// The pass of row::root, with what is ahead of each node: of the first one, the names that may come next.
+// The pass of row::root, with what is ahead of each node: of the first one, the names that may come next behind a row in which no child is at fault.
 fn root_next(
     words: &[u64; MAX_NODES],
     len: usize,
@@ -67,26 +68,6 @@ fn root_next(
     if top < MAX_NODES {
         let root = stack[top];
         root.next
-    } else {
-        0
-    }
-}
-
-// By what is seen of each name in a row of so many children: behind a foreign name none may come.
-fn next_by(
-    words: &[u64; MAX_NODES],
-    len: usize,
-    names: usize,
-    children: u16,
-    seen: &[u64; MAX_ATOMS + 1],
-) -> u64
-    requires { ⌜ (len ≤ maxNodes) × (length (now words) ≡ maxNodes) ⌝ }
-    requires { ⌜ (names ≡ atomsIn (map nodeIn (take len (now words)))) × (names ≤ maxAtoms) ⌝ }
-    ensures { λ r. ⌜ r ≡ seenNext (ruleIn (now (words .entry)) len) children (λ k. seenOf children (getD (now (seen .entry)) k 0)) ⌝ }
-{
-    let foreign = seen_of(seen[0], children);
-    if foreign.count == 0 {
-        root_next(words, len, names, children, seen)
     } else {
         0
     }
@@ -155,9 +136,13 @@ fn next_on(
         r (now (row .entry)) (now (row .exit)) ⌝ }
 {
     let mut seen = [0u64; MAX_ATOMS + 1];
-    tally_row(children, &mut seen);
-    let set = next_by(words, len, names, children.len() as u16, &seen);
-    list_names(set, names, row)
+    match search_row(words, len, children, &mut seen) {
+        FirstFault::At(_) => Next::Names(0),
+        FirstFault::Nothing => {
+            let set = root_next(words, len, names, children.len() as u16, &seen);
+            list_names(set, names, row)
+        }
+    }
 }
 
 // The names that may come next behind the children, rising, in the first places of the lent row; the others stay as they were. Refused as judge_row
@@ -186,9 +171,10 @@ pub fn next_children(model: &[u8], children: &[u8], row: &mut [u16]) -> Children
     match read_children(model, children, &mut words, &mut seen) {
         ChildrenRead::Both(read) => {
             let names = read.names;
-            let set = next_by(&words, read.nodes, names, read.children, &seen);
+            let set = root_next(&words, read.nodes, names, read.children, &seen);
             ChildrenNext::Next(list_names(set, names, row))
         }
+        ChildrenRead::Faulty(_) => ChildrenNext::Next(Next::Names(0)),
         ChildrenRead::ModelRefused(f) => ChildrenNext::ModelRefused(f),
         ChildrenRead::ChildrenRefused(f) => ChildrenNext::ChildrenRefused(f),
     }

@@ -1,12 +1,15 @@
 // Children judged by a model text.
 
-ghost use mathlib.Core.{Path._≡_, List.[]};
-ghost use Prim.Native.Nat.{_≤_};
-ghost use lib.ListN.{length};
-ghost use Rattle.fields.specs.{Limits.maxFile, Limits.maxAtoms, Limits.maxNodes, Children.shortName};
+ghost use mathlib.Core.{Path._≡_, Bool.cond, List.[], List.List};
+ghost use Prim.Native.Nat.{_+_, _≤_, _<_};
+ghost use lib.{Dec.ltb, ListN.length};
+ghost use Rattle.fields.specs.{Limits.maxFile, Limits.maxAtoms, Limits.maxNodes, Limits.maxRow, Children.shortName};
+ghost use Rattle.fields.specs.declared.fault.CueFault.the-variants.{ManyChildren};
+ghost use Rattle.model.specs.declared.rule.Upper.{Upper};
 ghost use Rattle.judge.specs.{declared.lexeme.NameEnd.NameEnd, Reading.Lexeme.NameEnds, Row.Tally.Seeing};
-ghost use Rattle.judge.specs.{Reply.childrenIn, Reply.childrenReply, Reply.judgedOf, Reply.Children.childFrom, Reply.Children.ChildrenTallied};
-ghost use Rattle.judge.specs.Reply.Read.{TextsRead};
+ghost use Rattle.judge.specs.declared.reply.ChildrenTally.the-variants.{Faulty, Refused};
+ghost use Rattle.judge.specs.Reply.{childrenIn, childrenReply, judgedOf, Read.TextsRead};
+ghost use Rattle.judge.specs.Reply.Children.{childFrom, childrenFrom, stoppedAt, ChildrenTallied};
 ghost use Rattle.judge.specs.Reading.Table.{Tabled, Distinct, partsIn};
 use crate::lexeme::NameEnd;
 use crate::lexeme::name_end;
@@ -17,10 +20,13 @@ use crate::row::verdict_by;
 use crate::table::SLOTS;
 use crate::table::find;
 use crate::table::slot_of;
+use crate::tally::is_full;
+use crate::tally::limit_names;
 use crate::tally::noted;
 use crate::verdict::ChildrenJudged;
 use fields::bytes::is_letter;
 use fields::children::Children;
+use fields::children::count_children;
 use fields::fault::CueFault;
 use fields::limits::MAX_FILE;
 use fields::limits::MAX_NAME;
@@ -29,6 +35,7 @@ use fields::split::TAB;
 use model::fault::ModelFault;
 use model::rule::MAX_ATOMS;
 use model::rule::MAX_NODES;
+use model::verdict::Verdict;
 
 // Is the child that begins at `at` a name of 1 to 32 characters? `read` has where the bytes of names from there on end.
 fn is_child(children: &[u8], at: usize, read: NameEnd) -> bool
@@ -45,8 +52,42 @@ fn is_child(children: &[u8], at: usize, read: NameEnd) -> bool
     letter & (parted | (end == children.len()))
 }
 
-// How many children there are, and what is seen of each of the first n names among them, of foreign names under 0; or what is wrong with the
-// children. No bytes are no children. `count_children` gives the same count by itself: here each child is looked up and noted when it is read.
+// How many children there are, or the place of the first that is foreign or one too many of its name, or what is wrong with the children.
+pub(crate) enum ChildrenTally {
+    Whole(usize),
+    Faulty(usize),
+    Refused(CueFault),
+}
+
+// Behind the place of a child at fault stand so many children.
+fn faulty(place: usize, behind: usize) -> ChildrenTally
+    requires { ⌜ (place ≤ maxFile) × (behind ≤ maxRow) ⌝ }
+    ensures { λ r. ⌜ r ≡ cond (ltb (place + behind) maxRow) (Faulty place) (Refused ManyChildren) ⌝ }
+{
+    if place + behind < MAX_ROW {
+        ChildrenTally::Faulty(place)
+    } else {
+        ChildrenTally::Refused(CueFault::ManyChildren)
+    }
+}
+
+// The child at the place, which ends at `end`, is at fault: the children behind it are only tested for 35 and 36.
+fn stopped(children: &[u8], end: usize, place: usize) -> ChildrenTally
+    requires { ⌜ (end ≤ length (now children)) × (length (now children) ≤ maxFile) × (place ≤ maxFile) ⌝ }
+    ensures { λ r. ⌜ r ≡ stoppedAt (childrenFrom (now (children .entry)) (end + 1)) place ⌝ }
+{
+    if end == children.len() {
+        return faulty(place, 0);
+    }
+    let at = end + 1;
+    match count_children(&children[at..]) {
+        Children::Count(n) => faulty(place, n),
+        Children::Refused(f) => ChildrenTally::Refused(f),
+    }
+}
+
+// How many children there are, and what is seen of each of the first n names among them; up to the first child at fault, if there is one. No bytes are
+// no children. Each child is looked up and noted when it is read.
 fn tally_children(
     model: &[u8],
     names: &[u64; MAX_NODES],
@@ -54,33 +95,35 @@ fn tally_children(
     heads: &[u8; SLOTS],
     children: &[u8],
     seen: &mut [u64; MAX_ATOMS + 1],
-) -> Children
+) -> ChildrenTally
     requires { ⌜ Tabled (now model) (now names) (now heads) n × Distinct (partsIn (now model) (now names) n) ⌝ }
-    requires { ⌜ (length (now children) ≤ maxFile) × Seeing maxAtoms [] (now seen) ⌝ }
-    ensures { λ r. ⌜ ChildrenTallied (partsIn (now (model .entry)) (now (names .entry)) n) (childrenIn (now (children .entry))) (now (seen .exit)) r ⌝ }
+    requires { ⌜ (0 < length (now children)) × (length (now children) ≤ maxFile) × (maxAtoms < length (now seen)) ⌝ }
+    ensures { λ r. ⌜ ((us : List Upper) → Seeing us [] (now (seen .entry))
+        → ChildrenTallied us (partsIn (now (model .entry)) (now (names .entry)) n) (childrenIn (now (children .entry))) (now (seen .exit)) r) ⌝ }
 {
-    if children.len() == 0 {
-        return Children::Count(0);
-    }
     let mut count: usize = 0;
     let mut at: usize = 0;
     while at <= children.len() {
         let read = name_end(children, at);
         if is_child(children, at, read) {} else {
-            return Children::Refused(CueFault::NoName);
+            return ChildrenTally::Refused(CueFault::NoName);
         }
         let end = read.end;
         let key = read.key;
         let slot = slot_of(key);
         let number = find(model, names, n, heads, &children[at..end], key, slot) as usize;
-        seen[number] = noted(seen[number], count as u16);
+        let word = seen[number];
+        if is_full(word) {
+            return stopped(children, end, count);
+        }
+        seen[number] = noted(word, count as u16);
         count += 1;
         at = end + 1;
     }
     if count <= MAX_ROW {
-        Children::Count(count)
+        ChildrenTally::Whole(count)
     } else {
-        Children::Refused(CueFault::ManyChildren)
+        ChildrenTally::Refused(CueFault::ManyChildren)
     }
 }
 
@@ -92,8 +135,10 @@ pub(crate) struct Sizes {
     pub(crate) names: usize,
 }
 
+// Of a row with a child at fault, its place is all that is read.
 pub(crate) enum ChildrenRead {
     Both(Sizes),
+    Faulty(usize),
     ModelRefused(ModelFault),
     ChildrenRefused(CueFault),
 }
@@ -106,7 +151,7 @@ pub(crate) fn read_children(
     words: &mut [u64; MAX_NODES],
     seen: &mut [u64; MAX_ATOMS + 1],
 ) -> ChildrenRead
-    requires { ⌜ (length (now words) ≡ maxNodes) × Seeing maxAtoms [] (now seen) ⌝ }
+    requires { ⌜ (length (now words) ≡ maxNodes) × Seeing [] [] (now seen) ⌝ }
     ensures { λ r. ⌜ TextsRead (now (model .entry)) (now (children .entry)) (now (words .exit)) (now (seen .exit)) r ⌝ }
 {
     let mut names = [0u64; MAX_NODES];
@@ -116,13 +161,22 @@ pub(crate) fn read_children(
             if MAX_FILE < children.len() {
                 return ChildrenRead::ChildrenRefused(CueFault::LongFile);
             }
+            if children.len() == 0 {
+                return ChildrenRead::Both(Sizes {
+                    nodes: past.nodes,
+                    children: 0,
+                    names: past.names,
+                });
+            }
+            limit_names(words, past.nodes, seen);
             match tally_children(model, &names, past.names, &heads, children, seen) {
-                Children::Count(n) => ChildrenRead::Both(Sizes {
+                ChildrenTally::Whole(n) => ChildrenRead::Both(Sizes {
                     nodes: past.nodes,
                     children: n as u16,
                     names: past.names,
                 }),
-                Children::Refused(f) => ChildrenRead::ChildrenRefused(f),
+                ChildrenTally::Faulty(p) => ChildrenRead::Faulty(p),
+                ChildrenTally::Refused(f) => ChildrenRead::ChildrenRefused(f),
             }
         }
         Got::Fault(f, _) => ChildrenRead::ModelRefused(f),
@@ -143,6 +197,7 @@ pub fn judge_children(model: &[u8], children: &[u8]) -> ChildrenJudged
             read.children,
             &seen,
         )),
+        ChildrenRead::Faulty(_) => ChildrenJudged::Verdict(Verdict::Dead),
         ChildrenRead::ModelRefused(f) => ChildrenJudged::ModelRefused(f),
         ChildrenRead::ChildrenRefused(f) => ChildrenJudged::ChildrenRefused(f),
     }

@@ -1,11 +1,19 @@
-// What is seen of each name in a row: the first pass over it.
+// What is seen of each name in a row, and whether it is too much: the first pass over the row.
 
-ghost use mathlib.Core.{Path._≡_, Bool.true, Bool.cond, List.[]};
-ghost use lib.ListN.{length};
-ghost use Prim.Native.Nat.{ℕ, _≤_, _<_};
-ghost use Rattle.fields.specs.Limits.{maxAtoms, maxRow};
-ghost use Rattle.judge.specs.Row.{upto, Tally.seenWord, Tally.seenOf, Tally.noting, Tally.Seeing, Tally.Tallied};
+ghost use mathlib.Core.{Path._≡_, Bool.true, Bool.cond, List.[], List.List, List.map};
+ghost use lib.{Dec.ltb, Dec.eqb, ListN.length, ListN.take};
+ghost use Prim.Native.Nat.{_*_, _≤_};
+ghost use Rattle.fields.specs.Limits.{maxAtoms, maxNodes, maxRow};
+ghost use Rattle.model.specs.{declared.rule.Upper.Upper, Model.atomsIn};
+ghost use Rattle.judge.specs.{Packed.nodeIn, FirstFault.upperCounts, Row.upto};
+ghost use Rattle.judge.specs.Row.Tally.{oneLeft, limitNumber, limitedWord, seenOf, notedWord, Seeing, RowTallied};
+use crate::packed::unpacked;
+use crate::verdict::FirstFault;
+use model::check::atoms_of;
+use model::rule::Kind;
 use model::rule::MAX_ATOMS;
+use model::rule::MAX_NODES;
+use model::rule::Upper;
 
 // How often a name stands in the row, its first place or the row's length, and one past its last place or 0.
 pub(crate) struct Seen {
@@ -14,11 +22,59 @@ pub(crate) struct Seen {
     pub(crate) behind: u16,
 }
 
-// What is seen of a name stands in an array as one number. 0 is of a name that was not seen: it stands behind no place.
-fn packed_seen(count: u16, first: u16, behind: u16) -> u64
-    ensures { λ r. ⌜ r ≡ seenWord count first behind ⌝ }
+// What is seen of a name stands in an array as one number, of four times 16 bits: how many further children may have the name, how many have it,
+// the first place, and one past the last. The names that were not seen stand behind no place.
+const LEFT: u64 = 281474976710656;
+
+const COUNT: u64 = 4294967296;
+
+const FIRST: u64 = 65536;
+
+// 65,535 stands for no upper end: no row has as many children.
+fn limit_of(max: Upper) -> u16
+    ensures { λ r. ⌜ r ≡ limitNumber max ⌝ }
 {
-    ((behind as u64) * 65536 + (first as u64)) * 65536 + (count as u64)
+    match max {
+        Upper::Number(n) => n,
+        Upper::Unbounded => 65535,
+    }
+}
+
+// What stands for the last name so far, behind a node: where it is that name's, its upper count.
+fn limited(kind: Kind, word: u64) -> u64
+    ensures { λ r. ⌜ r ≡ limitedWord kind word ⌝ }
+{
+    match kind {
+        Kind::Atom { min: _, max } => (limit_of(max) as u64) * LEFT,
+        Kind::Group {
+            sign: _,
+            members: _,
+        } => word,
+    }
+}
+
+// The upper count of each name goes into the array, by the name's number. At first it holds zeros, and place 0 stays so: no foreign child is allowed.
+pub(crate) fn limit_names(words: &[u64; MAX_NODES], len: usize, seen: &mut [u64; MAX_ATOMS + 1])
+    requires { ⌜ (len ≤ maxNodes) × (length (now words) ≡ maxNodes) ⌝ }
+    requires { ⌜ (atomsIn (map nodeIn (take len (now words))) ≤ maxAtoms) × Seeing [] [] (now seen) ⌝ }
+    ensures { λ r. ⌜ Seeing (upperCounts (map nodeIn (take len (now (words .entry))))) [] (now (seen .exit)) ⌝ }
+{
+    let mut name: usize = 0;
+    let mut i: usize = 0;
+    while i < len {
+        let node = unpacked(words[i]);
+        let kind = node.kind;
+        name += atoms_of(kind);
+        seen[name] = limited(kind, seen[name]);
+        i += 1;
+    }
+}
+
+// May no further child have the name? For a foreign one, that is so from the start.
+pub(crate) fn is_full(word: u64) -> bool
+    ensures { λ r. ⌜ r ≡ ltb word oneLeft ⌝ }
+{
+    word < LEFT
 }
 
 fn either(test: bool, a: u16, b: u16) -> u16
@@ -31,34 +87,62 @@ fn either(test: bool, a: u16, b: u16) -> u16
 pub(crate) fn seen_of(word: u64, length: u16) -> Seen
     ensures { λ r. ⌜ r ≡ seenOf length word ⌝ }
 {
-    let behind = (word / 65536 / 65536 % 65536) as u16;
+    let behind = (word % 65536) as u16;
     Seen {
-        count: (word % 65536) as u16,
-        first: either(behind == 0, length, (word / 65536 % 65536) as u16),
+        count: (word / COUNT % 65536) as u16,
+        first: either(behind == 0, length, (word / FIRST % 65536) as u16),
         behind: behind,
     }
 }
 
-// The name stands at place i too, behind all its places so far.
-pub(crate) fn noted(word: u64, i: u16) -> u64
-    requires { ⌜ (seenOf i word .count < 65535) × (i < 65535) ⌝ }
-    ensures { λ r. ⌜ ((n : ℕ) → seenOf n r ≡ noting (seenOf i word) i) ⌝ }
+// Where the name was not seen before, i is its first place.
+fn first_at(behind: u64, i: u16) -> u64
+    ensures { λ r. ⌜ (r ≡ cond (eqb behind 0) (i * 65536) 0) × (r ≤ i * 65536) ⌝ }
 {
-    let seen = seen_of(word, i);
-    let count = seen.count + 1;
-    packed_seen(count, seen.first, i + 1)
+    if behind == 0 { (i as u64) * FIRST } else { 0 }
 }
 
-// The first pass: what is seen of each name goes into the array, by the name's number. At first nothing is.
-pub(crate) fn tally_row(row: &[u16], seen: &mut [u64; MAX_ATOMS + 1])
+// The name stands at place i too, behind all its places so far.
+pub(crate) fn noted(word: u64, i: u16) -> u64
+    requires { ⌜ oneLeft ≤ word ⌝ }
+    ensures { λ r. ⌜ r ≡ notedWord word i ⌝ }
+{
+    let behind = word % 65536;
+    let first = first_at(behind, i);
+    word - LEFT - behind + COUNT + first + (i as u64) + 1
+}
+
+// What is seen of each name goes into the array, which holds the upper counts of the names, up to the first child that is foreign or one too many of
+// its name.
+fn tally_row(row: &[u16], seen: &mut [u64; MAX_ATOMS + 1]) -> FirstFault
     requires { ⌜ (length (now row) ≤ maxRow) × (upto maxAtoms (now row) ≡ true) ⌝ }
-    requires { ⌜ Seeing maxAtoms [] (now seen) ⌝ }
-    ensures { λ r. ⌜ Tallied (now (row .entry)) (now (seen .exit)) ⌝ }
+    ensures { λ r. ⌜ ((us : List Upper) → Seeing us [] (now (seen .entry)) → RowTallied us (now (row .entry)) (now (seen .exit)) r) ⌝ }
 {
     let mut i: usize = 0;
     while i < row.len() {
         let name = row[i] as usize;
-        seen[name] = noted(seen[name], i as u16);
+        let word = seen[name];
+        if is_full(word) {
+            return FirstFault::At(i);
+        }
+        seen[name] = noted(word, i as u16);
         i += 1;
     }
+    FirstFault::Nothing
+}
+
+// The first pass over a row, by the first len nodes. The array holds zeros at first.
+pub(crate) fn search_row(
+    words: &[u64; MAX_NODES],
+    len: usize,
+    row: &[u16],
+    seen: &mut [u64; MAX_ATOMS + 1],
+) -> FirstFault
+    requires { ⌜ (len ≤ maxNodes) × (length (now words) ≡ maxNodes) ⌝ }
+    requires { ⌜ (atomsIn (map nodeIn (take len (now words))) ≤ maxAtoms) × Seeing [] [] (now seen) ⌝ }
+    requires { ⌜ (length (now row) ≤ maxRow) × (upto maxAtoms (now row) ≡ true) ⌝ }
+    ensures { λ r. ⌜ RowTallied (upperCounts (map nodeIn (take len (now (words .entry))))) (now (row .entry)) (now (seen .exit)) r ⌝ }
+{
+    limit_names(words, len, seen);
+    tally_row(row, seen)
 }

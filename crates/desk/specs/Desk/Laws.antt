@@ -1,12 +1,12 @@
--- A verdict or refusal is known by its number, and a list of names is told from a refusal.
-use mathlib.Core.{Path._≡_, Path.refl, Path.sym, Path.ap, Path.subst, Path._∙_, Logic._↔_}
+-- A verdict, a first fault or a refusal is known by its number, and a list of names is told from a refusal.
+use mathlib.Core.{Path._≡_, Path.refl, Path.sym, Path.ap, Path.subst, Path._∙_, Logic._↔_, Logic.by-cases}
 use Prim.Native.Nat.{ℕ, _+_, _≤_, _<_}
-use native.Mathlib.Omega.{arith}
+use native.Mathlib.{Decide.decLt, Omega.arith}
 use lib.ListN.{length, length-map}
-use Rattle.fields.specs.{declared.fault.CueFault.CueFault, Bytes.Text, Children.cueNumber, Limits.maxAtoms}
+use Rattle.fields.specs.{declared.fault.CueFault.CueFault, Bytes.Text, Children.cueNumber, Limits.maxAtoms, Limits.maxRow}
 use Rattle.fields.specs.declared.fault.CueFault.the-variants.{LongFile, Unended, BadFields, BadNumber, NotAbove, NoName, ManyChildren, NoChild}
 use Rattle.model.specs.{declared.fault.ModelFault.ModelFault, declared.verdict.Verdict.Verdict, Word.Word, Types.Ty, Types.ConflictFree, Fault.modelNumber}
-use Rattle.model.specs.{Fault.Answers, Fault.accepted, Syntax.Syntax, Syntax.writtenNames, Tree.leaves, Tree.Leaves.length-leaves, Model.modelOf}
+use Rattle.model.specs.{Fault.Answers, Fault.accepted, Syntax.Syntax, Syntax.numberIn, Syntax.writtenNames, Tree.leaves, Tree.Leaves.length-leaves, Model.modelOf, Model.encode}
 use Rattle.model.specs.{Model.Types.type-conflict-free, Accept.Laws.accepted-within, Accept.Laws.accepted-counts}
 use Rattle.model.specs.declared.verdict.Verdict.the-variants.{Complete, Open, Dead}
 use Rattle.model.specs.Fault.Answered.{number-injective, number-over, number-under}
@@ -16,10 +16,14 @@ use Rattle.judge.specs.declared.verdict.ChildrenJudged.the-variants.{Verdict as
 use Rattle.judge.specs.declared.verdict.Next.the-variants.{Names, Refused}
 use Rattle.judge.specs.declared.verdict.ChildrenNext.the-variants.{Next as Answered, ModelRefused as NoModel, ChildrenRefused as NoChildren}
 use Rattle.judge.specs.declared.fault.JudgeFault.the-variants.{Unreadable, LongRow, BadTrail, UnknownName, NoRoom, NothingToTakeBack, ShortRow}
-use Rattle.judge.specs.Reply.{Reply, modelRefused, childrenRefused, good, ChildrenJudges, childrenReply, judgedOf}
+use Rattle.judge.specs.{declared.verdict.FirstFault.FirstFault, declared.verdict.ChildrenSearched.ChildrenSearched}
+use Rattle.judge.specs.declared.verdict.FirstFault.the-variants.{At, Nothing}
+use Rattle.judge.specs.declared.verdict.ChildrenSearched.the-variants.{Found, ModelRefused as NotRead, ChildrenRefused as NotCounted}
+use Rattle.judge.specs.FirstFault.{upperCounts, ChildrenFaultStands, childrenFault, searchedOf, Laws.fault-inside, Laws.fault-replies-exactly}
+use Rattle.judge.specs.Reply.{Reply, modelRefused, childrenRefused, good, ChildrenJudges, childrenReply, judgedOf, childrenIn, rowIn, many-children}
 use Rattle.judge.specs.Next.{NextReply, nextListed, nextRefused, NextInto, all-listed, childrenNext, childrenAnswer}
 use Rattle.judge.specs.Next.Laws.{list-exactly, next-few, next-replies-exactly}
-use Rattle.desk.specs.Desk.{replyNumber, verdictNumber, deskAnswer, refusalBase, nextNumber, deskNext}
+use Rattle.desk.specs.Desk.{replyNumber, verdictNumber, deskAnswer, refusalBase, basedNumber, nextNumber, deskNext, faultNumber, deskFault, PlaceFits}
 
 -- those of the model text are 10 to 17, those of the children text 30 to 37, the judge's own below 47, verdicts below 3
 pub model-under : (f : ModelFault) → (10 ≤ modelNumber f) × (modelNumber f < 18)
@@ -107,10 +111,10 @@ module _ (m c : Text) (k : ℕ) where
   pub next-told : (deskNext m c k < refusalBase) ↔ ((l : Word) × (childrenNext m c k ≡ good (nextListed l)))
   next-told = (
     told (childrenNext m c k),
-    λ (l, e). let b = list-few l e in let d : deskNext m c k ≡ length l = ap nextNumber e in omega arith,
+    λ (l, e). let b = list-few l e in let d : deskNext m c k ≡ length l = ap (basedNumber nextNumber) e in omega arith,
   )
     where
-      told : (r : Reply NextReply) → nextNumber r < refusalBase → (l : Word) × (r ≡ good (nextListed l))
+      told : (r : Reply NextReply) → basedNumber nextNumber r < refusalBase → (l : Word) × (r ≡ good (nextListed l))
       told (modelRefused f) h = absurd (omega arith)
       told (childrenRefused f) h = absurd (omega arith)
       told (good (nextListed l)) h = (l, refl)
@@ -142,8 +146,71 @@ module _ (m c : Text) (k : ℕ) {x y : ChildrenNext} (e : x ≡ childrenAnswer (
   pub answer-number : answeredNumber y ≡ deskNext m c k
   answer-number = sym (ap answeredNumber d) ∙ ap answeredNumber e ∙ go (childrenNext m c k)
     where
-      go : (r : Reply NextReply) → answeredNumber (childrenAnswer r) ≡ nextNumber r
+      go : (r : Reply NextReply) → answeredNumber (childrenAnswer r) ≡ basedNumber nextNumber r
       go (modelRefused f) = refl
       go (childrenRefused f) = refl
       go (good (nextListed l)) = refl
       go (good (nextRefused f)) = refl
+
+-- no two replies whose places fit have one number
+fault-injective : (r s : Reply FirstFault) → PlaceFits r → PlaceFits s → basedNumber faultNumber r ≡ basedNumber faultNumber s → r ≡ s
+fault-injective (modelRefused f) (modelRefused g) h k e = let d : f ≡ g = number-injective f g (omega arith) in cc
+fault-injective (modelRefused f) (childrenRefused g) h k e = absurd (omega (arith, model-under f, cue-under g))
+fault-injective (modelRefused f) (good (At q)) h k e = absurd (omega arith)
+fault-injective (modelRefused f) (good Nothing) h k e = absurd (omega arith)
+fault-injective (childrenRefused f) (modelRefused g) h k e = absurd (omega (arith, cue-under f, model-under g))
+fault-injective (childrenRefused f) (childrenRefused g) h k e = let d : f ≡ g = cue-injective f g (omega arith) in cc
+fault-injective (childrenRefused f) (good (At q)) h k e = absurd (omega arith)
+fault-injective (childrenRefused f) (good Nothing) h k e = absurd (omega arith)
+fault-injective (good (At p)) (modelRefused g) h k e = absurd (omega arith)
+fault-injective (good (At p)) (childrenRefused g) h k e = absurd (omega arith)
+fault-injective (good (At p)) (good (At q)) h k e = let d : p ≡ q = e in cc
+fault-injective (good (At p)) (good Nothing) h k e = absurd (omega arith)
+fault-injective (good Nothing) (modelRefused g) h k e = absurd (omega arith)
+fault-injective (good Nothing) (childrenRefused g) h k e = absurd (omega arith)
+fault-injective (good Nothing) (good (At q)) h k e = absurd (omega arith)
+fault-injective (good Nothing) (good Nothing) h k e = refl
+
+module _ (m c : Text) where
+  -- a child at fault is one of the children, and those are few
+  stands-fits : (r : Reply FirstFault) → ChildrenFaultStands m c r → PlaceFits r
+  stands-fits (modelRefused f) h = tt
+  stands-fits (childrenRefused f) h = tt
+  stands-fits (good Nothing) h = tt
+  stands-fits (good (At p)) (t, a, n, f) =
+      by-cases (decLt maxRow (length (childrenIn c)))
+      (λ l. absurd (n ManyChildren (many-children l)))
+      (λ l. omega (arith, fault-inside (upperCounts (encode (modelOf t))) (rowIn t c) (f .0), length-map (childrenIn c) (numberIn (writtenNames t))))
+
+  fault-fits : PlaceFits (childrenFault m c)
+  fault-fits = stands-fits (childrenFault m c) (fault-replies-exactly m c (childrenFault m c) .0 refl)
+
+  pub fault-exactly : (r : Reply FirstFault) → PlaceFits r → (deskFault m c ≡ basedNumber faultNumber r) ↔ ChildrenFaultStands m c r
+  fault-exactly r h = (
+    λ e. fault-replies-exactly m c r .0 (fault-injective (childrenFault m c) r fault-fits h e),
+    λ k. ap (basedNumber faultNumber) (fault-replies-exactly m c r .1 k),
+  )
+
+  -- as the code takes them from the judge
+  abbrev searchedNumber : ChildrenSearched → ℕ
+  searchedNumber (Found a) = faultNumber a
+  searchedNumber (NotRead f) = refusalBase + modelNumber f
+  searchedNumber (NotCounted f) = refusalBase + cueNumber f
+
+  module _ {x y : ChildrenSearched} (e : x ≡ searchedOf (childrenFault m c)) (d : x ≡ y) where
+    pub place-few : {p : ℕ} → y ≡ Found (At p) → p < maxRow
+    place-few {p} q = go (childrenFault m c) fault-fits (sym e ∙ d ∙ q)
+      where
+        go : (r : Reply FirstFault) → PlaceFits r → searchedOf r ≡ Found (At p) → p < maxRow
+        go (modelRefused f) h k = let z : _≡_ {A = ℕ} 0 1 = cc in absurd (omega arith)
+        go (childrenRefused f) h k = let z : _≡_ {A = ℕ} 0 1 = cc in absurd (omega arith)
+        go (good (At q)) h k = let z : q ≡ p = cc in omega arith
+        go (good Nothing) h k = let z : _≡_ {A = ℕ} 0 1 = cc in absurd (omega arith)
+
+    pub searched-number : searchedNumber y ≡ deskFault m c
+    searched-number = sym (ap searchedNumber d) ∙ ap searchedNumber e ∙ go (childrenFault m c)
+      where
+        go : (r : Reply FirstFault) → searchedNumber (searchedOf r) ≡ basedNumber faultNumber r
+        go (modelRefused f) = refl
+        go (childrenRefused f) = refl
+        go (good a) = refl

@@ -13,9 +13,6 @@ module _ (l : Text) where
   pub more-is : (e : ℕ) → e < length l → more l tab e ≡ part l (suc e) (fieldBehind l e) ∷ more l tab (fieldBehind l e)
   more-is e h = rw (lt-ltb e (length l) h) (part-at l tab (suc e) h)
 
-  pub more-step : (e d : ℕ) → e < length l → d ≡ partEnd l tab (e + 1) → more l tab e ≡ part l (e + 1) d ∷ more l tab d
-  more-step e d h k = rw (k, add-one, lt-ltb e (length l) h) (part-at l tab (suc e) h)
-
   pub more-none : (e : ℕ) → length l ≤ e → more l tab e ≡ []
   more-none e h = rw (le-ltb e (length l) h)
 

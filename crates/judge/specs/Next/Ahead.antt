@@ -1,9 +1,9 @@
 -- What the pass over the nodes computes of a type beside its attribute: which of its names may come next. `aheadBy` is the same over a model.
 pub mod Laws
 use mathlib.Core.Bool.{Bool, not, cond, _&&_}
-use mathlib.Core.List.{List, []}
+use mathlib.Core.List.{List}
 use Prim.Native.Nat.{ℕ, suc}
-use lib.{Dec.eqb, Dec.leb, Dec.ltb, Bits.bitOr, ListN.getD}
+use lib.{Dec.leb, Dec.ltb, Bits.bitOr, ListN.getD}
 use Rattle.model.specs.{declared.rule.Upper.Upper, declared.rule.Mark.Mark, declared.rule.Kind.Kind, declared.rule.Rule.Rule, Membership.under}
 use Rattle.model.specs.{Rule.used, Types.Operator, Types.sequence, Types.choice, Types.interleaving, Types.Ty, Types.ε, Types.atom, Types.join}
 use Rattle.model.specs.declared.rule.Kind.the-variants.{Atom, Group}
@@ -45,7 +45,7 @@ emptyAhead n = record { part = emptyAttribute n; next = 0 }
 -- of a row's length and what is seen of each name
 unfoldable pub ahead : ℕ → (ℕ → Seen) → Ty → Ahead
 ahead n s ε = emptyAhead n
-ahead n s (atom a m k) = record { part = atomAttribute m k (s a); next = atomNext a k (s a) }
+ahead n s (atom a m k) = record { part = atomAttribute m (s a); next = atomNext a k (s a) }
 ahead n s (join o A B) = pairAhead o (ahead n s A) (ahead n s B)
 
 -- over a model: a mark forbids no name
@@ -54,7 +54,7 @@ module _ (n : ℕ) where
   joinedAhead o l = joinedAll (pairAhead o) (emptyAhead n) l
 
   abbrev pub countedAhead : ℕ → ℕ → Upper → Seen → Ahead
-  countedAhead a lo hi x = record { part = countedAttribute n lo hi x; next = atomNext a hi x }
+  countedAhead a lo hi x = record { part = countedAttribute n lo x; next = atomNext a hi x }
 
   abbrev pub markedAhead : Mark → Ahead → Ahead
   markedAhead m x = record { part = markedAttribute n m (x .part); next = x .next }
@@ -80,7 +80,3 @@ grownAhead (Group s m) b x y = cond b y (pairAhead (operator s) x y)
 -- of the first node of a rule, in a row of n children
 abbrev pub rootAhead : Rule → ℕ → (ℕ → Seen) → Ahead
 rootAhead r n s = getD (eval (aheadBy n s) (used r) 1) 0 (emptyAhead n)
-
--- the names that may come next, by what is seen of each name, of foreign names under 0
-abbrev pub seenNext : Rule → ℕ → (ℕ → Seen) → ℕ
-seenNext r n s = cond (eqb (s 0 .count) 0) (rootAhead r n s .next) 0

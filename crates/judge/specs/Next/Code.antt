@@ -6,11 +6,14 @@ use borrow.Author.Tests.{eq-eqb, ne-eqb, eqb-true, eqb-false, le-leb, lt-leb}
 use lib.{Dec.eqb, ListN.length, ListN.length-append, ListN.drop, ListN.getD, ListN.set, ListN.length-set, Seq.drop-cons, Seq.set-at, Pow.shr-shr}
 use Rattle.fields.specs.Tests.{by-test}
 use Rattle.model.specs.{declared.rule.Node.Node, Word.Word, Word.Names, Word.keep, Model.atomsIn, Rule.names, Rule.ruleType, Rule.ruleWith}
-use Rattle.model.specs.{Rule.Laws.used-with, Check.readable}
+use Rattle.model.specs.{Rule.Laws.used-with, Check.readable, Check.Exact.readable-is, Check.Exact.type-means, Check.Exact.means-conflict-free}
+use Rattle.model.specs.{declared.verdict.Verdict.the-variants.Dead, Verdict.Laws.verdict-is}
 use Rattle.judge.specs.{declared.fault.JudgeFault.the-variants.ShortRow, Row.upto, Row.Tally.seenOf, Row.Tally.Tallied, Row.Code.names-tallied}
 use Rattle.judge.specs.declared.verdict.Next.the-variants.{Names as Found, Refused as NoNames}
-use Rattle.judge.specs.Next.{numbersTo, nextNames, fitted, HandsNext, Set.inSet, Laws.kept-more, Laws.kept-same, Laws.kept, Ahead.seenNext}
+use Rattle.judge.specs.Next.{numbersTo, nextNames, fitted, HandsNext, Set.inSet, Laws.kept-more, Laws.kept-same, Laws.kept, Laws.list-exactly, Laws.dead-has-none, Ahead.rootAhead}
 use Rattle.judge.specs.Next.Meaning.{next-seen}
+use Rattle.judge.specs.{FirstFault.upperCounts, FirstFault.firstFault, Row.Code.verdict-stopped, Row.Code.row-sound}
+use Rattle.judge.specs.declared.verdict.FirstFault.the-variants.{At, Nothing}
 
 -- those of the first n names that are in the set s
 abbrev namesIn : ℕ → ℕ → Word
@@ -103,9 +106,23 @@ module _ (s n : ℕ) (lent : Word) {m : ℕ} (e : m ≡ length (namesIn s n)) wh
       → HandsNext (fitted (length lent) (namesIn s n)) (Found m) lent row
   hands-all h f = rw (le-leb (length (namesIn s n)) (length lent) (omega arith)) (ap Found e, f)
 
--- what the second pass lists, with what the first has counted
-pub next-tallied : (l : List Node) → readable (ruleWith l) ≡ true → (w : Word) {m : ℕ} → m ≡ atomsIn l → upto m w ≡ true → (s : List ℕ) → Tallied w s
-    → keep (inSet (seenNext (ruleWith l) (length w) (λ k. seenOf (length w) (getD s k 0)))) (numbersTo m) ≡ nextNames (ruleType (ruleWith l)) m w
-next-tallied l e w {m} f h s g =
-    let n : m ≡ names (ruleWith l) = rw (used-with l) f in
-    rw n (next-seen (ruleWith l) e w (rw n at h) (λ k. seenOf (length w) (getD s k 0)) (names-tallied (ruleWith l) e w s g))
+-- no names are there to hand back
+pub hands-no-names : (lent : Word) {l : Word} → l ≡ [] → HandsNext (fitted (length lent) l) (Found 0) lent lent
+hands-no-names lent e = rw (e, le-leb 0 (length lent) (omega arith)) (refl, refl)
+
+-- The row of the rule of these nodes: what the passes tell of its next names.
+module _ (l : List Node) (e : readable (ruleWith l) ≡ true) (w : Word) {m : ℕ} (f : m ≡ atomsIn l) (h : upto m w ≡ true) where
+  -- where the first has found a fault, there are none
+  pub next-stopped : {p : ℕ} → firstFault (upperCounts l) w ≡ At p → nextNames (ruleType (ruleWith l)) m w ≡ []
+  next-stopped d =
+      let A = ruleType (ruleWith l) in
+      let g = means-conflict-free (type-means (readable-is (ruleWith l) .0 e)) in
+      dead-has-none (verdict-is A g w Dead .0 (verdict-stopped l e w f h d)) (list-exactly A g m w (nextNames A m w) .0 refl)
+
+  -- else the second lists them, with what the first has counted
+  pub next-tallied : firstFault (upperCounts l) w ≡ Nothing → (s : List ℕ) → Tallied w s
+      → keep (inSet (rootAhead (ruleWith l) (length w) (λ k. seenOf (length w) (getD s k 0)) .next)) (numbersTo m) ≡ nextNames (ruleType (ruleWith l)) m w
+  next-tallied d s g =
+      let n : m ≡ names (ruleWith l) = rw (used-with l) f in
+      let (o, q) = row-sound l e w f h d in
+      rw n (next-seen (ruleWith l) e w o q (λ k. seenOf (length w) (getD s k 0)) (names-tallied (ruleWith l) e w s g))

@@ -3,23 +3,23 @@ use mathlib.Core.{Path._≡_, Path.refl, Path.sym, Path.ap, Path.ap₂, Path._�
 use mathlib.Core.Bool.{Bool, true, false, cond, _&&_, _||_}
 use Prim.Native.Nat.{ℕ, zero, suc, _≤_}
 use native.Mathlib.Omega.{arith}
-use lib.{Dec.eqb, Dec.leb, Dec.ltb, Bits.bitOr, Bits.or-zero-l, ListN.length, ListN.getD}
+use lib.{Dec.leb, Dec.ltb, Bits.bitOr, Bits.or-zero-l, ListN.length, ListN.getD}
 use Rattle.model.specs.{declared.rule.Upper.Upper, declared.rule.Sign.Sign, declared.rule.Mark.Mark, declared.rule.Rule.Rule, Word.Word, Word.keep, Word.only}
 use Rattle.model.specs.{Word.count}
 use Rattle.model.specs.{Word.Laws.only-self, Word.Laws.either-left, Word.Laws.either-right, Word.Span.touched-behind, Word.Span.ordered-span}
-use Rattle.model.specs.{Types.Operator, Types.Ty, Types.ε, Types.atom, Types.join, Types.symbols, Types.ConflictFree, Membership.under, Membership.alive}
-use Rattle.model.specs.{Tree.atoms, Model.Model, Model.typeBy, Model.typeOf, Model.operator, Model.Eval.eval-map}
+use Rattle.model.specs.{Types.Operator, Types.Ty, Types.ε, Types.atom, Types.join, Types.symbols, Types.ConflictFree, Membership.under, Membership.alive, Membership.over?}
+use Rattle.model.specs.{Model.Model, Model.typeBy, Model.typeOf, Model.operator, Model.Eval.eval-map}
 use Rattle.model.specs.{Model.Types.Fits, Model.Types.type-conflict-free, Model.Types.type-symbols, Rule.ruleOf, Rule.names, Rule.ruleType, Rule.used}
-use Rattle.model.specs.{Rule.Laws.rule-eval, Rule.Names.names-model, Check.readable, Check.Exact.readable-formed, Check.Exact.rule-type}
+use Rattle.model.specs.{Rule.Laws.rule-eval, Check.readable, Check.Exact.readable-formed, Check.Exact.rule-type}
 use Rattle.model.specs.declared.rule.Mark.the-variants.{Plain, Optional}
-use Rattle.judge.specs.{declared.tally.Seen.Seen, declared.ahead.Ahead.Ahead, Row.upto, Row.Attribute.seen, Row.Attribute.attribute}
+use Rattle.judge.specs.{declared.tally.Seen.Seen, declared.ahead.Ahead.Ahead, Row.Attribute.seen, Row.Attribute.attribute}
 use Rattle.judge.specs.{Row.Attribute.attributeOf}
-use Rattle.judge.specs.{Row.Attribute.attribute-is, Row.Joined.carried, Row.Pass.eval-same, Row.Pass.over-known, Next.numbersTo, Next.nextNames}
+use Rattle.judge.specs.{Row.Attribute.attribute-is, Row.Attribute.Within, Row.Joined.carried, Row.Pass.eval-same, Next.numbersTo, Next.nextNames}
 use Rattle.judge.specs.{Next.mayCome}
 use Rattle.judge.specs.{Next.Laws.kept-agreeing, Next.Longer.join-comes, Next.Longer.atom-comes, Next.Longer.may-come-is, Next.Set.single}
 use Rattle.judge.specs.{Next.Set.inSet}
 use Rattle.judge.specs.Next.Set.Laws.{in-none, in-either, in-only-if, in-single}
-use Rattle.judge.specs.Next.Ahead.{firstOpen, secondOpen, pairAhead, emptyAhead, ahead, aheadBy, rootAhead, seenNext}
+use Rattle.judge.specs.Next.Ahead.{firstOpen, secondOpen, pairAhead, emptyAhead, ahead, aheadBy, rootAhead}
 
 -- the attribute beside the set
 part-is : (n : ℕ) (s : ℕ → Seen) (A : Ty) → ahead n s A .part ≡ attribute n s A
@@ -41,18 +41,18 @@ module _ (o : Operator) (x y : Ahead) where
       in-either (cond first (x .next) 0) (cond second (y .next) 0) k ∙ ap₂ _||_ (in-only-if first (x .next) k) (in-only-if second (y .next) k)
 
 -- the set: of the type's names, those with which the row can be made longer
-ahead-has : (A : Ty) → ConflictFree A → ((x : ℕ) → symbols A x ≡ true → 1 ≤ x) → (w : Word) (x : ℕ) → 1 ≤ x
+ahead-has : (A : Ty) → ConflictFree A → ((x : ℕ) → symbols A x ≡ true → 1 ≤ x) → (w : Word) → Within A w → (x : ℕ) → 1 ≤ x
     → inSet (ahead (length w) (seen w) A .next) x ≡ (symbols A x && alive A (w ++ (x ∷ [])))
 unfolding ahead
-ahead-has ε g p w x h = in-none x
-ahead-has (atom a m n) g p w x h =
+ahead-has ε g p w q x h = in-none x
+ahead-has (atom a m n) g p w q x h =
     unfold seen only in
     in-only-if (under (suc (count a w)) n) (single a) x ∙ rw (in-single a x (p a (only-self a)) h) (sym (atom-comes w x a m n))
-ahead-has (join o A B) g p w x h =
-    let i = ahead-has A (g .1) (λ y e. p y (either-left (symbols A) (symbols B) y e)) w x h in
-    let j = ahead-has B (g .2) (λ y e. p y (either-right (symbols A) (symbols B) y e)) w x h in
-    let pa = part-is (length w) (seen w) A ∙ attribute-is A (g .1) w in
-    let pb = part-is (length w) (seen w) B ∙ attribute-is B (g .2) w in
+ahead-has (join o A B) g p w q x h =
+    let i = ahead-has A (g .1) (λ y e. p y (either-left (symbols A) (symbols B) y e)) w (q .0) x h in
+    let j = ahead-has B (g .2) (λ y e. p y (either-right (symbols A) (symbols B) y e)) w (q .1) x h in
+    let pa = part-is (length w) (seen w) A ∙ attribute-is A (g .1) w (q .0) in
+    let pb = part-is (length w) (seen w) B ∙ attribute-is B (g .2) w (q .1) in
     pair-has o (ahead (length w) (seen w) A) (ahead (length w) (seen w) B) x
     ∙ rw (pa, pb, i, j, join-comes w x A B (g .0) (g .1) o)
     (unfold attributeOf in
@@ -87,25 +87,21 @@ module _ (t : Model) (f : Fits t) (w : Word) where
       let e = eval-map typeBy (aheadBy n s) (ahead n s) (ahead-atom n s) (ahead-group n s) (ahead-mark n s) (used (ruleOf t)) 1 in
       ap (λ l. getD l 0 (emptyAhead n)) (sym e ∙ ap (map (ahead n s)) (rule-eval typeBy t 1))
 
-  set-model : upto (names (ruleOf t)) w ≡ true → (x : ℕ) → 1 ≤ x → inSet (seenNext (ruleOf t) (length w) (seen w)) x ≡ mayCome (typeOf t) w x
-  set-model h x p =
+  set-model : over? (symbols (typeOf t)) w ≡ true → Within (typeOf t) w → (x : ℕ) → 1 ≤ x
+      → inSet (rootAhead (ruleOf t) (length w) (seen w) .next) x ≡ mayCome (typeOf t) w x
+  set-model h q x p =
       let g = type-conflict-free t f in
-      in-only-if (eqb (seen w 0 .count) 0) (rootAhead (ruleOf t) (length w) (seen w) .next) x
-      ∙ rw (
-        root-ahead,
-        ahead-has (typeOf t) g (λ y e. type-symbols t f y .0 e .0) w x p,
-        may-come-is w x (typeOf t) g,
-        over-known (symbols (typeOf t)) (atoms t) (type-symbols t f) w (rw (names-model t) at h),
-      ) (unfold seen in refl)
+      rw (root-ahead, ahead-has (typeOf t) g (λ y e. type-symbols t f y .0 e .0) w q x p, may-come-is w x (typeOf t) g, h)
 
-pub next-seen : (r : Rule) → readable r ≡ true → (w : Word) → upto (names r) w ≡ true → (s : ℕ → Seen)
-    → ((k : ℕ) → k ≤ names r → s k ≡ seen w k) → keep (inSet (seenNext r (length w) s)) (numbersTo (names r)) ≡ nextNames (ruleType r) (names r) w
+pub next-seen : (r : Rule) → readable r ≡ true → (w : Word) → over? (symbols (ruleType r)) w ≡ true → Within (ruleType r) w → (s : ℕ → Seen)
+    → ((k : ℕ) → k ≤ names r → s k ≡ seen w k) → keep (inSet (rootAhead r (length w) s .next)) (numbersTo (names r)) ≡ nextNames (ruleType r) (names r) w
 unfolding nextNames
-next-seen r e w h s g =
+next-seen r e w h q s g =
     let v = readable-formed r e in
     let t = v .model in
     let n = length w in
     let a = eval-same (aheadBy n s) (aheadBy n (seen w)) (λ k q l. refl) (λ m x. refl) (used r) 1 (λ j b c lo hi. rw (g j (omega arith))) in
-    rw (a, g 0 (omega arith))
-    (kept-agreeing (inSet (seenNext r n (seen w))) (mayCome (ruleType r) w) (names r)
-    (λ x p q. rw (v .rule-is, rule-type t) (set-model t (v .formed) w (rw (v .rule-is) at h) x p)))
+    rw a
+    (kept-agreeing (inSet (rootAhead r n (seen w) .next)) (mayCome (ruleType r) w) (names r)
+    (λ x p _. rw (v .rule-is, rule-type t)
+    (set-model t (v .formed) w (rw (v .rule-is, rule-type t) at h) (rw (v .rule-is, rule-type t) at q) x p)))

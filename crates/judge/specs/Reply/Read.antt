@@ -1,31 +1,38 @@
 -- What is read of a model text and of a children text, and the reply that comes of it.
-use mathlib.Core.{Path._≡_, Path.sym, Path.ap, Path.subst, Path._∙_, Bool.true, Bool.cond, List.List, List.map}
+use mathlib.Core.{Path._≡_, Path.refl, Path.sym, Path.ap, Path._∙_, Bool.true, Bool.cond, List.List, List.map}
 use Prim.Native.Nat.{ℕ, _≤_, _<_}
 use native.Mathlib.Omega.{arith}
 use lib.{Dec.leb, Dec.ltb, ListN.length, ListN.take, ListN.getD, ListN.length-map}
-use borrow.Author.Tests.{le-ltb, lt-ltb}
+use borrow.Author.Tests.{le-ltb, lt-ltb, le-leb}
 use Rattle.fields.specs.{Tests.by-test, Bytes.Text, Limits.maxRow, Limits.maxFile, Limits.maxAtoms, Limits.maxNodes, declared.fault.CueFault.CueFault}
 use Rattle.fields.specs.{declared.fault.CueFault.the-variants.LongFile, declared.children.Children.Children, Children.allNames, Children.childrenOf}
 use Rattle.fields.specs.{Children.Laws.counted}
 use Rattle.fields.specs.declared.children.Children.the-variants.{Count, Refused}
-use Rattle.model.specs.{declared.fault.ModelFault.ModelFault, declared.verdict.Verdict.Verdict, Verdict.verdict, Word.Word, Word.keep, Syntax.Syntax}
-use Rattle.model.specs.{Syntax.numberIn, Syntax.writtenNames, Fault.Answers, Fault.refused, Fault.accepted, Answer.answer-is, Model.modelOf, Model.typeOf}
-use Rattle.model.specs.{Model.atomsIn, Rule.ReadsInto, Rule.ruleType, Check.readable, Check.Exact.readable-is, Check.Exact.rule-type}
+use Rattle.model.specs.{declared.fault.ModelFault.ModelFault, declared.rule.Upper.Upper, declared.rule.Node.Node, declared.verdict.Verdict.Verdict}
+use Rattle.model.specs.{declared.verdict.Verdict.the-variants.Dead, Verdict.verdict, Word.Word, Word.keep, Syntax.Syntax, Syntax.numberIn}
+use Rattle.model.specs.{Syntax.writtenNames, Fault.Answers, Fault.refused, Fault.accepted, Answer.answer-is, Model.Model, Model.modelOf, Model.encode}
+use Rattle.model.specs.{Model.typeOf, Model.atomsIn, Rule.ReadsInto, Rule.ruleOf, Rule.ruleType, Rule.used, Rule.Laws.used-is, Rule.Laws.used-with}
+use Rattle.model.specs.{Check.readable, Check.Exact.readable-is, Check.Exact.rule-type}
 use Rattle.judge.specs.{declared.reader.Cursor.Cursor, declared.reply.Sizes.Sizes, declared.reply.ChildrenRead.ChildrenRead, Packed.nodeIn, Packed.ruleIn}
-use Rattle.judge.specs.{declared.verdict.Next.Next, Reading.Table.partsIn, Reading.Table.Laws.parts-long, Reading.Walk.Kept, Named.rowOf}
-use Rattle.judge.specs.{Named.Laws.row-upto, Row.upto, Row.Tally.seenOf, Row.Tally.Tallied, Row.Pass.seenVerdict, Row.Code.verdict-tallied}
-use Rattle.judge.specs.{Reply.Children.TalliedIn, Reply.Children.ChildrenTallied}
-use Rattle.judge.specs.declared.reply.ChildrenRead.the-variants.{Both, ModelRefused, ChildrenRefused}
-use Rattle.judge.specs.declared.verdict.{ChildrenJudged.the-variants.Verdict as Said, ChildrenNext.the-variants.Next as Answered}
-use Rattle.judge.specs.Reading.Whole.{Whole, whole-rule, whole-count, whole-names}
+use Rattle.judge.specs.{declared.reply.ChildrenTally.ChildrenTally, declared.verdict.Next.Next, Reading.Table.partsIn, Reading.Table.Laws.parts-long}
+use Rattle.judge.specs.{Reading.Walk.Kept, Named.Laws.row-upto, Row.upto, Row.Tally.seenOf, Row.Tally.Tallied, Row.Pass.seenVerdict}
+use Rattle.judge.specs.{Row.Code.verdict-stopped, Row.Code.verdict-tallied, Reply.Children.ChildrenTallied, Reply.Children.row-whole}
+use Rattle.judge.specs.Reply.Children.{row-faulty, no-row}
+use Rattle.judge.specs.declared.reply.ChildrenRead.the-variants.{Both, Faulty, ModelRefused, ChildrenRefused}
+use Rattle.judge.specs.declared.reply.ChildrenTally.the-variants.{Whole, Faulty as Stopped, Refused as Unnamed}
+use Rattle.judge.specs.declared.verdict.{ChildrenJudged.the-variants.Verdict as Said, ChildrenNext.the-variants.Next as Answered, Next.the-variants.Names}
+use Rattle.judge.specs.declared.verdict.{ChildrenSearched.the-variants.Found, FirstFault.the-variants.At, FirstFault.the-variants.Nothing}
+use Rattle.judge.specs.FirstFault.{upperCounts, firstFault, childrenFault, searchedOf}
+use Rattle.judge.specs.Reading.Whole.{Whole as WholeText, whole-rule, whole-count, whole-names}
 use Rattle.judge.specs.Reply.{childrenIn, row, Reply, modelRefused, childrenRefused, good, childrenBy, replyBy, reply, rowIn, childrenReply, judgedOf}
-use Rattle.judge.specs.Next.{numbersTo, nextNames, fitted, childrenNext, HandsNext, HandsChildrenNext, Set.inSet, Ahead.seenNext, Code.next-tallied}
+use Rattle.judge.specs.Next.{numbersTo, nextNames, fitted, childrenNext, HandsNext, HandsChildrenNext, Set.inSet, Ahead.rootAhead}
+use Rattle.judge.specs.Next.Code.{next-stopped, next-tallied}
 
 -- how many children a text has, or what is wrong with it
 abbrev pub textChildren : Text → Children
 textChildren c = cond (ltb maxFile (length c)) (Refused LongFile) (childrenOf (childrenIn c))
 
--- both texts were read: the words hold the nodes of m's rule, and s tells what is seen of each name in the row of c's children
+-- Both texts were read, and no child is at fault: the words hold the nodes of m's rule, and s tells what is seen of each name in the row of c's children.
 pub record BothRead (m c : Text) (words s : List ℕ) (r : Sizes) : Type 0 where
   pub model : ReadsInto m (ruleIn words (r .nodes))
   pub nodes : (r .nodes ≤ maxNodes) × (length words ≡ maxNodes)
@@ -33,47 +40,83 @@ pub record BothRead (m c : Text) (words s : List ℕ) (r : Sizes) : Type 0 where
   pub written : r .names ≡ length (writtenNames (model .tree))
   pub children : textChildren c ≡ Count (r .children)
   pub long : length (rowIn (model .tree) c) ≡ r .children
+  pub sound : firstFault (upperCounts (map nodeIn (take (r .nodes) words))) (rowIn (model .tree) c) ≡ Nothing
   pub tallied : Tallied (rowIn (model .tree) c) s
+
+-- both texts were read, and the child at place p is the first at fault
+pub record FaultRead (m c : Text) (p : ℕ) : Type 0 where
+  pub tree : Syntax
+  pub answers : Answers m (accepted tree)
+  pub written : atomsIn (encode (modelOf tree)) ≡ length (writtenNames tree)
+  pub children : (n : ℕ) × (textChildren c ≡ Count n)
+  pub fault : firstFault (upperCounts (encode (modelOf tree))) (rowIn tree c) ≡ At p
 
 pub data TextsRead (m c : Text) (words s : List ℕ) : ChildrenRead → Type 0 where
   both-read : {r : Sizes} → BothRead m c words s r → TextsRead m c words s (Both r)
+  fault-read : {p : ℕ} → FaultRead m c p → TextsRead m c words s (Faulty p)
   model-refused : {f : ModelFault} (p : ℕ) → Answers m (refused f p) → TextsRead m c words s (ModelRefused f)
   children-refused : {f : CueFault} (t : Syntax) → Answers m (accepted t) → textChildren c ≡ Refused f → TextsRead m c words s (ChildrenRefused f)
 
--- children that were counted
-module _ {ns cs : List Text} {s : List ℕ} {x : Children} (g : ChildrenTallied ns cs s x) {n : ℕ} (e : x ≡ Count n) where
-  children-many : length cs ≡ n
-  children-many = counted cs n (sym (g .is) ∙ e) .0
-
-  pub children-fit : n ≤ maxRow
-  children-fit = omega (arith, children-many, counted cs n (sym (g .is) ∙ e) .1)
-
-  row-tallied : Tallied (rowOf ns cs) s
-  row-tallied = subst (TalliedIn ns cs s) e (g .tallied)
+-- children that were counted are few
+pub children-fit : {us : List Upper} {ns cs : List Text} {s : List ℕ} {x : ChildrenTally} {n : ℕ} → ChildrenTallied us ns cs s x → x ≡ Whole n → n ≤ maxRow
+children-fit {us} {ns} {cs} {s} {n = n} g e = go (rw e at g)
+  where
+    go : ChildrenTallied us ns cs s (Whole n) → n ≤ maxRow
+    go (row-whole k t) = let h = counted cs n k in omega arith
 
 -- The model text was read, and then the children text was.
-module _ {m : Text} {words : List ℕ} {kept : Kept} {d : Cursor} (w : Whole m words kept d) (c : Text) where
+module _ {m : Text} {words : List ℕ} {kept : Kept} {d : Cursor} (w : WholeText m words kept d) (c : Text) where
   pub long-refused : (s : List ℕ) → maxFile < length c → TextsRead m c words s (ChildrenRefused LongFile)
   long-refused s h = children-refused {f = LongFile} (w .tree) (w .answers) (rw (lt-ltb maxFile (length c) h))
 
-  module _ (size : length c ≤ maxFile) {s : List ℕ} {x : Children} (g : ChildrenTallied (partsIn m (kept .0) (d .names)) (childrenIn c) s x) where
-    children-are : textChildren c ≡ x
-    children-are = rw (le-ltb maxFile (length c) size) (sym (g .is))
+  abbrev counts : List Upper
+  counts = upperCounts (map nodeIn (take (d .nodes) words))
 
-    pub bad-refused : {f : CueFault} → x ≡ Refused f → TextsRead m c words s (ChildrenRefused f)
-    bad-refused e = children-refused (w .tree) (w .answers) (children-are ∙ e)
+  module _ (size : length c ≤ maxFile) {s : List ℕ} {x : ChildrenTally} (g : ChildrenTallied counts (partsIn m (kept .0) (d .names)) (childrenIn c) s x) where
+    given : {y : ChildrenTally} → x ≡ y → ChildrenTallied counts (writtenNames (w .tree)) (childrenIn c) s y
+    given e = rw (← whole-names w) (rw e at g)
 
-    pub texts-read : {n : ℕ} → x ≡ Count n → TextsRead m c words s (Both (record { nodes = d .nodes; children = n; names = d .names }))
-    texts-read e =
-        both-read (record {
-          model = record { tree = w .tree; answered = w .answers; rule-is = whole-rule w };
-          nodes = (w .nodes .few, w .nodes .whole);
-          names = (whole-count w, w .tabled .few);
-          written = sym (parts-long (w .tabled)) ∙ ap length (whole-names w);
-          children = children-are ∙ e;
-          long = length-map (childrenIn c) (numberIn (writtenNames (w .tree))) ∙ children-many g e;
-          tallied = rw (← whole-names w) (row-tallied g e);
-        })
+    children-are : textChildren c ≡ childrenOf (childrenIn c)
+    children-are = rw (le-ltb maxFile (length c) size)
+
+    named : d .names ≡ length (writtenNames (w .tree))
+    named = sym (parts-long (w .tabled)) ∙ ap length (whole-names w)
+
+    pub bad-refused : {f : CueFault} → x ≡ Unnamed f → TextsRead m c words s (ChildrenRefused f)
+    bad-refused {f} e = go (given e)
+      where
+        go : ChildrenTallied counts (writtenNames (w .tree)) (childrenIn c) s (Unnamed f) → TextsRead m c words s (ChildrenRefused f)
+        go (no-row k) = children-refused (w .tree) (w .answers) (children-are ∙ k)
+
+    pub stopped-read : {p : ℕ} → x ≡ Stopped p → TextsRead m c words s (Faulty p)
+    stopped-read {p} e = go (given e)
+      where
+        go : ChildrenTallied counts (writtenNames (w .tree)) (childrenIn c) s (Stopped p) → TextsRead m c words s (Faulty p)
+        go (row-faulty {n = n} k f) =
+            fault-read {p = p} (record {
+              tree = w .tree;
+              answers = w .answers;
+              written = rw (← w .nodes .held) (sym (whole-count w) ∙ named);
+              children = (n, children-are ∙ k);
+              fault = rw (← w .nodes .held) f;
+            })
+
+    pub texts-read : {n : ℕ} → x ≡ Whole n → TextsRead m c words s (Both (record { nodes = d .nodes; children = n; names = d .names }))
+    texts-read {n} e = go (given e)
+      where
+        go : ChildrenTallied counts (writtenNames (w .tree)) (childrenIn c) s (Whole n)
+            → TextsRead m c words s (Both (record { nodes = d .nodes; children = n; names = d .names }))
+        go (row-whole k t) =
+            both-read (record {
+              model = record { tree = w .tree; answered = w .answers; rule-is = whole-rule w };
+              nodes = (w .nodes .few, w .nodes .whole);
+              names = (whole-count w, w .tabled .few);
+              written = named;
+              children = children-are ∙ k;
+              long = length-map (childrenIn c) (numberIn (writtenNames (w .tree))) ∙ counted (childrenIn c) n k .0;
+              sound = sym (t .fault-is);
+              tallied = t .tallied refl;
+            })
 
 -- a reply by what the children are
 abbrev pub childrenGive : {A : Type 0} → Children → A → Reply A
@@ -98,6 +141,12 @@ module _ {m c : Text} {words s : List ℕ} {x : ChildrenRead} (h : TextsRead m c
       go : TextsRead m c words s (Both r) → BothRead m c words s r
       go (both-read b) = b
 
+  pub read-fault : {p : ℕ} → x ≡ Faulty p → FaultRead m c p
+  read-fault {p} e = go (rw e at h)
+    where
+      go : TextsRead m c words s (Faulty p) → FaultRead m c p
+      go (fault-read b) = b
+
   module _ {A : Type 0} (f : Syntax → A) where
     pub reply-model : {g : ModelFault} → x ≡ ModelRefused g → reply row f m c ≡ modelRefused g
     reply-model {g} e = go (rw e at h)
@@ -114,6 +163,9 @@ module _ {m c : Text} {words s : List ℕ} {x : ChildrenRead} (h : TextsRead m c
 module _ {m c : Text} {words s : List ℕ} {r : Sizes} (b : BothRead m c words s r) where
   abbrev tree : Syntax
   tree = b .model .tree
+
+  abbrev nodes : List Node
+  nodes = map nodeIn (take (r .nodes) words)
 
   reply-both : {A : Type 0} (f : Syntax → A) → reply row f m c ≡ good (f tree)
   reply-both f = reply-accepted f m c tree (b .model .answered) ∙ rw (b .children)
@@ -132,7 +184,7 @@ module _ {m c : Text} {words s : List ℕ} {r : Sizes} (b : BothRead m c words s
   module _ {v : Verdict} (e : v ≡ seenVerdict (ruleIn words (r .nodes)) (r .children) (λ k. seenOf (r .children) (getD s k 0))) where
     verdict-told : v ≡ verdict (typeOf (modelOf tree)) (rowIn tree c)
     verdict-told =
-        let t = verdict-tallied (map nodeIn (take (r .nodes) words)) nodes-readable (rowIn tree c) (b .names .0) row-within s (b .tallied) in
+        let t = verdict-tallied nodes nodes-readable (rowIn tree c) (b .names .0) row-within (b .sound) s (b .tallied) in
         e ∙ (rw (b .long, nodes-type) at t)
 
     pub row-judged : Said v ≡ judgedOf (childrenReply m c)
@@ -140,10 +192,10 @@ module _ {m c : Text} {words s : List ℕ} {r : Sizes} (b : BothRead m c words s
     row-judged = ap Said verdict-told ∙ sym (ap judgedOf (reply-both (λ t. verdict (typeOf (modelOf t)) (rowIn t c))))
 
   -- with the set of names that they give
-  module _ {set : ℕ} (e : set ≡ seenNext (ruleIn words (r .nodes)) (r .children) (λ k. seenOf (r .children) (getD s k 0))) where
+  module _ {set : ℕ} (e : set ≡ rootAhead (ruleIn words (r .nodes)) (r .children) (λ k. seenOf (r .children) (getD s k 0)) .next) where
     names-told : keep (inSet set) (numbersTo (r .names)) ≡ nextNames (typeOf (modelOf tree)) (length (writtenNames tree)) (rowIn tree c)
     names-told =
-        let t = next-tallied (map nodeIn (take (r .nodes) words)) nodes-readable (rowIn tree c) (b .names .0) row-within s (b .tallied) in
+        let t = next-tallied nodes nodes-readable (rowIn tree c) (b .names .0) row-within (b .sound) s (b .tallied) in
         ap (λ x. keep (inSet x) (numbersTo (r .names))) e
         ∙ (rw (b .long, nodes-type) at t)
         ∙ ap (λ n. nextNames (typeOf (modelOf tree)) n (rowIn tree c)) (b .written)
@@ -154,3 +206,45 @@ module _ {m c : Text} {words s : List ℕ} {r : Sizes} (b : BothRead m c words s
     row-listed lent h =
         rw (reply-both (λ t. fitted (length lent) (nextNames (typeOf (modelOf t)) (length (writtenNames t)) (rowIn t c))), ← names-told)
         (ap Answered (h .0), h .1)
+
+  -- no child is at fault
+  pub row-searched : Found Nothing ≡ searchedOf (childrenFault m c)
+  unfolding childrenFault
+  row-searched =
+      let n : encode (modelOf tree) ≡ nodes = sym (used-is (modelOf tree)) ∙ ap used (sym (b .model .rule-is)) ∙ used-with nodes in
+      sym (ap searchedOf (reply-both (λ t. firstFault (upperCounts (encode (modelOf t))) (rowIn t c))) ∙ rw (n, b .sound))
+
+-- the first child at fault is that at place p: the row is dead
+module _ {m c : Text} {p : ℕ} (b : FaultRead m c p) where
+  reply-fault : {A : Type 0} (f : Syntax → A) → reply row f m c ≡ good (f (b .tree))
+  reply-fault f = reply-accepted f m c (b .tree) (b .answers) ∙ rw (b .children .1)
+
+  abbrev model : Model
+  model = modelOf (b .tree)
+
+  model-readable : readable (ruleOf model) ≡ true
+  model-readable = readable-is (ruleOf model) .1 (m, record { tree = b .tree; answered = b .answers; rule-is = refl })
+
+  row-named : upto (atomsIn (encode model)) (rowIn (b .tree) c) ≡ true
+  row-named = row-upto (atomsIn (encode model)) (writtenNames (b .tree)) (childrenIn c) (omega (arith, b .written))
+
+  pub fault-judged : Said Dead ≡ judgedOf (childrenReply m c)
+  unfolding childrenReply
+  fault-judged =
+      let d = verdict-stopped (encode model) model-readable (rowIn (b .tree) c) refl row-named (b .fault) in
+      sym (ap judgedOf (reply-fault (λ t. verdict (typeOf (modelOf t)) (rowIn t c))) ∙ ap Said (rw (rule-type model) at d))
+
+  pub fault-listed : (lent : Word) → HandsChildrenNext (childrenNext m c (length lent)) (Answered (Names 0)) lent lent
+  unfolding childrenNext
+  fault-listed lent =
+      let d = next-stopped (encode model) model-readable (rowIn (b .tree) c) refl row-named (b .fault) in
+      rw (
+        reply-fault (λ t. fitted (length lent) (nextNames (typeOf (modelOf t)) (length (writtenNames t)) (rowIn t c))),
+        ← b .written,
+        rw (rule-type model) at d,
+        le-leb 0 (length lent) (omega arith),
+      ) (refl, refl)
+
+  pub fault-searched : Found (At p) ≡ searchedOf (childrenFault m c)
+  unfolding childrenFault
+  fault-searched = sym (ap searchedOf (reply-fault (λ t. firstFault (upperCounts (encode (modelOf t))) (rowIn t c))) ∙ ap Found (b .fault))

@@ -1,6 +1,6 @@
 -- What the second pass over a row computes of a type, from what the first has seen of each name: its span, whether its part of the row is held,
 -- and whether that can be extended. `attributeBy` is the same over a model.
-use mathlib.Core.{Path._≡_, Path.refl, Bool.true, Bool.false, Bool._&&_, List.List, List.[], List._∷_, List.map}
+use mathlib.Core.{Path._≡_, Path.refl, Bool.true, Bool.false, Bool.and-true, List.List, List.[], List._∷_, List.map}
 use Prim.Native.Nat.{ℕ, zero, suc, min, max}
 use lib.{Dec.leb, Dec.ltb, ListN.length}
 use Rattle.model.specs.{declared.rule.Upper.Upper, declared.rule.Sign.Sign, declared.rule.Mark.Mark, Word.Word, Word.only, Word.count, Word.touched}
@@ -14,9 +14,9 @@ use Rattle.judge.specs.{declared.tally.Seen.Seen, declared.attribute.Att
 abbrev pub emptyAttribute : ℕ → Attribute
 emptyAttribute n = record { first = n; behind = 0; done = true; alive = true }
 
-abbrev pub atomAttribute : ℕ → Upper → Seen → Attribute
-atomAttribute m n x =
-    record { first = x .first; behind = x .behind; done = leb m (x .count) && under (x .count) n; alive = under (x .count) n }
+-- of a name that is not seen too often
+abbrev pub atomAttribute : ℕ → Seen → Attribute
+atomAttribute m x = record { first = x .first; behind = x .behind; done = leb m (x .count); alive = true }
 
 abbrev pub pairAttribute : Operator → Attribute → Attribute → Attribute
 pairAttribute o x y =
@@ -30,7 +30,7 @@ pairAttribute o x y =
 -- of a row's length and what is seen of each name
 unfoldable pub attribute : ℕ → (ℕ → Seen) → Ty → Attribute
 attribute n s ε = emptyAttribute n
-attribute n s (atom a m k) = atomAttribute m k (s a)
+attribute n s (atom a m k) = atomAttribute m (s a)
 attribute n s (join o A B) = pairAttribute o (attribute n s A) (attribute n s B)
 
 -- of the row itself
@@ -45,14 +45,20 @@ unfolding touched
 untouched-ε [] = refl
 untouched-ε (x ∷ w) = untouched-ε w
 
-pub attribute-is : (A : Ty) → ConflictFree A → (w : Word) → attribute (length w) (seen w) A ≡ attributeOf A w
+-- no name stands in the row more often than its atom's upper count allows: what the first pass has tested
+abbrev pub Within : Ty → Word → Type 0
+Within ε w = Unit {0}
+Within (atom a m n) w = under (count a w) n ≡ true
+Within (join o A B) w = Within A w × Within B w
+
+pub attribute-is : (A : Ty) → ConflictFree A → (w : Word) → Within A w → attribute (length w) (seen w) A ≡ attributeOf A w
 unfolding attribute attributeOf seen done alive
-attribute-is ε g w = rw (first-untouched (symbols ε) w (untouched-ε w), behind-untouched (symbols ε) w (untouched-ε w))
-attribute-is (atom a m n) g w = refl
-attribute-is (join o A B) g w =
+attribute-is ε g w h = rw (first-untouched (symbols ε) w (untouched-ε w), behind-untouched (symbols ε) w (untouched-ε w))
+attribute-is (atom a m n) g w h = rw (h, and-true)
+attribute-is (join o A B) g w h =
     rw (
-      attribute-is A (g .1) w,
-      attribute-is B (g .2) w,
+      attribute-is A (g .1) w (h .0),
+      attribute-is B (g .2) w (h .1),
       first-either (symbols A) (symbols B) w,
       behind-either (symbols A) (symbols B) w,
       ordered-span (symbols A) (symbols B) (g .0) w,
@@ -62,9 +68,9 @@ attribute-is (join o A B) g w =
 
 -- the attributes of a model's nodes, each as the type of that node has it
 module _ (n : ℕ) where
-  abbrev pub countedAttribute : ℕ → Upper → Seen → Attribute
-  countedAttribute zero k x = pairAttribute choice (emptyAttribute n) (atomAttribute 1 k x)
-  countedAttribute (suc m) k x = atomAttribute (suc m) k x
+  abbrev pub countedAttribute : ℕ → Seen → Attribute
+  countedAttribute zero x = pairAttribute choice (emptyAttribute n) (atomAttribute 1 x)
+  countedAttribute (suc m) x = atomAttribute (suc m) x
 
   abbrev pub joinedAttribute : Operator → List Attribute → Attribute
   joinedAttribute o l = joinedAll (pairAttribute o) (emptyAttribute n) l
@@ -76,7 +82,7 @@ module _ (n : ℕ) where
   abbrev pub attributeBy : (ℕ → Seen) → Algebra Attribute
   attributeBy s =
       record {
-        onAtom = λ a lo hi. countedAttribute lo hi (s a);
+        onAtom = λ a lo hi. countedAttribute lo (s a);
         onGroup = λ a sign l. joinedAttribute (operator sign) l;
         onMark = markedAttribute;
       }

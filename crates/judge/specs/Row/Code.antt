@@ -1,14 +1,19 @@
 -- What is known of a row where it is judged: by its tests, of its rule when that is packed, and by the tally.
-use mathlib.Core.{Path._≡_, Path.refl, Path.sym, Path.ap, Path._∙_, Bool.true, List.List, List.map}
+use mathlib.Core.{Path._≡_, Path.refl, Path.sym, Path.ap, Path._∙_, Bool.true, List.List, List.[], List.map}
 use Prim.Native.Nat.{ℕ, _≤_}
 use native.Mathlib.Omega.{arith}
 use borrow.Author.Tests.{leb-true}
 use lib.{Dec.leb, ListN.length, ListN.take, ListN.getD}
 use Rattle.judge.specs.{Reading.Buffer.Stores, Packed.nodeIn, Packed.ruleIn, Row.upto, Row.rowTested, Row.judged, Row.Attribute.seen, Row.Tally.seenOf}
+use Rattle.judge.specs.Row.Tally.{upto-more, Seeing}
+use Rattle.judge.specs.{FirstFault.upperCounts, FirstFault.firstFault, FirstFault.Laws.first-exactly, FirstFault.Meaning.sound-rule}
+use Rattle.judge.specs.{FirstFault.Meaning.faulty-rule, Row.Attribute.Within}
+use Rattle.judge.specs.declared.verdict.FirstFault.the-variants.{At, Nothing}
 use Rattle.judge.specs.{Row.Tally.Tallied, Row.Pass.seenVerdict, Row.Pass.verdict-seen, declared.row.Tested.Tested}
 use Rattle.judge.specs.declared.row.Tested.the-variants.{Passed, Refused as Failed}
 use Rattle.judge.specs.declared.verdict.Judged.the-variants.{Verdict, Refused}
-use Rattle.model.specs.{declared.rule.Rule.Rule, declared.rule.Node.Node, Word.Word}
+use Rattle.model.specs.{declared.rule.Rule.Rule, declared.rule.Node.Node, declared.verdict.Verdict.the-variants.Dead, Word.Word, Types.symbols}
+use Rattle.model.specs.Membership.{over?}
 use Rattle.model.specs.{Verdict.verdict, Tree.atoms, Tree.nodes, Model.Laws.length-encode, Model.atomsIn, Rule.names, Rule.ruleWith, Rule.ruleType, Rule.used}
 use Rattle.model.specs.{Rule.Laws.used-with, Rule.Laws.used-is, Rule.Names.names-model, Check.readable, Check.Exact.readable-formed}
 use Rattle.fields.specs.{Tests.by-test, Limits.maxAtoms, Limits.maxNodes, Limits.maxRow}
@@ -64,13 +69,37 @@ module _ {r : Rule} {w : Word} {n : ℕ} (p : Passes r w n) (words : List ℕ) (
       × (((readable (ruleIn words (r .len)) ≡ true) × (n ≡ atomsIn (map nodeIn (take (r .len) words)))) × ((length w ≤ maxRow) × (upto n w ≡ true)))
   packed-passes = ((h .few, h .whole), ((rw packed-is (p .good), rw (h .held) (p .names-are)), (p .short, p .named)))
 
+-- what the first pass asks, of the nodes that the words hold
+pub searchable : (words : List ℕ) (len m : ℕ) (w : Word) {s : List ℕ} → ((len ≤ maxNodes) × (length words ≡ maxNodes))
+    × (((readable (ruleIn words len) ≡ true) × (m ≡ atomsIn (map nodeIn (take len words)))) × ((length w ≤ maxRow) × (upto m w ≡ true)))
+    → Seeing [] [] s → ((len ≤ maxNodes) × (length words ≡ maxNodes))
+    × (((atomsIn (map nodeIn (take len words)) ≤ maxAtoms) × Seeing [] [] s) × ((length w ≤ maxRow) × (upto maxAtoms w ≡ true)))
+searchable words len m w p t =
+    let a = atoms-within (map nodeIn (take len words)) (p .1 .0 .0) (p .1 .0 .1) in
+    (p .0, ((omega (arith, p .1 .0 .1), t), (p .1 .1 .0, upto-more m maxAtoms w a (p .1 .1 .1))))
+
 -- the first pass has counted each name of a readable rule
 pub names-tallied : (r : Rule) → readable r ≡ true → (w : Word) (s : List ℕ) → Tallied w s
     → (k : ℕ) → k ≤ names r → seenOf (length w) (getD s k 0) ≡ seen w k
 names-tallied r e w s g k h = g k (omega (arith, readable-within r e .1))
 
--- the second pass, with what the first has counted
-pub verdict-tallied : (l : List Node) → readable (ruleWith l) ≡ true → (w : Word) {m : ℕ} → m ≡ atomsIn l → upto m w ≡ true → (s : List ℕ) → Tallied w s
-    → seenVerdict (ruleWith l) (length w) (λ k. seenOf (length w) (getD s k 0)) ≡ verdict (ruleType (ruleWith l)) w
-verdict-tallied l e w {m} f h s g =
-    verdict-seen (ruleWith l) e w (rw (used-with l, ← f) h) (λ k. seenOf (length w) (getD s k 0)) (names-tallied (ruleWith l) e w s g)
+-- The row of the rule of these nodes: what the passes tell of it.
+module _ (l : List Node) (e : readable (ruleWith l) ≡ true) (w : Word) {m : ℕ} (f : m ≡ atomsIn l) (h : upto m w ≡ true) where
+  named : upto (names (ruleWith l)) w ≡ true
+  named = rw (used-with l, ← f) h
+
+  -- where the first has found a fault, the row is dead
+  pub verdict-stopped : {p : ℕ} → firstFault (upperCounts l) w ≡ At p → verdict (ruleType (ruleWith l)) w ≡ Dead
+  verdict-stopped {p} d =
+      faulty-rule (ruleWith l) e w named {p = p} (rw (used-with l) (first-exactly (upperCounts l) w (At p) .0 d .0))
+
+  module _ (d : firstFault (upperCounts l) w ≡ Nothing) where
+    -- no name is foreign, and none stands too often
+    pub row-sound : (over? (symbols (ruleType (ruleWith l))) w ≡ true) × Within (ruleType (ruleWith l)) w
+    row-sound = sound-rule (ruleWith l) e w named (rw (used-with l) d)
+
+    -- and the second tells the verdict, with what the first has counted
+    pub verdict-tallied : (s : List ℕ) → Tallied w s
+        → seenVerdict (ruleWith l) (length w) (λ k. seenOf (length w) (getD s k 0)) ≡ verdict (ruleType (ruleWith l)) w
+    verdict-tallied s g =
+        verdict-seen (ruleWith l) e w (row-sound .0) (row-sound .1) (λ k. seenOf (length w) (getD s k 0)) (names-tallied (ruleWith l) e w s g)

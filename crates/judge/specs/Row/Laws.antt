@@ -1,12 +1,13 @@
 -- Every row has one answer, and `judged` computes it.
 use mathlib.Core.{Path._≡_, Path.refl, Path.sym, Path.ap, List.[], List._∷_}
-use Prim.Native.Nat.{ℕ}
+use Prim.Native.Nat.{ℕ, _≤_}
 use native.Mathlib.Omega.{arith}
 use lib.{Dec.leb, ListN.length}
-use Rattle.model.specs.{declared.rule.Rule.Rule, Word.Word, Verdict.Laws.verdict-says, Verdict.Laws.verdict-is, Rule.names, Rule.ruleType, Rule.Means}
+use Rattle.model.specs.{declared.rule.Rule.Rule, Word.Word, Verdict.Laws.verdict-says, Verdict.Laws.verdict-is, Rule.names, Rule.ruleType, Rule.Means, Rule.Readable}
 use Rattle.model.specs.{Check.readable, declared.verdict.Verdict.Verdict, Types.Ty, Verdict.Says, Rule.Laws.means-once}
 use Rattle.model.specs.Check.Exact.{readable-is, type-means, means-type, means-conflict-free}
 use Rattle.judge.specs.{declared.verdict.Judged.Judged, declared.verdict.Judged.the-variants.Verdict as Said}
+use Rattle.judge.specs.declared.row.Tested.the-variants.{Passed}
 use Rattle.judge.specs.Row.{Upto, Judges, rowTested, judged, upto, unreadable, long-row, unknown-name, by-meaning}
 use Rattle.fields.specs.Tests.{by-test, Tells, untold, fails, tells-le, tells-and}
 use Rattle.fields.specs.Limits.{maxRow}
@@ -14,6 +15,11 @@ use Rattle.fields.specs.Limits.{maxRow}
 pub upto-tells : (n : ℕ) (w : Word) → Tells (upto n w) (Upto n w)
 upto-tells n [] = (λ e. tt, λ h. refl)
 upto-tells n (x ∷ w) = tells-and (leb x n) (upto n w) (tells-le x n) (upto-tells n w)
+
+-- a row that is not refused
+pub test-passed : (r : Rule) (w : Word) → Readable r → length w ≤ maxRow → Upto (names r) w → rowTested r w ≡ Passed (names r)
+unfolding rowTested
+test-passed r w i l u = rw (readable-is r .1 i, tells-le (length w) maxRow .1 l, upto-tells (names r) w .1 u)
 
 pub judged-judges : (r : Rule) (w : Word) → Judges r w (judged r w)
 unfolding judged rowTested
@@ -38,7 +44,7 @@ judged-is r w (long-row i h) =
 judged-is r w (unknown-name i l h) =
     rw (readable-is r .1 i, tells-le (length w) maxRow .1 l, fails (upto (names r) w) (upto-tells (names r) w) h)
 judged-is r w (by-meaning {A} {v} m l u s) =
-    rw (readable-is r .1 (m .text, m .reads), tells-le (length w) maxRow .1 l, upto-tells (names r) w .1 u)
+    rw (test-passed r w (m .text, m .reads) l u)
     (ap Said (sym (verdict-is (ruleType r) (rw (means-type m) at (means-conflict-free m)) w v .1 (rw (means-type m) at s))))
 
 -- the verdict on a row that is not refused

@@ -2,7 +2,7 @@
 use mathlib.Core.{Path._≡_, Path.refl, Bool.Bool, Bool.cond, List.List, List.[], List._∷_, List._++_}
 use Prim.Native.Nat.{ℕ, zero, suc}
 use lib.{Dec.eqb, ListN.length, ListN.getD}
-use Rattle.model.specs.{declared.rule.Upper.Upper, declared.rule.Kind.Kind, declared.rule.Rule.Rule, Rule.used, Model.operator, Model.eval}
+use Rattle.model.specs.{declared.rule.Kind.Kind, declared.rule.Rule.Rule, Rule.used, Model.operator, Model.eval}
 use Rattle.model.specs.declared.rule.Kind.the-variants.{Atom, Group}
 use Rattle.judge.specs.{declared.tally.Seen.Seen, declared.attribute.Attribute.Attribute, Row.Stack.Parts, Row.Joined.members-more}
 use Rattle.judge.specs.Row.Attribute.{emptyAttribute, atomAttribute, pairAttribute, countedAttribute, joinedAttribute, attributeBy}
@@ -13,7 +13,7 @@ rootAttribute r n s = getD (eval (attributeBy n s) (used r) 1) 0 (emptyAttribute
 
 -- of an atom, by what is seen of its name, or of a group, by some first of its members
 unfoldable pub partAttribute : ℕ → Kind → Seen → List Attribute → Attribute
-partAttribute n (Atom lo hi) x l = countedAttribute n lo hi x
+partAttribute n (Atom lo hi) x l = countedAttribute n lo x
 partAttribute n (Group s m) x l = joinedAttribute n (operator s) l
 
 -- a member more, which may be the first
@@ -21,9 +21,9 @@ unfoldable pub grownAttribute : Kind → Bool → Attribute → Attribute → At
 grownAttribute (Atom lo hi) b x y = x
 grownAttribute (Group s m) b x y = cond b y (pairAttribute (operator s) x y)
 
-pub counted-from : (n m : ℕ) (k : Upper) (x : Seen) → ¬ (m ≡ 0) → countedAttribute n m k x ≡ atomAttribute m k x
-counted-from n zero k x h = absurd (h refl)
-counted-from n (suc m) k x h = refl
+pub counted-from : (n m : ℕ) (x : Seen) → ¬ (m ≡ 0) → countedAttribute n m x ≡ atomAttribute m x
+counted-from n zero x h = absurd (h refl)
+counted-from n (suc m) x h = refl
 
 part-more : (n : ℕ) (κ : Kind) (z : Seen) (l : List Attribute) (y : Attribute)
     → partAttribute n κ z (l ++ (y ∷ [])) ≡ grownAttribute κ (eqb (length l) 0) (partAttribute n κ z l) y

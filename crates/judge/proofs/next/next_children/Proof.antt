@@ -3,7 +3,7 @@ use mathlib.Core.Path.{refl}
 use native.Mathlib.Omega.{arith}
 use borrow.Author.Needs.{needs}
 use Rattle.judge.specs.{Row.Tally.seeing-none, Next.childrenNext}
-use Rattle.judge.specs.Reply.Read.{read-both, reply-model, reply-children, row-listed}
+use Rattle.judge.specs.Reply.Read.{read-both, read-fault, reply-model, reply-children, row-listed, fault-listed}
 use Rattle.judge.proofs.next.next_children.Statement.{statement}
 use Rattle.judge.proofs.next.next_children.Tie as tie
 
@@ -18,13 +18,10 @@ abbrev known : tie.After-seen2 → tie.After-known-told
 known c = c .before .before
 
 read-children-requires : tie.Need-read-children-requires
-read-children-requires c κs = (refl, seeing-none 64 65 (omega arith))
+read-children-requires c κs = (refl, seeing-none 65 (omega arith))
 
-enum-known-read : tie.Need-enum-known-read
-enum-known-read c = search needs
-
-next-by-requires : tie.Need-next-by-requires
-next-by-requires c κs =
+root-next-requires : tie.Need-root-next-requires
+root-next-requires c κs =
     let t = known c in
     let b = read-both (read t .read-children .ensures) (t .before .read .given .1) in
     (b .nodes, b .names)
@@ -34,42 +31,40 @@ list-names-requires c κs =
     let t = known (c .before .before) in
     read-both (read t .read-children .ensures) (t .before .read .given .1) .names .1
 
-enum-known-f : tie.Need-enum-known-f
-enum-known-f c = search needs
-
-enum-known-f-2 : tie.Need-enum-known-f-2
-enum-known-f-2 c = search needs
-
-same-length : tie.Need-same-length
-same-length c = search needs
-
 returns : tie.Need-returns
 returns c =
     let l = c .before .before in
     let n = l .before .before in
     let t = known (n .before) in
     let b = read-both (read t .read-children .ensures) (t .before .read .given .1) in
-    row-listed b (n .next-by .ensures) (start (read t) .args .row .now) (l .list-names .ensures)
+    row-listed b (n .root-next .ensures) (start (read t) .args .row .now) (l .list-names .ensures)
 
 returns-2 : tie.Need-returns-2
-unfolding childrenNext
-returns-2 c = rw (reply-model (c .before .before .before .read-children .ensures) _ (c .before .f .given .1)) (refl, refl)
+returns-2 c =
+    let r = c .before .before in
+    fault-listed (read-fault (r .read-children .ensures) (c .enum-told .given .1)) (start r .args .row .now)
 
 returns-3 : tie.Need-returns-3
 unfolding childrenNext
-returns-3 c = rw (reply-children (c .before .before .before .read-children .ensures) _ (c .before .f2 .given .1)) (refl, refl)
+returns-3 c = rw (reply-model (c .before .before .before .read-children .ensures) _ (c .before .f .given .1)) (refl, refl)
+
+returns-4 : tie.Need-returns-4
+unfolding childrenNext
+returns-4 c = rw (reply-children (c .before .before .before .read-children .ensures) _ (c .before .f2 .given .1)) (refl, refl)
 
 pub next-children-spec : {M : Type 1} → statement M
 next-children-spec =
     tie.close
     (tie.spec
     read-children-requires
-    enum-known-read
-    next-by-requires
+    (λ c. search needs)
+    root-next-requires
     list-names-requires
-    enum-known-f
-    enum-known-f-2
-    same-length
+    (λ c. search needs)
+    (λ c. search needs)
+    (λ c. search needs)
+    (λ c. search needs)
     returns
     returns-2
-    returns-3)
+    returns-3
+    returns-4)

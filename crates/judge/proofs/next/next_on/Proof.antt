@@ -1,45 +1,61 @@
--- A readable rule is within the limits; the tally then tells the names, and they are listed.
-use mathlib.Core.List.{map}
+-- A readable rule is within the limits; the first pass finds a fault, and no name may come, or its tally tells the names, and they are listed.
+use mathlib.Core.List.{List, map}
 use Prim.Native.Nat.{_≤_}
 use native.Mathlib.Omega.{arith}
 use lib.ListN.{take}
-use Rattle.judge.specs.{Packed.nodeIn, Row.Tally.upto-more, Row.Tally.seeing-none, Row.Code.atoms-within, Next.Code.next-tallied}
+use Rattle.model.specs.declared.rule.Node.{Node}
+use Rattle.judge.specs.{Packed.nodeIn, Row.Tally.seeing-none, Row.Tally.fault-told, Row.Code.atoms-within, Row.Code.searchable}
+use Rattle.judge.specs.Next.Code.{next-stopped, next-tallied, hands-no-names}
 use borrow.Author.Needs.{needs}
 use Rattle.judge.proofs.next.next_on.Statement.{statement}
 use Rattle.judge.proofs.next.next_on.Tie as tie
 
-abbrev entry : tie.After-tally-row → tie.Start
+abbrev nodes : tie.Start → List Node
+nodes s = map nodeIn (take (s .args .len) (s .args .words .now))
+
+-- the start, where the row was searched, and where no child is at fault
+abbrev entry : tie.After-search-row → tie.Start
 entry c = c .before .before .before .before
 
-abbrev tallied : tie.After-next-by → tie.After-tally-row
-tallied c = c .before .before
+abbrev sound : tie.After-enum-told2 → tie.After-search-row
+sound c = c .before .before
+
+abbrev told : tie.After-root-next → tie.After-enum-told2
+told c = c .before .before
 
 few : (s : tie.Start) → s .args .names ≤ 64
-few s = atoms-within (map nodeIn (take (s .args .len) (s .args .words .now))) (s .pre .1 .0 .0) (s .pre .1 .0 .1)
+few s = atoms-within (nodes s) (s .pre .1 .0 .0) (s .pre .1 .0 .1)
 
-tally-row-requires : tie.Need-tally-row-requires
-tally-row-requires c κs =
+search-row-requires : tie.Need-search-row-requires
+search-row-requires c κs =
     let s = c .before .before .before in
-    ((s .pre .1 .1 .0, upto-more (s .args .names) 64 (s .args .children .now) (few s) (s .pre .1 .1 .1)), seeing-none 64 65 (omega arith))
+    searchable (s .args .words .now) (s .args .len) (s .args .names) (s .args .children .now) (s .pre) (seeing-none 65 (omega arith))
 
-next-by-requires : tie.Need-next-by-requires
-next-by-requires c κs =
-    let s = entry (c .before) in
-    (s .pre .0, (s .pre .1 .0 .1, few s))
+root-next-requires : tie.Need-root-next-requires
+root-next-requires c κs = let s = entry (sound (c .before)) in (s .pre .0, (s .pre .1 .0 .1, few s))
 
 list-names-requires : tie.Need-list-names-requires
-list-names-requires c κs = few (entry (tallied (c .before)))
+list-names-requires c κs = few (entry (sound (told (c .before))))
 
 returns : tie.Need-returns
 returns c =
+    let f = c .before .before in
+    let s = entry f in
+    hands-no-names (s .args .row .now)
+    (next-stopped (nodes s) (s .pre .1 .0 .0) (s .args .children .now) (s .pre .1 .0 .1) (s .pre .1 .1 .1)
+    (fault-told (f .search-row .ensures) (c .enum-told .given .1)))
+
+returns-2 : tie.Need-returns-2
+returns-2 c =
     let n = c .before .before in
     let b = n .before .before in
-    let t = tallied b in
-    let s = entry t in
+    let f = sound (told b) .search-row in
+    let s = entry (sound (told b)) in
+    let e = told b .enum-told2 .given .1 in
     rw (
-      b .next-by .ensures,
-      next-tallied (map nodeIn (take (s .args .len) (s .args .words .now))) (s .pre .1 .0 .0) (s .args .children .now) (s .pre .1 .0 .1) (s .pre .1 .1 .1)
-          (t .tally-row .last .1 .0) (t .tally-row .ensures),
+      b .root-next .ensures,
+      next-tallied (nodes s) (s .pre .1 .0 .0) (s .args .children .now) (s .pre .1 .0 .1) (s .pre .1 .1 .1) (fault-told (f .ensures) e)
+          (f .last .1 .1 .1 .0) (f .ensures .tallied e),
     )
     at (n .list-names .ensures)
 
@@ -47,9 +63,12 @@ pub next-on-spec : {M : Type 1} → statement M
 next-on-spec =
     tie.close
     (tie.spec
-    tally-row-requires
+    search-row-requires
     (λ c. search needs)
-    next-by-requires
+    (λ c. search needs)
+    (λ c. search needs)
+    root-next-requires
     list-names-requires
+    returns
     (λ c. search needs)
-    returns)
+    returns-2)

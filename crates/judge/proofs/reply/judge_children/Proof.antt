@@ -3,7 +3,7 @@ use mathlib.Core.Path.{refl, sym, ap}
 use native.Mathlib.Omega.{arith}
 use borrow.Author.Needs.{needs}
 use Rattle.judge.specs.{Row.Tally.seeing-none, Reply.childrenReply, Reply.judgedOf}
-use Rattle.judge.specs.Reply.Read.{read-both, reply-model, reply-children, row-judged}
+use Rattle.judge.specs.Reply.Read.{read-both, read-fault, reply-model, reply-children, row-judged, fault-judged}
 use Rattle.judge.proofs.reply.judge_children.Statement.{statement}
 use Rattle.judge.proofs.reply.judge_children.Tie as tie
 
@@ -15,10 +15,7 @@ abbrev known : tie.After-seen2 → tie.After-known-told
 known c = c .before .before
 
 read-children-requires : tie.Need-read-children-requires
-read-children-requires c κs = (refl, seeing-none 64 65 (omega arith))
-
-enum-known-read : tie.Need-enum-known-read
-enum-known-read c = search needs
+read-children-requires c κs = (refl, seeing-none 65 (omega arith))
 
 verdict-by-requires : tie.Need-verdict-by-requires
 verdict-by-requires c κs =
@@ -26,34 +23,33 @@ verdict-by-requires c κs =
     let b = read-both (read t .read-children .ensures) (t .before .read .given .1) in
     (b .nodes, b .names)
 
-enum-known-f : tie.Need-enum-known-f
-enum-known-f c = search needs
-
-enum-known-f-2 : tie.Need-enum-known-f-2
-enum-known-f-2 c = search needs
-
 returns : tie.Need-returns
 returns c =
     let t = known (c .before) in
     row-judged (read-both (read t .read-children .ensures) (t .before .read .given .1)) (c .verdict-by .ensures)
 
 returns-2 : tie.Need-returns-2
-unfolding childrenReply
-returns-2 c = sym (ap judgedOf (reply-model (c .before .before .before .read-children .ensures) _ (c .before .f .given .1)))
+returns-2 c = fault-judged (read-fault (c .before .before .read-children .ensures) (c .enum-told .given .1))
 
 returns-3 : tie.Need-returns-3
 unfolding childrenReply
-returns-3 c = sym (ap judgedOf (reply-children (c .before .before .before .read-children .ensures) _ (c .before .f2 .given .1)))
+returns-3 c = sym (ap judgedOf (reply-model (c .before .before .before .read-children .ensures) _ (c .before .f .given .1)))
+
+returns-4 : tie.Need-returns-4
+unfolding childrenReply
+returns-4 c = sym (ap judgedOf (reply-children (c .before .before .before .read-children .ensures) _ (c .before .f2 .given .1)))
 
 pub judge-children-spec : {M : Type 1} → statement M
 judge-children-spec =
     tie.close
     (tie.spec
     read-children-requires
-    enum-known-read
+    (λ c. search needs)
     verdict-by-requires
-    enum-known-f
-    enum-known-f-2
+    (λ c. search needs)
+    (λ c. search needs)
+    (λ c. search needs)
     returns
     returns-2
-    returns-3)
+    returns-3
+    returns-4)

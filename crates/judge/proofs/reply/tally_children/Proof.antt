@@ -1,43 +1,51 @@
--- Child behind child: those passed are names, and s tells of each name what is seen among them.
-use mathlib.Core.{Path._≡_, Path.sym, Path.ap, Path._∙_, List.List}
+-- Child behind child: those passed are names and not at fault, and they are seen.
+use mathlib.Core.{Path._≡_, Path.sym, Path.ap, Path._∙_, List.List, List.[]}
 use Prim.Native.Nat.{_+_, _-_, _≤_}
 use native.Mathlib.Omega.{arith}
-use lib.ListN.{length, take, drop}
-use borrow.Author.Needs.{needs}
+use lib.ListN.{length, take, drop, getD}
+use borrow.Author.{Needs.needs, Tests.ltb-true, Tests.ltb-false}
 use Rattle.fields.specs.Bytes.{Text}
-use Rattle.model.specs.Syntax.{numberIn}
-use Rattle.judge.specs.{Reading.Laws.last-number, Reply.Children.ChildrenPassed}
+use Rattle.model.specs.{declared.rule.Upper.Upper, Syntax.numberIn}
+use Rattle.judge.specs.{Named.rowOf, Reading.Laws.last-number, Reply.childrenIn}
+use Rattle.judge.specs.Reply.Children.{ChildrenPassed, row-whole, no-row}
 use Rattle.judge.specs.Reading.Table.{keyOf, partsIn, lastIn}
-use Rattle.judge.specs.Reply.Children.Laws.{NameMet, met-name, walk-starts, walk-none, walk-stops, walk-notes, walk-goes, walk-few, walk-many}
+use Rattle.judge.specs.Row.Tally.{oneLeft, Seeing, RowPassed, row-starts, row-stops, row-goes, row-ends}
+use Rattle.judge.specs.Reply.Children.Laws.{NameMet, met-name, walk-starts, walk-stops, walk-inside, walk-number, walk-goes, walk-faulty}
+use Rattle.judge.specs.Reply.Children.Laws.{walk-ends, walk-few, walk-many}
 use Rattle.judge.proofs.reply.tally_children.Statement.{statement}
 use Rattle.judge.proofs.reply.tally_children.Tie as tie
 
 abbrev Inv-loop : tie.InvT-loop
-Inv-loop model names n heads children seen₀ count₀ at₀ seen count at = ChildrenPassed (partsIn model names n) children seen count at
+Inv-loop model names n heads children seen₀ count₀ at₀ seen count at =
+    ChildrenPassed children count at
+    × ((us : List Upper) → Seeing us [] seen₀ → RowPassed us (rowOf (partsIn model names n) (childrenIn children)) count seen)
 
 abbrev μ-loop : tie.MeasureT-loop
 μ-loop model names n heads children seen₀ count₀ at₀ seen count at = length children + 1 - at
 
--- places: the start, the loop's head, and where the child is known to be a name
+-- places: the start, the loop's head, and where the child is known to be a name and looked up
 abbrev entry : tie.At-loop Inv-loop μ-loop → tie.Start Inv-loop μ-loop
-entry c = c .before .before .before .before
+entry c = c .before .before .before
 
 abbrev turn : tie.After-is-child Inv-loop μ-loop → tie.In-loop Inv-loop μ-loop
 turn c = c .before .before
 
-abbrev known : tie.After-find Inv-loop μ-loop → tie.Then2 Inv-loop μ-loop
+abbrev known : tie.After-find Inv-loop μ-loop → tie.Then1 Inv-loop μ-loop
 known c = c .before .before .before
 
-abbrev start : tie.Then2 Inv-loop μ-loop → tie.Start Inv-loop μ-loop
+abbrev start : tie.Then1 Inv-loop μ-loop → tie.Start Inv-loop μ-loop
 start c = entry (turn (c .before) .before)
 
 abbrev head : tie.After-find Inv-loop μ-loop → tie.At-loop Inv-loop μ-loop
 head c = turn (known c .before) .before
 
-met : (c : tie.Then2 Inv-loop μ-loop) → NameMet (start c .args .children .now) (turn (c .before) .before .loop .at) (c .before .before .name-end .result .end)
+abbrev found : tie.After-is-full Inv-loop μ-loop → tie.After-find Inv-loop μ-loop
+found c = c .before .before
+
+met : (c : tie.Then1 Inv-loop μ-loop) → NameMet (start c .args .children .now) (turn (c .before) .before .loop .at) (c .before .before .name-end .result .end)
 met c =
     met-name (start c .args .children .now) (turn (c .before) .loop-test .taken) (c .before .before .name-end .ensures .end-is)
-    (sym (c .before .is-child .ensures) ∙ c .if2 .taken)
+    (sym (c .before .is-child .ensures) ∙ c .if1 .taken)
 
 abbrev texts : tie.Start Inv-loop μ-loop → List Text
 texts s = partsIn (s .args .model .now) (s .args .names .now) (s .args .n)
@@ -52,13 +60,14 @@ number-is c =
 
 -- each child and its tab have two bytes
 few : (c : tie.In-loop Inv-loop μ-loop) → c .before .loop .count ≤ 32768
-few c = omega (arith, c .before .loop .inv .apart, c .loop-test .taken, entry (c .before) .pre .1 .0)
+few c = omega (arith, c .before .loop .inv .0 .apart, c .loop-test .taken, entry (c .before) .pre .1 .1)
 
-returns : tie.Need-returns Inv-loop μ-loop
-returns c = let s = c .before .before .before in walk-none _ (s .args .children .now) (s .pre .1 .1) (c .if1 .taken)
+-- one further child may have the name
+free : (c : tie.Else2 Inv-loop μ-loop) → let f = found (c .before) in oneLeft ≤ getD (head f .loop .seen) (f .find .result) 0
+free c = ltb-false _ _ (sym (c .before .is-full .ensures) ∙ c .if2 .left)
 
 loop-holds : tie.Need-loop-holds Inv-loop μ-loop
-loop-holds c = let s = c .before .before .before in walk-starts _ (s .args .children .now) (s .pre .1 .1) (c .if1 .left)
+loop-holds c = let s = c .before .before in (walk-starts (s .args .children .now) (s .pre .1 .0), λ us t. row-starts _ t)
 
 name-end-requires : tie.Need-name-end-requires Inv-loop μ-loop
 name-end-requires c κs = c .loop-test .taken
@@ -66,10 +75,10 @@ name-end-requires c κs = c .loop-test .taken
 is-child-requires : tie.Need-is-child-requires Inv-loop μ-loop
 is-child-requires c κs = (c .before .loop-test .taken, c .name-end .ensures)
 
-returns-2 : tie.Need-returns-2 Inv-loop μ-loop
-returns-2 c =
+returns : tie.Need-returns Inv-loop μ-loop
+returns c us _ =
     let t = turn (c .before) in
-    walk-stops (entry (t .before) .args .children .now) (t .before .loop .inv) (t .loop-test .taken) (sym (c .before .is-child .ensures) ∙ c .if2 .left)
+    no-row (walk-stops (entry (t .before) .args .children .now) (t .before .loop .inv .0) (t .loop-test .taken) (sym (c .before .is-child .ensures) ∙ c .if1 .left))
 
 slot-of-requires : tie.Need-slot-of-requires Inv-loop μ-loop
 slot-of-requires c κs = search needs
@@ -93,49 +102,78 @@ find-requires c κs =
 cast-number : tie.Need-cast-number Inv-loop μ-loop
 cast-number c = search needs
 
-mul-noted : tie.Need-mul-noted Inv-loop μ-loop
-mul-noted c = omega (arith, c .find .ensures .1)
+mul-word : tie.Need-mul-word Inv-loop μ-loop
+mul-word c = omega (arith, c .find .ensures .1)
 
-element-copy-out-noted : tie.Need-element-copy-out-noted Inv-loop μ-loop
-element-copy-out-noted c = omega (arith, c .find .ensures .1)
+element-copy-out-word : tie.Need-element-copy-out-word Inv-loop μ-loop
+element-copy-out-word c = omega (arith, c .find .ensures .1)
+
+is-full-requires : tie.Need-is-full-requires Inv-loop μ-loop
+is-full-requires c κs = search needs
+
+stopped-requires : tie.Need-stopped-requires Inv-loop μ-loop
+stopped-requires c κs =
+    let t = known (found (c .before)) in
+    (met t .bounds .1, start t .pre .1 .1, omega (arith, few (turn (t .before))))
+
+returns-2 : tie.Need-returns-2 Inv-loop μ-loop
+returns-2 c us t =
+    let u = c .before .before in
+    let f = found u in
+    let k = known f in
+    let s = start k in
+    let p = head f .loop .inv in
+    let h = turn (k .before) .loop-test .taken in
+    rw (c .stopped .ensures)
+    (walk-faulty (s .args .children .now) (p .0) h (met k) us (texts s) _
+    (row-stops (p .1 us t) (walk-inside (s .args .children .now) (p .0) h (met k) (texts s)) (omega (arith, few (turn (k .before))))
+    (walk-number (s .args .children .now) (p .0) h (met k) (texts s) (number-is f)) (f .find .ensures .1)
+    (ltb-true _ _ (sym (u .is-full .ensures) ∙ c .before .if2 .taken))))
 
 cast-noted : tie.Need-cast-noted Inv-loop μ-loop
-cast-noted c = omega (arith, few (turn (known (c .before) .before)))
+cast-noted c = omega (arith, few (turn (known (found (c .before)) .before)))
 
 noted-requires : tie.Need-noted-requires Inv-loop μ-loop
-noted-requires c κs =
-    let f = c .before in
-    let p = head f .loop .inv in
-    let n = few (turn (known f .before)) in
-    (omega (arith, walk-notes (start (known f) .args .children .now) p (head f .loop .count) (f .find .result) (f .find .ensures .1), n), omega (arith, n))
+noted-requires c κs = free c
 
 mul-seen : tie.Need-mul-seen Inv-loop μ-loop
-mul-seen c = omega (arith, c .before .before .find .ensures .1)
+mul-seen c = omega (arith, found (c .before .before) .find .ensures .1)
 
 element-write-seen : tie.Need-element-write-seen Inv-loop μ-loop
-element-write-seen c = omega (arith, c .before .before .find .ensures .1)
+element-write-seen c = omega (arith, found (c .before .before) .find .ensures .1)
 
 add-count : tie.Need-add-count Inv-loop μ-loop
-add-count c = omega (arith, few (turn (known (c .before .before) .before)))
+add-count c = omega (arith, few (turn (known (found (c .before .before)) .before)))
 
 add-at : tie.Need-add-at Inv-loop μ-loop
-add-at c = let t = known (c .before .before) in omega (arith, met t .bounds, start t .pre .1 .0)
+add-at c = let t = known (found (c .before .before)) in omega (arith, met t .bounds, start t .pre .1 .1)
 
 loop-less : tie.Need-loop-less Inv-loop μ-loop
-loop-less c = let t = known (c .before .before) in omega (arith, met t .bounds, turn (t .before) .loop-test .taken)
+loop-less c = let t = known (found (c .before .before)) in omega (arith, met t .bounds, turn (t .before) .loop-test .taken)
 
 loop-again : tie.Need-loop-again Inv-loop μ-loop
 loop-again c =
-    let f = c .before .before in
-    let t = known f in
-    walk-goes (start t .args .children .now) (head f .loop .inv) (turn (t .before) .loop-test .taken) (met t) (c .noted .result) (number-is f)
-    (f .find .ensures .1) (c .noted .ensures)
+    let f = found (c .before .before) in
+    let k = known f in
+    let s = start k in
+    let p = head f .loop .inv in
+    let h = turn (k .before) .loop-test .taken in (
+      walk-goes (s .args .children .now) (p .0) h (met k),
+      λ us t. row-goes (p .1 us t) (walk-inside (s .args .children .now) (p .0) h (met k) (texts s)) (omega (arith, few (turn (k .before))))
+          (walk-number (s .args .children .now) (p .0) h (met k) (texts s) (number-is f)) (f .find .ensures .1) (free (c .before)) (c .noted .ensures),
+    )
 
 returns-3 : tie.Need-returns-3 Inv-loop μ-loop
-returns-3 c = let h = c .before .before in walk-few (entry h .args .children .now) (h .loop .inv) (c .before .loop-test .left) (c .if3 .taken)
+returns-3 c us t =
+    let h = c .before .before in
+    let s = entry h in
+    let p = h .loop .inv in
+    let n = walk-ends (s .args .children .now) (p .0) (c .before .loop-test .left) (texts s) in
+    row-whole (walk-few (s .args .children .now) (p .0) (c .before .loop-test .left) (c .if3 .taken))
+    (row-ends (p .1 us t) (omega (arith, n)) (omega (arith, n, c .if3 .taken)))
 
 returns-4 : tie.Need-returns-4 Inv-loop μ-loop
-returns-4 c = let h = c .before .before in walk-many (entry h .args .children .now) (h .loop .inv) (c .before .loop-test .left) (c .if3 .left)
+returns-4 c us t = let h = c .before .before in no-row (walk-many (entry h .args .children .now) (h .loop .inv .0) (c .before .loop-test .left) (c .if3 .left))
 
 pub tally-children-spec : {M : Type 1} → statement M
 tally-children-spec =
@@ -143,19 +181,21 @@ tally-children-spec =
     (tie.spec
     Inv-loop
     μ-loop
-    returns
     loop-holds
     name-end-requires
     is-child-requires
-    returns-2
+    returns
     slot-of-requires
     sub-find
     part-find-start
     part-find-end
     find-requires
     cast-number
-    mul-noted
-    element-copy-out-noted
+    mul-word
+    element-copy-out-word
+    is-full-requires
+    stopped-requires
+    returns-2
     cast-noted
     noted-requires
     mul-seen

@@ -1,0 +1,129 @@
+-- The upper counts are those of the nodes passed.
+use mathlib.Core.{Path._≡_, Path.refl, Path._∙_, List.List, List.[], List.map}
+use Prim.Native.Nat.{ℕ, _+_, _-_, _≤_, _<_}
+use native.Mathlib.Omega.{arith}
+use lib.{ListN.length, ListN.take, ListN.getD, ListN.set, Seq.take-all}
+use borrow.Author.Needs.{needs}
+use Rattle.model.specs.{declared.rule.Node.Node, Model.atomsIn}
+use Rattle.judge.specs.{Packed.nodeIn, FirstFault.upperCounts, Reading.Buffer.Stores, Reading.Buffer.holds-own, Reading.Buffer.holds-count}
+use Rattle.judge.specs.{Reading.Buffer.holds-at, Row.Tally.limitedWord, Row.Tally.Seeing, Row.Tally.limits-turn, Row.Tally.atoms-take}
+use Rattle.judge.proofs.tally.limit_names.Statement.{statement}
+use Rattle.judge.proofs.tally.limit_names.Tie as tie
+
+abbrev nodes : List ℕ → ℕ → List Node
+nodes words len = map nodeIn (take len words)
+
+abbrev Inv-loop : tie.InvT-loop
+Inv-loop words len seen₀ name₀ i₀ seen name i =
+    (i ≤ len) × (name ≡ atomsIn (take i (nodes words len))) × Seeing (upperCounts (take i (nodes words len))) [] seen
+
+abbrev μ-loop : tie.MeasureT-loop
+μ-loop words len seen₀ name₀ i₀ seen name i = len - i
+
+-- places: where the node is known, the loop's head, and the start
+abbrev node : tie.After-atoms-of Inv-loop μ-loop → tie.After-unpacked Inv-loop μ-loop
+node c = c .before
+
+abbrev turn : tie.After-unpacked Inv-loop μ-loop → tie.At-loop Inv-loop μ-loop
+turn k = k .before .before .before
+
+abbrev start : tie.At-loop Inv-loop μ-loop → tie.Start Inv-loop μ-loop
+start l = l .before
+
+held : (s : tie.Start Inv-loop μ-loop) → Stores nodeIn 128 (s .args .words .now) (s .args .len) (nodes (s .args .words .now) (s .args .len))
+held s = holds-own (s .pre .0 .1) (s .pre .0 .0)
+
+-- a turn, with what its calls gave
+turned : (c : tie.After-atoms-of Inv-loop μ-loop) {v : ℕ}
+    → let l = turn (node c) in
+    let n = nodes (start l .args .words .now) (start l .args .len) in
+    let name = l .loop .name + c .atoms-of .result in
+    v ≡ limitedWord (node c .unpacked .result .kind) (getD (l .loop .seen) name 0)
+    → (name ≡ atomsIn (take (l .loop .i + 1) n)) × Seeing (upperCounts (take (l .loop .i + 1) n)) [] (set (l .loop .seen) name v)
+turned c w =
+    let k = node c in
+    let l = turn k in
+    let h = held (start l) in
+    let i : l .loop .i < start l .args .len = k .before .before .loop-test .taken in
+    limits-turn (nodes (start l .args .words .now) (start l .args .len)) (nodeIn 0) (omega (arith, holds-count h)) (start l .pre .1 .0)
+    (k .unpacked .ensures ∙ holds-at h (l .loop .i) i) (l .loop .inv .1) (c .atoms-of .ensures .0) w (l .loop .inv .2)
+
+few : (c : tie.After-atoms-of Inv-loop μ-loop) → turn (node c) .loop .name + c .atoms-of .result ≤ 64
+few c =
+    let l = turn (node c) in
+    let n = nodes (start l .args .words .now) (start l .args .len) in
+    omega (arith, turned c refl .0, atoms-take n (l .loop .i + 1), start l .pre .1 .0)
+
+loop-holds : tie.Need-loop-holds Inv-loop μ-loop
+loop-holds c = (omega arith, refl, c .pre .1 .1)
+
+mul-unpacked : tie.Need-mul-unpacked Inv-loop μ-loop
+mul-unpacked c = search needs
+
+element-copy-out-unpacked : tie.Need-element-copy-out-unpacked Inv-loop μ-loop
+element-copy-out-unpacked c = search needs
+
+unpacked-requires : tie.Need-unpacked-requires Inv-loop μ-loop
+unpacked-requires c κs = search needs
+
+atoms-of-requires : tie.Need-atoms-of-requires Inv-loop μ-loop
+atoms-of-requires c κs = search needs
+
+add-name : tie.Need-add-name Inv-loop μ-loop
+add-name c = omega (arith, few c)
+
+mul-limited : tie.Need-mul-limited Inv-loop μ-loop
+mul-limited c = omega (arith, few c)
+
+element-copy-out-limited : tie.Need-element-copy-out-limited Inv-loop μ-loop
+element-copy-out-limited c = omega (arith, few c)
+
+limited-requires : tie.Need-limited-requires Inv-loop μ-loop
+limited-requires c κs = search needs
+
+mul-seen : tie.Need-mul-seen Inv-loop μ-loop
+mul-seen c = omega (arith, few (c .before .before))
+
+element-write-seen : tie.Need-element-write-seen Inv-loop μ-loop
+element-write-seen c = omega (arith, few (c .before .before))
+
+add-i : tie.Need-add-i Inv-loop μ-loop
+add-i c = search needs
+
+loop-less : tie.Need-loop-less Inv-loop μ-loop
+loop-less c = search needs
+
+loop-again : tie.Need-loop-again Inv-loop μ-loop
+loop-again c =
+    let a = c .before .before in
+    let t = turned a (c .limited .ensures) in
+    (omega (arith, node a .before .before .loop-test .taken), t .0, t .1)
+
+returns : tie.Need-returns Inv-loop μ-loop
+returns c =
+    let l = c .before in
+    let n = nodes (start l .args .words .now) (start l .args .len) in
+    let e : length n ≤ l .loop .i = omega (arith, holds-count (held (start l)), c .loop-test .left) in
+    rw (take-all (l .loop .i) n e) at (l .loop .inv .2)
+
+pub limit-names-spec : {M : Type 1} → statement M
+limit-names-spec =
+    tie.close
+    (tie.spec
+    Inv-loop
+    μ-loop
+    loop-holds
+    mul-unpacked
+    element-copy-out-unpacked
+    unpacked-requires
+    atoms-of-requires
+    add-name
+    mul-limited
+    element-copy-out-limited
+    limited-requires
+    mul-seen
+    element-write-seen
+    add-i
+    loop-less
+    loop-again
+    returns)
