@@ -8,7 +8,8 @@ use Prim.Native.Nat.{ℕ, zero, suc, _≤_, _<_}
 use lib.ListN.{length, take, getD}
 use Rattle.fields.specs.{Bytes.Text, Limits.maxRow, Least.Least, Least.NoneStands}
 use Rattle.model.specs.{declared.rule.Upper.Upper, declared.rule.Upper.the-variants.Number, declared.rule.Kind.Kind, declared.rule.Node.Node}
-use Rattle.model.specs.{declared.rule.Rule.Rule, Word.Word, Word.count, Types.Under, Membership.under, Model.modelOf, Model.encode}
+use Rattle.model.specs.{declared.rule.Rule.Rule, Word.Word, Word.count, Types.Ty, Types.ε, Types.atom, Types.join, Types.Under, Membership.under}
+use Rattle.model.specs.{Model.modelOf, Model.encode}
 use Rattle.model.specs.Rule.{Readable, used, names, nth}
 use Rattle.model.specs.declared.rule.Kind.the-variants.{Atom, Group}
 use Rattle.judge.specs.{declared.fault.JudgeFault.JudgeFault, declared.row.Tested.Tested, declared.verdict.FirstFault.FirstFault}
@@ -32,6 +33,12 @@ upperCounts (x ∷ l) = withUpper (x .kind) (upperCounts l)
 -- the upper count of a name, by its number from 1; of a foreign name no child is allowed
 abbrev pub allowed : List Upper → ℕ → Upper
 allowed us x = nth (Number 0) us x
+
+-- f gives the upper count of each atom of a type, by its name (`Ends.upper-counts`: so do a rule's upper counts for the type that it means)
+abbrev pub CountsAre : (ℕ → Upper) → Ty → Type 0
+CountsAre f ε = Unit {0}
+CountsAre f (atom a m n) = f a ≡ n
+CountsAre f (join o A B) = CountsAre f A × CountsAre f B
 
 -- The child at place p is foreign, or its name stands more often in the row up to and with it than the name's upper count allows.
 pub data FaultAt (us : List Upper) (w : Word) (p : ℕ) : Type 0 where

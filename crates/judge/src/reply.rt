@@ -3,7 +3,7 @@
 ghost use mathlib.Core.{Path._≡_, Bool.cond, List.[], List.List};
 ghost use Prim.Native.Nat.{_+_, _≤_, _<_};
 ghost use lib.{Dec.ltb, ListN.length};
-ghost use Rattle.fields.specs.{Limits.maxFile, Limits.maxAtoms, Limits.maxNodes, Limits.maxRow, Children.shortName};
+ghost use Rattle.fields.specs.{Limits.maxFile, Limits.maxNodes, Limits.maxRow, Children.shortName};
 ghost use Rattle.fields.specs.declared.fault.CueFault.the-variants.{ManyChildren};
 ghost use Rattle.model.specs.declared.rule.Upper.{Upper};
 ghost use Rattle.judge.specs.{declared.lexeme.NameEnd.NameEnd, Reading.Lexeme.NameEnds, Row.Tally.Seeing};
@@ -86,8 +86,8 @@ fn stopped(children: &[u8], end: usize, place: usize) -> ChildrenTally
     }
 }
 
-// How many children there are, and what is seen of each of the first n names among them; up to the first child at fault, if there is one. No bytes are
-// no children. Each child is looked up and noted when it is read.
+// How many children there are, and what is seen of each of the first n names among them; up to the first child at fault, if there is one. Each child is
+// looked up and noted when it is read.
 fn tally_children(
     model: &[u8],
     names: &[u64; MAX_NODES],
@@ -97,7 +97,7 @@ fn tally_children(
     seen: &mut [u64; MAX_ATOMS + 1],
 ) -> ChildrenTally
     requires { ⌜ Tabled (now model) (now names) (now heads) n × Distinct (partsIn (now model) (now names) n) ⌝ }
-    requires { ⌜ (0 < length (now children)) × (length (now children) ≤ maxFile) × (maxAtoms < length (now seen)) ⌝ }
+    requires { ⌜ (0 < length (now children)) × (length (now children) ≤ maxFile) ⌝ }
     ensures { λ r. ⌜ ((us : List Upper) → Seeing us [] (now (seen .entry))
         → ChildrenTallied us (partsIn (now (model .entry)) (now (names .entry)) n) (childrenIn (now (children .entry))) (now (seen .exit)) r) ⌝ }
 {

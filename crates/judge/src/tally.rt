@@ -23,7 +23,7 @@ pub(crate) struct Seen {
 }
 
 // What is seen of a name stands in an array as one number, of four times 16 bits: how many further children may have the name, how many have it,
-// the first place, and one past the last. The names that were not seen stand behind no place.
+// the first place, and one past the last. A name that was not seen stands behind no place.
 const LEFT: u64 = 281474976710656;
 
 const COUNT: u64 = 4294967296;
@@ -40,7 +40,7 @@ fn limit_of(max: Upper) -> u16
     }
 }
 
-// What stands for the last name so far, behind a node: where it is that name's, its upper count.
+// What stands for the last name so far, with one node more: the upper count of the node's own name, or, where it is a group, what stood there.
 fn limited(kind: Kind, word: u64) -> u64
     ensures { λ r. ⌜ r ≡ limitedWord kind word ⌝ }
 {

@@ -1,14 +1,18 @@
-// Runs what document 01 gives to try and is not proved, and the examples of document 001: a line for each, with the text or the model and the row,
-// and the answer.
+// Runs what document 01 gives to try and is not proved, the examples of document 001, and rows with a first fault: a line for each, with the text or the
+// model and the row, and the answer.
 
 ghost use Prim.Native.Nat.{_≤_};
 ghost use lib.ListN.{length};
 use fields::limits::lesser;
+use judge::first_fault::first_fault;
+use judge::reading::Names;
 use judge::reading::Outcome;
 use judge::reading::number_of;
 use judge::reading::read_model;
 use judge::row::judge_row;
+use judge::verdict::FirstFault;
 use judge::verdict::Judged;
+use judge::verdict::Searched;
 use model::fault::model_number;
 use model::verdict::Verdict;
 
@@ -33,7 +37,21 @@ fn write_answer(answer: Judged) {
     }
 }
 
-fn write_row(model: &[u8], row: &[u8], answer: Judged) {
+fn write_fault(answer: Searched) {
+    match answer {
+        Searched::Found(fault) => match fault {
+            FirstFault::At(place) => {
+                write(b"fault at ");
+                io::print_decimal(1, place as u64);
+                write(b"\n");
+            }
+            FirstFault::Nothing => write(b"no fault\n"),
+        },
+        Searched::Refused(_) => write(b"refused\n"),
+    }
+}
+
+fn write_row(model: &[u8], row: &[u8]) {
     write(model);
     write(b"\t");
     if row.len() == 0 {
@@ -42,34 +60,49 @@ fn write_row(model: &[u8], row: &[u8], answer: Judged) {
         write(row);
     }
     write(b"\t");
-    write_answer(answer);
 }
 
-// A row of letters, each the name of a child.
-fn run(model: &[u8], row: &[u8]) {
-    let reading = read_model(model);
-    let rule = reading.rule;
-    let names = reading.names;
-    let mut numbers = [0u16; MOST];
+// The numbers of the first children of a row of letters, each the name of a child, and how many they are.
+fn number_row(model: &[u8], names: Names, row: &[u8], numbers: &mut [u16]) -> usize
+    ensures { λ r. ⌜ r ≤ length (now (numbers .exit)) ⌝ }
+{
     let mut len: usize = 0;
-    while len < MOST {
+    while len < numbers.len() {
         if row.len() <= len {
-            break;
+            return len;
         }
         let end = len + 1;
         let number = number_of(model, names, &row[len..end]);
         numbers[len] = number.0;
         len = end;
     }
-    write_row(model, row, judge_row(rule, &numbers[0..len]));
+    len
+}
+
+fn run(model: &[u8], row: &[u8]) {
+    let reading = read_model(model);
+    let names = reading.names;
+    let mut numbers = [0u16; MOST];
+    let len = number_row(model, names, row, &mut numbers);
+    write_row(model, row);
+    write_answer(judge_row(reading.rule, &numbers[0..len]));
+}
+
+fn search(model: &[u8], row: &[u8]) {
+    let reading = read_model(model);
+    let names = reading.names;
+    let mut numbers = [0u16; MOST];
+    let len = number_row(model, names, row, &mut numbers);
+    write_row(model, row);
+    write_fault(first_fault(reading.rule, &numbers[0..len]));
 }
 
 // The longest row there is, of one name.
 fn run_longest(model: &[u8]) {
     let reading = read_model(model);
-    let rule = reading.rule;
     let row = [1u16; 4096];
-    write_row(model, b"4096 of a", judge_row(rule, &row));
+    write_row(model, b"4096 of a");
+    write_answer(judge_row(reading.rule, &row));
 }
 
 fn write_outcome(outcome: Outcome) {
@@ -125,6 +158,22 @@ fn examples() {
     run(b"((a?&b[1..5]),(c|d[1..*]))", b"bbaca");
     run(b"((a&b&c),d[0..*],(e|f|g))", b"bcadddg");
     run(b"((a&b&c),d[0..*],(e|f|g))", b"bcadddgdga");
+}
+
+// Document 02, W2: foreign children, and children one too many of their name; order and choice play no part.
+fn first_faults() {
+    search(b"(a,b)", b"");
+    search(b"(a,b)", b"ba");
+    search(b"(a,b)", b"xa");
+    search(b"(a,b)", b"abx");
+    search(b"(a,b)", b"aba");
+    search(b"(a|b)", b"ab");
+    search(b"()", b"a");
+    search(b"a[0..2]", b"aa");
+    search(b"a[0..2]", b"aaa");
+    search(b"a[1..*]", b"aaaaaaaaaaaa");
+    search(b"((a?&b[1..5]),(c|d[1..*]))", b"bbbbbb");
+    search(b"((a?&b[1..5]),(c|d[1..*]))", b"ddaba");
 }
 
 // Document 01, the paragraph under "Rows to try".
@@ -237,6 +286,7 @@ fn atoms_and_nodes() {
 fn main() {
     rows_to_try();
     examples();
+    first_faults();
     limits();
     names_and_counts();
     marks_and_groups();

@@ -6,7 +6,8 @@ use lib.ListN.{length, length-map}
 use Rattle.fields.specs.{declared.fault.CueFault.CueFault, Bytes.Text, Children.cueNumber, Limits.maxAtoms, Limits.maxRow}
 use Rattle.fields.specs.declared.fault.CueFault.the-variants.{LongFile, Unended, BadFields, BadNumber, NotAbove, NoName, ManyChildren, NoChild}
 use Rattle.model.specs.{declared.fault.ModelFault.ModelFault, declared.verdict.Verdict.Verdict, Word.Word, Types.Ty, Types.ConflictFree, Fault.modelNumber}
-use Rattle.model.specs.{Fault.Answers, Fault.accepted, Syntax.Syntax, Syntax.numberIn, Syntax.writtenNames, Tree.leaves, Tree.Leaves.length-leaves, Model.modelOf, Model.encode}
+use Rattle.model.specs.{Fault.Answers, Fault.accepted, Syntax.Syntax, Syntax.numberIn, Syntax.writtenNames, Tree.leaves, Tree.Leaves.length-leaves}
+use Rattle.model.specs.{Model.modelOf, Model.encode}
 use Rattle.model.specs.{Model.Types.type-conflict-free, Accept.Laws.accepted-within, Accept.Laws.accepted-counts}
 use Rattle.model.specs.declared.verdict.Verdict.the-variants.{Complete, Open, Dead}
 use Rattle.model.specs.Fault.Answered.{number-injective, number-over, number-under}
@@ -19,7 +20,7 @@ use Rattle.judge.specs.declared.fault.JudgeFault.the-variants.{Unreadable, Long
 use Rattle.judge.specs.{declared.verdict.FirstFault.FirstFault, declared.verdict.ChildrenSearched.ChildrenSearched}
 use Rattle.judge.specs.declared.verdict.FirstFault.the-variants.{At, Nothing}
 use Rattle.judge.specs.declared.verdict.ChildrenSearched.the-variants.{Found, ModelRefused as NotRead, ChildrenRefused as NotCounted}
-use Rattle.judge.specs.FirstFault.{upperCounts, ChildrenFaultStands, childrenFault, searchedOf, Laws.fault-inside, Laws.fault-replies-exactly}
+use Rattle.judge.specs.FirstFault.{upperCounts, ChildrenFaultStands, childrenFault, searchedOf, Laws.fault-place, Laws.fault-replies-exactly}
 use Rattle.judge.specs.Reply.{Reply, modelRefused, childrenRefused, good, ChildrenJudges, childrenReply, judgedOf, childrenIn, rowIn, many-children}
 use Rattle.judge.specs.Next.{NextReply, nextListed, nextRefused, NextInto, all-listed, childrenNext, childrenAnswer}
 use Rattle.judge.specs.Next.Laws.{list-exactly, next-few, next-replies-exactly}
@@ -180,7 +181,7 @@ module _ (m c : Text) where
   stands-fits (good (At p)) (t, a, n, f) =
       by-cases (decLt maxRow (length (childrenIn c)))
       (λ l. absurd (n ManyChildren (many-children l)))
-      (λ l. omega (arith, fault-inside (upperCounts (encode (modelOf t))) (rowIn t c) (f .0), length-map (childrenIn c) (numberIn (writtenNames t))))
+      (λ l. omega (arith, fault-place (upperCounts (encode (modelOf t))) (rowIn t c) (f .0), length-map (childrenIn c) (numberIn (writtenNames t))))
 
   fault-fits : PlaceFits (childrenFault m c)
   fault-fits = stands-fits (childrenFault m c) (fault-replies-exactly m c (childrenFault m c) .0 refl)

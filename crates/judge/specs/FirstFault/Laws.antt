@@ -65,12 +65,12 @@ module _ (us : List Upper) (w : Word) (p : ℕ) (h : p < length w) where
   )
 
 module _ (us : List Upper) (w : Word) where
-  pub fault-inside : {p : ℕ} → FaultAt us w p → p < length w
-  fault-inside (foreign h e) = h
-  fault-inside (one-too-many h k) = h
+  pub fault-place : {p : ℕ} → FaultAt us w p → p < length w
+  fault-place (foreign h e) = h
+  fault-place (one-too-many h k) = h
 
   no-fault : (q : ℕ) → (q < length w → isFault us w q ≡ false) → ¬ FaultAt us w q
-  no-fault q e f = let h = fault-inside f in untold (isFault us w q) (fault-tells us w q h) (e h) f
+  no-fault q e f = let h = fault-place f in untold (isFault us w q) (fault-tells us w q h) (e h) f
 
   first-is : FirstFaultIs us w (firstFault us w)
   unfolding firstFault
@@ -105,13 +105,13 @@ module _ (r : Rule) (w : Word) where
   refused-alike (Passed n) f e = let z : _≡_ {A = ℕ} 0 1 = cc in absurd (omega arith)
   refused-alike (Failed g) f e = let d : f ≡ g = cc in cc
 
-  pub found-by : {n : ℕ} → rowTested r w ≡ Passed n → Found (firstFault counts w) ≡ faultJudged r w
+  pub searched-found : {n : ℕ} → rowTested r w ≡ Passed n → Found (firstFault counts w) ≡ faultJudged r w
   unfolding faultJudged
-  found-by e = rw e
+  searched-found e = rw e
 
-  pub refused-by : {f : JudgeFault} → rowTested r w ≡ Failed f → NotSearched f ≡ faultJudged r w
+  pub searched-refused : {f : JudgeFault} → rowTested r w ≡ Failed f → NotSearched f ≡ faultJudged r w
   unfolding faultJudged
-  refused-by e = rw e
+  searched-refused e = rw e
 
   searched-is : {a : Searched} → JudgesFault r w a → faultJudged r w ≡ a
   unfolding faultJudged judged
@@ -126,5 +126,6 @@ module _ (r : Rule) (w : Word) where
 pub fault-replies-exactly : (m c : Text) (r : Reply FirstFault) → (childrenFault m c ≡ r) ↔ ChildrenFaultStands m c r
 unfolding childrenFault
 fault-replies-exactly m c =
-    replies-exactly row (λ t. firstFault (upperCounts (encode (modelOf t))) (rowIn t c)) (λ t a. FirstFaultIs (upperCounts (encode (modelOf t))) (rowIn t c) a) m c
+    replies-exactly row (λ t. firstFault (upperCounts (encode (modelOf t))) (rowIn t c))
+    (λ t a. FirstFaultIs (upperCounts (encode (modelOf t))) (rowIn t c) a) m c
     (λ t h g a. first-exactly (upperCounts (encode (modelOf t))) (rowIn t c) a)

@@ -8,7 +8,8 @@ use borrow.Author.Tests.{leb-true, leb-false, le-leb, lt-leb, eq-eqb, ne-eqb}
 use Rattle.fields.specs.{Tests.by-test, Tests.tells-not, Least.NoneStands}
 use Rattle.model.specs.{declared.rule.Upper.Upper, declared.rule.Mark.Mark, declared.rule.Kind.Kind, declared.rule.Node.Node, declared.rule.Rule.Rule}
 use Rattle.model.specs.{declared.verdict.Verdict.the-variants.Dead, Word.Word, Word.Names, Word.only, Word.keep, Word.count, Word.touched, Word.either}
-use Rattle.model.specs.{Word.Laws.only-is, Word.Span.count-more, Word.Projection.keep-append, Verdict.verdict, Verdict.Says, Verdict.Laws.verdict-is, Rule.used, Rule.names, Rule.ruleType}
+use Rattle.model.specs.{Word.Laws.only-is, Word.Span.count-more, Word.Projection.keep-append, Verdict.verdict, Verdict.Says, Verdict.Laws.verdict-is}
+use Rattle.model.specs.{Rule.used, Rule.names, Rule.ruleType}
 use Rattle.model.specs.{Rule.Means, Check.Exact.readable-is, Check.Exact.means-type, Check.Exact.means-conflict-free}
 use Rattle.model.specs.{Rule.Names.names-model, Check.readable, Check.Exact.readable-formed, Check.Exact.rule-type, Model.Types.type-symbols}
 use Rattle.model.specs.declared.rule.Upper.the-variants.{Number, Unbounded}
@@ -18,19 +19,16 @@ use Rattle.model.specs.Types.{Operator, sequence, choice, interleaving, Ty, ε,
 use Rattle.model.specs.Membership.{under, joined, begun, done, alive, over?, holds?, extends?}
 use Rattle.model.specs.Model.{countedType, operator, joinedFrom, joinedType, markedType, typeBy, after, evalStep, eval}
 use Rattle.judge.specs.declared.verdict.FirstFault.the-variants.{Nothing}
-use Rattle.judge.specs.{Row.upto, Row.Upto, Row.Laws.upto-tells, Row.Tally.upto-at, Row.Attribute.Within, FirstFault.withUpper, FirstFault.upperCounts, FirstFault.allowed}
-use Rattle.judge.specs.{FirstFault.FaultAt, FirstFault.isFault, FirstFault.firstFault, FirstFault.Laws.first-exactly, FirstFault.Laws.count-with, FirstFault.Laws.fault-tells, FirstFault.Laws.fault-inside}
+use Rattle.judge.specs.{Row.upto, Row.Upto, Row.Laws.upto-tells, Row.Laws.upto-at, Row.Attribute.CountsWithin, FirstFault.withUpper}
+use Rattle.judge.specs.{FirstFault.upperCounts, FirstFault.allowed, FirstFault.CountsAre}
+use Rattle.judge.specs.{FirstFault.FaultAt, FirstFault.isFault, FirstFault.firstFault, FirstFault.Laws.first-exactly, FirstFault.Laws.count-with}
+use Rattle.judge.specs.{FirstFault.Laws.fault-tells, FirstFault.Laws.fault-place}
 
--- the upper count of each atom of a type is what f gives for its name
+-- types whose upper counts f gives
 module _ (f : ℕ → Upper) where
-  abbrev AtomsBy : Ty → Type 0
-  AtomsBy ε = Unit {0}
-  AtomsBy (atom a m n) = f a ≡ n
-  AtomsBy (join o A B) = AtomsBy A × AtomsBy B
-
   abbrev AllBy : List Ty → Type 0
   AllBy [] = Unit {0}
-  AllBy (A ∷ l) = AtomsBy A × AllBy l
+  AllBy (A ∷ l) = CountsAre f A × AllBy l
 
   take-by : (n : ℕ) (l : List Ty) → AllBy l → AllBy (take n l)
   take-by zero l h = tt
@@ -42,23 +40,23 @@ module _ (f : ℕ → Upper) where
   drop-by (suc n) [] h = tt
   drop-by (suc n) (A ∷ l) h = drop-by n l (h .1)
 
-  first-by : (l : List Ty) → AllBy l → AtomsBy (getD l 0 ε)
+  first-by : (l : List Ty) → AllBy l → CountsAre f (getD l 0 ε)
   first-by [] h = tt
   first-by (A ∷ l) h = h .0
 
-  joined-by : (o : Operator) (A : Ty) (l : List Ty) → AtomsBy A → AllBy l → AtomsBy (joinedFrom o A l)
+  joined-by : (o : Operator) (A : Ty) (l : List Ty) → CountsAre f A → AllBy l → CountsAre f (joinedFrom o A l)
   joined-by o A [] a h = a
   joined-by o A (B ∷ l) a h = joined-by o (join o A B) l (a, h .0) (h .1)
 
-  group-by : (o : Operator) (l : List Ty) → AllBy l → AtomsBy (joinedType o l)
+  group-by : (o : Operator) (l : List Ty) → AllBy l → CountsAre f (joinedType o l)
   group-by o [] h = tt
   group-by o (A ∷ l) h = joined-by o A l (h .0) (h .1)
 
-  counted-by : (a m : ℕ) (n : Upper) → f a ≡ n → AtomsBy (countedType a m n)
+  counted-by : (a m : ℕ) (n : Upper) → f a ≡ n → CountsAre f (countedType a m n)
   counted-by a zero n e = (tt, e)
   counted-by a (suc m) n e = e
 
-  marked-by : (m : Mark) (A : Ty) → AtomsBy A → AtomsBy (markedType m A)
+  marked-by : (m : Mark) (A : Ty) → CountsAre f A → CountsAre f (markedType m A)
   marked-by Plain A h = h
   marked-by Optional A h = (tt, h)
 
@@ -83,7 +81,7 @@ module _ (f : ℕ → Upper) where
       node-by (x .kind) (x .mark) k (upperCounts l) (eval typeBy l (after (x .kind) k)) g (eval-by l (after (x .kind) k))
 
   -- where no name stands too often, no atom's does
-  within-by : (A : Ty) (w : Word) → AtomsBy A → ((a : ℕ) → under (count a w) (f a) ≡ true) → Within A w
+  within-by : (A : Ty) (w : Word) → CountsAre f A → ((a : ℕ) → under (count a w) (f a) ≡ true) → CountsWithin A w
   within-by ε w h u = tt
   within-by (atom a m n) w h u = rw h at (u a)
   within-by (join o A B) w h u = (within-by A w (h .0) u, within-by B w (h .1) u)
@@ -131,7 +129,7 @@ module _ (f : ℕ → Upper) (w : Word) (x : ℕ) (over : under (count x w) (f x
   second-begun choice b s x x′ = and-false (not s)
   second-begun interleaving b s x x′ = and-false x′
 
-  excess : (A : Ty) → AtomsBy f A → symbols A x ≡ true → (done A w ≡ false) × (alive A w ≡ false)
+  excess : (A : Ty) → CountsAre f A → symbols A x ≡ true → (done A w ≡ false) × (alive A w ≡ false)
   unfolding done alive either
   excess ε h e = absurd (true≢false (sym e))
   excess (atom a m n) h e =
@@ -189,12 +187,12 @@ module _ (us : List Upper) (w : Word) where
   many {p} f =
       let x = getD w p 0 in
       under-more (allowed us x) (count x (take (suc p) w)) (count x w) (count-take x (suc p) w)
-      (tells-not (under (count x (take (suc p) w)) (allowed us x)) .0 (fault-tells us w p (fault-inside us w f) .1 f))
+      (tells-not (under (count x (take (suc p) w)) (allowed us x)) .0 (fault-tells us w p (fault-place us w f) .1 f))
 
 -- a type with these upper counts and the names 1 to n, and a row of numbers up to n
-module _ (us : List Upper) (A : Ty) (n : ℕ) (by : AtomsBy (allowed us) A) (named : (x : ℕ) → (symbols A x ≡ true) ↔ ((1 ≤ x) × (x ≤ n)))
+module _ (us : List Upper) (A : Ty) (n : ℕ) (by : CountsAre (allowed us) A) (named : (x : ℕ) → (symbols A x ≡ true) ↔ ((1 ≤ x) × (x ≤ n)))
     (w : Word) (u : upto n w ≡ true) where
-  sound-row : NoneStands (FaultAt us w) → (over? (symbols A) w ≡ true) × Within A w
+  sound-row : NoneStands (FaultAt us w) → (over? (symbols A) w ≡ true) × CountsWithin A w
   sound-row h = (
     over-known (symbols A) n named w u ∙ eq-eqb (count 0 w) 0 (omega (arith, leb-true (count 0 w) 0 (few us w h 0))),
     within-by (allowed us) A w by (few us w h),
@@ -205,19 +203,22 @@ module _ (us : List Upper) (A : Ty) (n : ℕ) (by : AtomsBy (allowed us) A) (nam
   faulty-row {p} f =
       let x = getD w p 0 in
       by-cases (decLt 0 x)
-      (λ l. let e = excess (allowed us) w x (many us w f) A by (named x .1 (l, upto-at n w u p (fault-inside us w f))) in rw (e .0, e .1, and-false))
+      (λ l. let e = excess (allowed us) w x (many us w f) A by (named x .1 (l, upto-at n w u p (fault-place us w f))) in rw (e .0, e .1, and-false))
       (λ l. let z : x ≡ 0 = omega arith in
       let m : leb (count 0 w) 0 ≡ false = rw z at (many us w f) in
       rw (over-known (symbols A) n named w u, ne-eqb (count 0 w) 0 (λ d. omega (arith, leb-false (count 0 w) 0 m))))
 
+rule-counts : (r : Rule) → CountsAre (allowed (upperCounts (used r))) (ruleType r)
+unfolding ruleType
+rule-counts r =
+    first-by (allowed (upperCounts (used r))) (eval typeBy (used r) 1)
+    (eval-by (allowed (upperCounts (used r))) (used r) 1 (λ j n h d. let i : n ≡ suc j = omega arith in rw i))
+
+pub meant-counts : {r : Rule} {A : Ty} → Means r A → CountsAre (allowed (upperCounts (used r))) A
+meant-counts {r} m = rw (means-type m) (rule-counts r)
+
 -- of a rule that some text reads into
 module _ (r : Rule) (e : readable r ≡ true) where
-  rule-by : AtomsBy (allowed (upperCounts (used r))) (ruleType r)
-  unfolding ruleType
-  rule-by =
-      first-by (allowed (upperCounts (used r))) (eval typeBy (used r) 1)
-      (eval-by (allowed (upperCounts (used r))) (used r) 1 (λ j n h d. let i : n ≡ suc j = omega arith in rw i))
-
   rule-named : (x : ℕ) → (symbols (ruleType r) x ≡ true) ↔ ((1 ≤ x) × (x ≤ names r))
   rule-named x =
       let v = readable-formed r e in
@@ -228,11 +229,11 @@ module _ (r : Rule) (e : readable r ≡ true) where
     abbrev counts : List Upper
     counts = upperCounts (used r)
 
-    pub sound-rule : firstFault counts w ≡ Nothing → (over? (symbols (ruleType r)) w ≡ true) × Within (ruleType r) w
-    sound-rule d = sound-row counts (ruleType r) (names r) rule-by rule-named w u (first-exactly counts w Nothing .0 d)
+    pub sound-rule : firstFault counts w ≡ Nothing → (over? (symbols (ruleType r)) w ≡ true) × CountsWithin (ruleType r) w
+    sound-rule d = sound-row counts (ruleType r) (names r) (rule-counts r) rule-named w u (first-exactly counts w Nothing .0 d)
 
     pub faulty-rule : {p : ℕ} → FaultAt counts w p → verdict (ruleType r) w ≡ Dead
-    faulty-rule = faulty-row counts (ruleType r) (names r) rule-by rule-named w u
+    faulty-rule = faulty-row counts (ruleType r) (names r) (rule-counts r) rule-named w u
 
 -- by the type that the rule means
 pub fault-kills : {r : Rule} {A : Ty} {w : Word} {p : ℕ} → Means r A → Upto (names r) w → FaultAt (upperCounts (used r)) w p → Says A w Dead

@@ -10,7 +10,8 @@ use Rattle.model.specs.{Rule.Laws.used-with, Check.readable, Check.Exact.readab
 use Rattle.model.specs.{declared.verdict.Verdict.the-variants.Dead, Verdict.Laws.verdict-is}
 use Rattle.judge.specs.{declared.fault.JudgeFault.the-variants.ShortRow, Row.upto, Row.Tally.seenOf, Row.Tally.Tallied, Row.Code.names-tallied}
 use Rattle.judge.specs.declared.verdict.Next.the-variants.{Names as Found, Refused as NoNames}
-use Rattle.judge.specs.Next.{numbersTo, nextNames, fitted, HandsNext, Set.inSet, Laws.kept-more, Laws.kept-same, Laws.kept, Laws.list-exactly, Laws.dead-has-none, Ahead.rootAhead}
+use Rattle.judge.specs.Next.{numbersTo, nextNames, fitted, HandsNext, Set.inSet, Laws.kept-more, Laws.kept-same, Laws.kept, Laws.list-exactly}
+use Rattle.judge.specs.Next.{Laws.dead-has-none, Ahead.rootAhead}
 use Rattle.judge.specs.Next.Meaning.{next-seen}
 use Rattle.judge.specs.{FirstFault.upperCounts, FirstFault.firstFault, Row.Code.verdict-stopped, Row.Code.row-sound}
 use Rattle.judge.specs.declared.verdict.FirstFault.the-variants.{At, Nothing}

@@ -7,14 +7,15 @@ use lib.{Dec.leb, Dec.ltb, Bits.bitOr, Bits.or-zero-l, ListN.length, ListN.getD}
 use Rattle.model.specs.{declared.rule.Upper.Upper, declared.rule.Sign.Sign, declared.rule.Mark.Mark, declared.rule.Rule.Rule, Word.Word, Word.keep, Word.only}
 use Rattle.model.specs.{Word.count}
 use Rattle.model.specs.{Word.Laws.only-self, Word.Laws.either-left, Word.Laws.either-right, Word.Span.touched-behind, Word.Span.ordered-span}
-use Rattle.model.specs.{Types.Operator, Types.Ty, Types.ε, Types.atom, Types.join, Types.symbols, Types.ConflictFree, Membership.under, Membership.alive, Membership.over?}
+use Rattle.model.specs.{Types.Operator, Types.Ty, Types.ε, Types.atom, Types.join, Types.symbols, Types.ConflictFree, Membership.under, Membership.alive}
+use Rattle.model.specs.{Membership.over?}
 use Rattle.model.specs.{Model.Model, Model.typeBy, Model.typeOf, Model.operator, Model.Eval.eval-map}
 use Rattle.model.specs.{Model.Types.Fits, Model.Types.type-conflict-free, Model.Types.type-symbols, Rule.ruleOf, Rule.names, Rule.ruleType, Rule.used}
 use Rattle.model.specs.{Rule.Laws.rule-eval, Check.readable, Check.Exact.readable-formed, Check.Exact.rule-type}
 use Rattle.model.specs.declared.rule.Mark.the-variants.{Plain, Optional}
 use Rattle.judge.specs.{declared.tally.Seen.Seen, declared.ahead.Ahead.Ahead, Row.Attribute.seen, Row.Attribute.attribute}
 use Rattle.judge.specs.{Row.Attribute.attributeOf}
-use Rattle.judge.specs.{Row.Attribute.attribute-is, Row.Attribute.Within, Row.Joined.carried, Row.Pass.eval-same, Next.numbersTo, Next.nextNames}
+use Rattle.judge.specs.{Row.Attribute.attribute-is, Row.Attribute.CountsWithin, Row.Joined.carried, Row.Pass.eval-same, Next.numbersTo, Next.nextNames}
 use Rattle.judge.specs.{Next.mayCome}
 use Rattle.judge.specs.{Next.Laws.kept-agreeing, Next.Longer.join-comes, Next.Longer.atom-comes, Next.Longer.may-come-is, Next.Set.single}
 use Rattle.judge.specs.{Next.Set.inSet}
@@ -41,7 +42,7 @@ module _ (o : Operator) (x y : Ahead) where
       in-either (cond first (x .next) 0) (cond second (y .next) 0) k ∙ ap₂ _||_ (in-only-if first (x .next) k) (in-only-if second (y .next) k)
 
 -- the set: of the type's names, those with which the row can be made longer
-ahead-has : (A : Ty) → ConflictFree A → ((x : ℕ) → symbols A x ≡ true → 1 ≤ x) → (w : Word) → Within A w → (x : ℕ) → 1 ≤ x
+ahead-has : (A : Ty) → ConflictFree A → ((x : ℕ) → symbols A x ≡ true → 1 ≤ x) → (w : Word) → CountsWithin A w → (x : ℕ) → 1 ≤ x
     → inSet (ahead (length w) (seen w) A .next) x ≡ (symbols A x && alive A (w ++ (x ∷ [])))
 unfolding ahead
 ahead-has ε g p w q x h = in-none x
@@ -87,13 +88,13 @@ module _ (t : Model) (f : Fits t) (w : Word) where
       let e = eval-map typeBy (aheadBy n s) (ahead n s) (ahead-atom n s) (ahead-group n s) (ahead-mark n s) (used (ruleOf t)) 1 in
       ap (λ l. getD l 0 (emptyAhead n)) (sym e ∙ ap (map (ahead n s)) (rule-eval typeBy t 1))
 
-  set-model : over? (symbols (typeOf t)) w ≡ true → Within (typeOf t) w → (x : ℕ) → 1 ≤ x
+  set-model : over? (symbols (typeOf t)) w ≡ true → CountsWithin (typeOf t) w → (x : ℕ) → 1 ≤ x
       → inSet (rootAhead (ruleOf t) (length w) (seen w) .next) x ≡ mayCome (typeOf t) w x
   set-model h q x p =
       let g = type-conflict-free t f in
       rw (root-ahead, ahead-has (typeOf t) g (λ y e. type-symbols t f y .0 e .0) w q x p, may-come-is w x (typeOf t) g, h)
 
-pub next-seen : (r : Rule) → readable r ≡ true → (w : Word) → over? (symbols (ruleType r)) w ≡ true → Within (ruleType r) w → (s : ℕ → Seen)
+pub next-seen : (r : Rule) → readable r ≡ true → (w : Word) → over? (symbols (ruleType r)) w ≡ true → CountsWithin (ruleType r) w → (s : ℕ → Seen)
     → ((k : ℕ) → k ≤ names r → s k ≡ seen w k) → keep (inSet (rootAhead r (length w) s .next)) (numbersTo (names r)) ≡ nextNames (ruleType r) (names r) w
 unfolding nextNames
 next-seen r e w h q s g =

@@ -46,12 +46,12 @@ untouched-ε [] = refl
 untouched-ε (x ∷ w) = untouched-ε w
 
 -- no name stands in the row more often than its atom's upper count allows: what the first pass has tested
-abbrev pub Within : Ty → Word → Type 0
-Within ε w = Unit {0}
-Within (atom a m n) w = under (count a w) n ≡ true
-Within (join o A B) w = Within A w × Within B w
+abbrev pub CountsWithin : Ty → Word → Type 0
+CountsWithin ε w = Unit {0}
+CountsWithin (atom a m n) w = under (count a w) n ≡ true
+CountsWithin (join o A B) w = CountsWithin A w × CountsWithin B w
 
-pub attribute-is : (A : Ty) → ConflictFree A → (w : Word) → Within A w → attribute (length w) (seen w) A ≡ attributeOf A w
+pub attribute-is : (A : Ty) → ConflictFree A → (w : Word) → CountsWithin A w → attribute (length w) (seen w) A ≡ attributeOf A w
 unfolding attribute attributeOf seen done alive
 attribute-is ε g w h = rw (first-untouched (symbols ε) w (untouched-ε w), behind-untouched (symbols ε) w (untouched-ε w))
 attribute-is (atom a m n) g w h = rw (h, and-true)

@@ -5,9 +5,9 @@ use native.Mathlib.Omega.{arith}
 use borrow.Author.Tests.{leb-true}
 use lib.{Dec.leb, ListN.length, ListN.take, ListN.getD}
 use Rattle.judge.specs.{Reading.Buffer.Stores, Packed.nodeIn, Packed.ruleIn, Row.upto, Row.rowTested, Row.judged, Row.Attribute.seen, Row.Tally.seenOf}
-use Rattle.judge.specs.Row.Tally.{upto-more, Seeing}
+use Rattle.judge.specs.Row.{Laws.upto-more, Tally.Seeing}
 use Rattle.judge.specs.{FirstFault.upperCounts, FirstFault.firstFault, FirstFault.Laws.first-exactly, FirstFault.Meaning.sound-rule}
-use Rattle.judge.specs.{FirstFault.Meaning.faulty-rule, Row.Attribute.Within}
+use Rattle.judge.specs.{FirstFault.Meaning.faulty-rule, Row.Attribute.CountsWithin}
 use Rattle.judge.specs.declared.verdict.FirstFault.the-variants.{At, Nothing}
 use Rattle.judge.specs.{Row.Tally.Tallied, Row.Pass.seenVerdict, Row.Pass.verdict-seen, declared.row.Tested.Tested}
 use Rattle.judge.specs.declared.row.Tested.the-variants.{Passed, Refused as Failed}
@@ -95,7 +95,7 @@ module _ (l : List Node) (e : readable (ruleWith l) ≡ true) (w : Word) {m : �
 
   module _ (d : firstFault (upperCounts l) w ≡ Nothing) where
     -- no name is foreign, and none stands too often
-    pub row-sound : (over? (symbols (ruleType (ruleWith l))) w ≡ true) × Within (ruleType (ruleWith l)) w
+    pub row-sound : (over? (symbols (ruleType (ruleWith l))) w ≡ true) × CountsWithin (ruleType (ruleWith l)) w
     row-sound = sound-rule (ruleWith l) e w named (rw (used-with l) d)
 
     -- and the second tells the verdict, with what the first has counted

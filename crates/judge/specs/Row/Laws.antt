@@ -1,9 +1,11 @@
 -- Every row has one answer, and `judged` computes it.
-use mathlib.Core.{Path._≡_, Path.refl, Path.sym, Path.ap, List.[], List._∷_}
-use Prim.Native.Nat.{ℕ, _≤_}
+use mathlib.Core.{Path._≡_, Path.refl, Path.sym, Path.ap, Bool.true, Bool.and-eq-true-iff, List.[], List._∷_}
+use Prim.Native.Nat.{ℕ, zero, suc, _≤_, _<_}
 use native.Mathlib.Omega.{arith}
-use lib.{Dec.leb, ListN.length}
-use Rattle.model.specs.{declared.rule.Rule.Rule, Word.Word, Verdict.Laws.verdict-says, Verdict.Laws.verdict-is, Rule.names, Rule.ruleType, Rule.Means, Rule.Readable}
+use lib.{Dec.leb, ListN.length, ListN.getD}
+use borrow.Author.Tests.{leb-true, le-leb}
+use Rattle.model.specs.{declared.rule.Rule.Rule, Word.Word, Verdict.Laws.verdict-says, Verdict.Laws.verdict-is, Rule.names, Rule.ruleType, Rule.Means}
+use Rattle.model.specs.{Rule.Readable}
 use Rattle.model.specs.{Check.readable, declared.verdict.Verdict.Verdict, Types.Ty, Verdict.Says, Rule.Laws.means-once}
 use Rattle.model.specs.Check.Exact.{readable-is, type-means, means-type, means-conflict-free}
 use Rattle.judge.specs.{declared.verdict.Judged.Judged, declared.verdict.Judged.the-variants.Verdict as Said}
@@ -15,6 +17,18 @@ use Rattle.fields.specs.Limits.{maxRow}
 pub upto-tells : (n : ℕ) (w : Word) → Tells (upto n w) (Upto n w)
 upto-tells n [] = (λ e. tt, λ h. refl)
 upto-tells n (x ∷ w) = tells-and (leb x n) (upto n w) (tells-le x n) (upto-tells n w)
+
+-- numbers up to m
+pub upto-at : (m : ℕ) (w : Word) → upto m w ≡ true → (i : ℕ) → i < length w → getD w i 0 ≤ m
+upto-at m [] e i h = absurd (omega arith)
+upto-at m (x ∷ w) e zero h = leb-true x m (and-eq-true-iff (leb x m) (upto m w) .0 e .0)
+upto-at m (x ∷ w) e (suc i) h = upto-at m w (and-eq-true-iff (leb x m) (upto m w) .0 e .1) i (omega arith)
+
+pub upto-more : (m n : ℕ) (w : Word) → m ≤ n → upto m w ≡ true → upto n w ≡ true
+upto-more m n [] h e = refl
+upto-more m n (x ∷ w) h e =
+    let (a, b) = and-eq-true-iff (leb x m) (upto m w) .0 e in
+    and-eq-true-iff (leb x n) (upto n w) .1 (le-leb x n (omega (arith, leb-true x m a)), upto-more m n w h b)
 
 -- a row that is not refused
 pub test-passed : (r : Rule) (w : Word) → Readable r → length w ≤ maxRow → Upto (names r) w → rowTested r w ≡ Passed (names r)

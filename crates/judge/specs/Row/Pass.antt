@@ -12,7 +12,7 @@ use Rattle.model.specs.Model.{Algebra, Model, typeBy, typeOf, after, evalStep, 
 use Rattle.model.specs.Model.Types.{Fits, type-conflict-free}
 use Rattle.judge.specs.{declared.tally.Seen.Seen, Row.Root.rootAttribute}
 use Rattle.judge.specs.Row.Attribute.{emptyAttribute, attributeBy, attribute, attribute-is, attribute-atom, attribute-group, attribute-mark, seen}
-use Rattle.judge.specs.Row.Attribute.{attributeOf, Within}
+use Rattle.judge.specs.Row.Attribute.{attributeOf, CountsWithin}
 
 -- by what is seen of each name in a row of n children, none of them at fault
 abbrev pub seenVerdict : Rule → ℕ → (ℕ → Seen) → Verdict
@@ -37,7 +37,7 @@ module _ {A : Type 0} (g h : Algebra A)
       (step-same (x .kind) (x .mark) k (eval h l (after (x .kind) k)) (λ b. e k (omega arith) (omega arith)))
 
 -- of a rule that is a model's
-module _ (t : Model) (f : Fits t) (w : Word) (within : Within (typeOf t) w) where
+module _ (t : Model) (f : Fits t) (w : Word) (within : CountsWithin (typeOf t) w) where
   root-model : rootAttribute (ruleOf t) (length w) (seen w) ≡ attributeOf (typeOf t) w
   root-model =
       let n = length w in
@@ -50,7 +50,7 @@ module _ (t : Model) (f : Fits t) (w : Word) (within : Within (typeOf t) w) wher
   unfolding verdict holds? extends?
   verdict-model h = rw (root-model, h) (unfold attributeOf in refl)
 
-pub verdict-seen : (r : Rule) → readable r ≡ true → (w : Word) → over? (symbols (ruleType r)) w ≡ true → Within (ruleType r) w → (s : ℕ → Seen)
+pub verdict-seen : (r : Rule) → readable r ≡ true → (w : Word) → over? (symbols (ruleType r)) w ≡ true → CountsWithin (ruleType r) w → (s : ℕ → Seen)
     → ((k : ℕ) → k ≤ names r → s k ≡ seen w k) → seenVerdict r (length w) s ≡ verdict (ruleType r) w
 verdict-seen r e w h i s g =
     let v = readable-formed r e in

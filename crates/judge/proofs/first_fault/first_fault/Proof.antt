@@ -2,8 +2,8 @@
 use borrow.Author.Needs.{needs}
 use mathlib.Core.Path.{_≡_, refl, sym, ap, _∙_}
 use native.Mathlib.Omega.{arith}
-use Rattle.judge.specs.{Row.rowTested, FirstFault.upperCounts, FirstFault.firstFault, FirstFault.Laws.found-by, FirstFault.Laws.refused-by}
-use Rattle.judge.specs.{Row.Tally.seeing-none, declared.row.Tested.the-variants.Passed, declared.verdict.Searched.the-variants.Found}
+use Rattle.judge.specs.{Row.rowTested, FirstFault.upperCounts, FirstFault.firstFault, FirstFault.Laws.searched-found, FirstFault.Laws.searched-refused}
+use Rattle.judge.specs.{Row.Tally.Laws.seeing-none, declared.row.Tested.the-variants.Passed, declared.verdict.Searched.the-variants.Found}
 use Rattle.judge.specs.Row.Code.{readable-within, Passes, tested, packed-passes, searchable}
 use Rattle.judge.proofs.first_fault.first_fault.Statement.{statement}
 use Rattle.judge.proofs.first_fault.first_fault.Tie as tie
@@ -40,13 +40,13 @@ returns c =
     let k = packed (c .before) in
     let s = entry (passed k .before .before) in
     ap Found (c .search-row .ensures .fault-is ∙ ap (λ l. firstFault (upperCounts l) (s .args .row .now)) (k .pack .ensures .held))
-    ∙ found-by (s .args .rule) (s .args .row .now) (test (passed k))
+    ∙ searched-found (s .args .rule) (s .args .row .now) (test (passed k))
 
 returns-2 : tie.Need-returns-2
 returns-2 c =
     let f = c .before in
     let t = f .before .before in
-    refused-by (entry t .args .rule) (entry t .args .row .now) (sym (t .test-row .ensures) ∙ f .f .given .1)
+    searched-refused (entry t .args .rule) (entry t .args .row .now) (sym (t .test-row .ensures) ∙ f .f .given .1)
 
 pub first-fault-spec : {M : Type 1} → statement M
 first-fault-spec =

@@ -2,7 +2,7 @@
 use mathlib.Core.Path.{refl, sym, ap}
 use native.Mathlib.Omega.{arith}
 use borrow.Author.Needs.{needs}
-use Rattle.judge.specs.{Row.Tally.seeing-none, FirstFault.childrenFault, FirstFault.searchedOf}
+use Rattle.judge.specs.{Row.Tally.Laws.seeing-none, FirstFault.childrenFault, FirstFault.searchedOf}
 use Rattle.judge.specs.Reply.Read.{read-both, read-fault, reply-model, reply-children, row-searched, fault-searched}
 use Rattle.judge.proofs.first_fault.search_children.Statement.{statement}
 use Rattle.judge.proofs.first_fault.search_children.Tie as tie

@@ -2,7 +2,7 @@
 use mathlib.Core.Path.{refl}
 use native.Mathlib.Omega.{arith}
 use borrow.Author.Needs.{needs}
-use Rattle.judge.specs.{Row.Tally.seeing-none, Next.childrenNext}
+use Rattle.judge.specs.{Row.Tally.Laws.seeing-none, Next.childrenNext}
 use Rattle.judge.specs.Reply.Read.{read-both, read-fault, reply-model, reply-children, row-listed, fault-listed}
 use Rattle.judge.proofs.next.next_children.Statement.{statement}
 use Rattle.judge.proofs.next.next_children.Tie as tie

@@ -4,7 +4,7 @@ use Prim.Native.Nat.{_≤_}
 use native.Mathlib.Omega.{arith}
 use lib.ListN.{take}
 use Rattle.model.specs.declared.rule.Node.{Node}
-use Rattle.judge.specs.{Packed.nodeIn, Row.Tally.seeing-none, Row.Tally.fault-told, Row.Code.atoms-within, Row.Code.searchable}
+use Rattle.judge.specs.{Packed.nodeIn, Row.Tally.Laws.seeing-none, Row.Tally.Laws.fault-told, Row.Code.atoms-within, Row.Code.searchable}
 use Rattle.judge.specs.Next.Code.{next-stopped, next-tallied, hands-no-names}
 use borrow.Author.Needs.{needs}
 use Rattle.judge.proofs.next.next_on.Statement.{statement}

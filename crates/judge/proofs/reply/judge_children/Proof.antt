@@ -2,7 +2,7 @@
 use mathlib.Core.Path.{refl, sym, ap}
 use native.Mathlib.Omega.{arith}
 use borrow.Author.Needs.{needs}
-use Rattle.judge.specs.{Row.Tally.seeing-none, Reply.childrenReply, Reply.judgedOf}
+use Rattle.judge.specs.{Row.Tally.Laws.seeing-none, Reply.childrenReply, Reply.judgedOf}
 use Rattle.judge.specs.Reply.Read.{read-both, read-fault, reply-model, reply-children, row-judged, fault-judged}
 use Rattle.judge.proofs.reply.judge_children.Statement.{statement}
 use Rattle.judge.proofs.reply.judge_children.Tie as tie

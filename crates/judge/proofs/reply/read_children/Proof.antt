@@ -56,7 +56,7 @@ tally-children-requires c κs =
     let l = c .before .before .before in
     let e = sized l in
     let w = whole (e .before) in
-    ((w .tabled, whole-apart w), (omega (arith, l .before .before .before .if2 .left), e .if1 .left, l .limit-names .ensures .room))
+    ((w .tabled, whole-apart w), (omega (arith, l .before .before .before .if2 .left), e .if1 .left))
 
 enum-known-n : tie.Need-enum-known-n
 enum-known-n c = search needs

@@ -9,9 +9,9 @@ use Rattle.model.specs.{declared.rule.Upper.Upper, Syntax.numberIn}
 use Rattle.judge.specs.{Named.rowOf, Reading.Laws.last-number, Reply.childrenIn}
 use Rattle.judge.specs.Reply.Children.{ChildrenPassed, row-whole, no-row}
 use Rattle.judge.specs.Reading.Table.{keyOf, partsIn, lastIn}
-use Rattle.judge.specs.Row.Tally.{oneLeft, Seeing, RowPassed, row-starts, row-stops, row-goes, row-ends}
+use Rattle.judge.specs.Row.Tally.{oneLeft, Seeing, RowPassed, Laws.row-starts, Laws.row-stops, Laws.row-goes, Laws.row-ends}
 use Rattle.judge.specs.Reply.Children.Laws.{NameMet, met-name, walk-starts, walk-stops, walk-inside, walk-number, walk-goes, walk-faulty}
-use Rattle.judge.specs.Reply.Children.Laws.{walk-ends, walk-few, walk-many}
+use Rattle.judge.specs.Reply.Children.Laws.{walk-all, walk-few, walk-many}
 use Rattle.judge.proofs.reply.tally_children.Statement.{statement}
 use Rattle.judge.proofs.reply.tally_children.Tie as tie
 
@@ -78,7 +78,8 @@ is-child-requires c κs = (c .before .loop-test .taken, c .name-end .ensures)
 returns : tie.Need-returns Inv-loop μ-loop
 returns c us _ =
     let t = turn (c .before) in
-    no-row (walk-stops (entry (t .before) .args .children .now) (t .before .loop .inv .0) (t .loop-test .taken) (sym (c .before .is-child .ensures) ∙ c .if1 .left))
+    let h = t .before in
+    no-row (walk-stops (entry h .args .children .now) (h .loop .inv .0) (t .loop-test .taken) (sym (c .before .is-child .ensures) ∙ c .if1 .left))
 
 slot-of-requires : tie.Need-slot-of-requires Inv-loop μ-loop
 slot-of-requires c κs = search needs
@@ -168,7 +169,7 @@ returns-3 c us t =
     let h = c .before .before in
     let s = entry h in
     let p = h .loop .inv in
-    let n = walk-ends (s .args .children .now) (p .0) (c .before .loop-test .left) (texts s) in
+    let n = walk-all (s .args .children .now) (p .0) (c .before .loop-test .left) (texts s) in
     row-whole (walk-few (s .args .children .now) (p .0) (c .before .loop-test .left) (c .if3 .taken))
     (row-ends (p .1 us t) (omega (arith, n)) (omega (arith, n, c .if3 .taken)))
 

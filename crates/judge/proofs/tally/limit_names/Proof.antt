@@ -6,7 +6,7 @@ use lib.{ListN.length, ListN.take, ListN.getD, ListN.set, Seq.take-all}
 use borrow.Author.Needs.{needs}
 use Rattle.model.specs.{declared.rule.Node.Node, Model.atomsIn}
 use Rattle.judge.specs.{Packed.nodeIn, FirstFault.upperCounts, Reading.Buffer.Stores, Reading.Buffer.holds-own, Reading.Buffer.holds-count}
-use Rattle.judge.specs.{Reading.Buffer.holds-at, Row.Tally.limitedWord, Row.Tally.Seeing, Row.Tally.limits-turn, Row.Tally.atoms-take}
+use Rattle.judge.specs.{Reading.Buffer.holds-at, Row.Tally.limitedWord, Row.Tally.Seeing, Row.Tally.Limits.limits-turn, Row.Tally.Limits.atoms-take}
 use Rattle.judge.proofs.tally.limit_names.Statement.{statement}
 use Rattle.judge.proofs.tally.limit_names.Tie as tie
 
