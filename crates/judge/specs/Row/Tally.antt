@@ -25,9 +25,12 @@ use Rattle.judge.specs.FirstFault.{allowed, isFault, firstWhere, firstFa
 abbrev pub packedSeen : ℕ → ℕ → ℕ → ℕ → ℕ
 packedSeen left count first behind = ((left * 65536 + count) * 65536 + first) * 65536 + behind
 
--- at least one more
+-- one child, where it is counted among those that may still have the name, and among those that have it
 abbrev pub oneLeft : ℕ
 oneLeft = 281474976710656
+
+abbrev pub oneSeen : ℕ
+oneSeen = 4294967296
 
 -- no row has so many children that they reach the number of `*`
 abbrev pub limitNumber : Upper → ℕ
@@ -42,11 +45,11 @@ limitedWord (Group s n) w = w
 -- in a row of n children; a name that was not seen stands behind no place
 unfoldable pub seenOf : ℕ → ℕ → Seen
 seenOf n w =
-    record { count = w / 4294967296 % 65536; first = cond (eqb (w % 65536) 0) n (w / 65536 % 65536); behind = w % 65536 }
+    record { count = w / oneSeen % 65536; first = cond (eqb (w % 65536) 0) n (w / 65536 % 65536); behind = w % 65536 }
 
 -- the name stands at place i too, behind all its places so far
 unfoldable pub notedWord : ℕ → ℕ → ℕ
-notedWord w i = w - 281474976710656 - w % 65536 + 4294967296 + cond (eqb (w % 65536) 0) (i * 65536) 0 + i + 1
+notedWord w i = w - oneLeft - w % 65536 + oneSeen + cond (eqb (w % 65536) 0) (i * 65536) 0 + i + 1
 
 -- of the name a among the first children w of a row
 abbrev pub firstSeen : ℕ → Word → ℕ

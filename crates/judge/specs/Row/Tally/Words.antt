@@ -15,7 +15,7 @@ use Rattle.model.specs.Word.Laws.{only-self}
 use Rattle.model.specs.Word.Span.{firstPlace, lastBehind, first-untouched, behind-untouched, touched-behind, touched-more, count-more, first-more, behind-more}
 use Rattle.judge.specs.Row.Attribute.{seen}
 use Rattle.judge.specs.FirstFault.{allowed}
-use Rattle.judge.specs.Row.Tally.{packedSeen, oneLeft, limitNumber, seenOf, notedWord, firstSeen, seenWord}
+use Rattle.judge.specs.Row.Tally.{packedSeen, oneLeft, oneSeen, limitNumber, seenOf, notedWord, firstSeen, seenWord}
 
 -- no count and no place is over the row's length
 keep-bound : (p : Names) (w : Word) → length (keep p w) ≤ length w
@@ -44,7 +44,7 @@ module _ (left count first behind : ℕ) (c : count < 65536) (f : first < 65536)
   pub unpack-seen : (n : ℕ) → seenOf n word ≡ record { count = count; first = cond (eqb behind 0) n first; behind = behind }
   unfolding seenOf
   unpack-seen n =
-      let x : word / 4294967296 % 65536 ≡ count = omega arith in
+      let x : word / oneSeen % 65536 ≡ count = omega arith in
       let y : word / 65536 % 65536 ≡ first = omega arith in
       let z : word % 65536 ≡ behind = omega arith in
       rw (x, y, z)
