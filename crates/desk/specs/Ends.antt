@@ -22,8 +22,9 @@ desk-next-exactly = children-next-exactly
 pub desk-next-told : (m c : Text) (k : ℕ) → (deskNext m c k < refusalBase) ↔ ((l : Word) × (childrenNext m c k ≡ good (nextListed l)))
 desk-next-told = next-told
 
--- `desk_first_fault`: its number is that of the one reply by the upper counts, among all whose place is that of one of 4,096 children.
-pub desk-fault-exactly : (m c : Text) (r : Reply FirstFault) → PlaceFits r → (deskFault m c ≡ basedNumber faultNumber r) ↔ ChildrenFaultStands m c r
+-- `desk_first_fault`: its number is that of the one reply by the upper counts, whose place is that of one of 4,096 children; no other such reply has it.
+pub desk-fault-exactly : (m c : Text) (r : Reply FirstFault)
+    → ((deskFault m c ≡ basedNumber faultNumber r) × PlaceFits r) ↔ ChildrenFaultStands m c r
 desk-fault-exactly = fault-exactly
 
 -- `child` and `child_refusal`: one reply, and only one

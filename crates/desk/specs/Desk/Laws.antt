@@ -186,10 +186,10 @@ module _ (m c : Text) where
   fault-fits : PlaceFits (childrenFault m c)
   fault-fits = stands-fits (childrenFault m c) (fault-replies-exactly m c (childrenFault m c) .0 refl)
 
-  pub fault-exactly : (r : Reply FirstFault) → PlaceFits r → (deskFault m c ≡ basedNumber faultNumber r) ↔ ChildrenFaultStands m c r
-  fault-exactly r h = (
-    λ e. fault-replies-exactly m c r .0 (fault-injective (childrenFault m c) r fault-fits h e),
-    λ k. ap (basedNumber faultNumber) (fault-replies-exactly m c r .1 k),
+  pub fault-exactly : (r : Reply FirstFault) → ((deskFault m c ≡ basedNumber faultNumber r) × PlaceFits r) ↔ ChildrenFaultStands m c r
+  fault-exactly r = (
+    λ (e, h). fault-replies-exactly m c r .0 (fault-injective (childrenFault m c) r fault-fits h e),
+    λ k. (ap (basedNumber faultNumber) (fault-replies-exactly m c r .1 k), stands-fits r k),
   )
 
   -- as the code takes them from the judge
