@@ -9,6 +9,8 @@ enum {
     LONGEST = 32,     /* name */
     MANY = 4096,      /* children */
     MANY_LONG = 1985, /* children of the longest name: more have no room in a children text */
+    OPEN = 64,        /* brackets at once */
+    DEPTH = 16,       /* groups around a name, after flattening */
 };
 
 static const char ANY[] = "[0..*]", ONCE[] = "";
@@ -222,6 +224,36 @@ static void smallest(struct row *row)
     put(&row->children, "a");
 }
 
+/* As many brackets as may be open at once: shows what a bracket takes to read, and in the walk that
+   counts the depth, which is for models with over 16 brackets open. */
+static void name_in_brackets(struct row *row)
+{
+    put_times(&row->model, "(", OPEN);
+    put(&row->model, "hold");
+    put_times(&row->model, ")", OPEN);
+    add_child(row, "hold");
+}
+
+/* Sequence and choice in turn, as deep as a model may be, and around each group one more bracket or
+   two, as an exporter writes them: 40 are open at once. Shows the same walk where groups stay; the
+   children go down to the innermost one. */
+static void wrapped_groups(struct row *row)
+{
+    size_t open = 0;
+    for (int i = 0; i < DEPTH; i++) {
+        size_t around = i % 2 == 0 ? 2 : 3;
+        put_times(&row->model, "(", around);
+        open += around;
+        put(&row->model, WORDS.name[i]);
+        put(&row->model, i % 2 == 0 ? "," : "|");
+        if (i % 2 == 0)
+            add_child(row, WORDS.name[i]);
+    }
+    put(&row->model, WORDS.name[DEPTH]);
+    put_times(&row->model, ")", open);
+    add_child(row, WORDS.name[DEPTH]);
+}
+
 static void numbers(struct row *row) { disorder(row, numbered("name"), MANY); }
 
 /* A foreign name, which looks like the others, comes first. */
@@ -280,6 +312,8 @@ static const struct {
     {"4,096 children, dead at the last", 2, dead_at_last},
     {"model text alone", 1, model_alone},
     {"model a, child a", 0, smallest},
+    {"64 brackets round one name", 0, name_in_brackets},
+    {"16 groups inside 40 brackets", 0, wrapped_groups},
     {"name01 to name64, 4,096 children", 0, numbers},
     {"name01 to name64, foreign at the first", 2, numbers_foreign_at_first},
     {"name01 to name64, second one too many", 2, numbers_second_too_many},

@@ -26,10 +26,11 @@ static const char *in_words(uint32_t answer)
     case 11: return "refused: no model begins so, or it stops short";
     case 12: return "refused: a name in the model is over 32 characters";
     case 13: return "refused: a count in the model is wrong";
-    case 14: return "refused: over 16 round brackets are open at once";
+    case 14: return "refused: over 16 groups are around a name, without needless brackets";
     case 15: return "refused: the model has over 64 atoms";
     case 16: return "refused: the model has over 128 nodes";
     case 17: return "refused: a name stands twice in the model";
+    case 19: return "refused: over 64 round brackets are open at once";
     case 30: return "refused: the children are over 65,535 bytes";
     case 35: return "refused: a child is no name of 1 to 32 characters";
     case 36: return "refused: there are over 4,096 children";

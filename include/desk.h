@@ -16,17 +16,25 @@
        11      no model begins so, or the text stops short
        12      a name over 32 characters
        13      n is 0, n below m, or a number over 60,000 in a count [m..n] or [m..*]
-       14      over 16 round brackets open at once
+       14      over 16 groups around an atom, counted after flattening (below)
        15      over 64 atoms
        16      over 128 nodes
        17      a name written before
+       19      over 64 round brackets open at once
    The model text is good and the children text is refused:
        30      over 65,535 bytes
        35      a child is no name of 1 to 32 characters
        36      over 4,096 children
 
-   10 comes first; of 11 to 17 the one at the smallest place of the text wins, then the smallest
-   number. Of 30, 35 and 36 the smallest number wins.
+   10 comes first; of 11 to 19 the one at the smallest place of the text wins, then the smallest
+   number. The place of 14 is the end of the text, so it comes last. Of 30, 35 and 36 the smallest
+   number wins.
+
+   Flattening goes from the inside out: `()` is dropped from every group, and marks a choice with
+   `?`; a group of one gives way to its member, which gets the group's `?`; a group without `?`
+   inside a group of the same sign joins it. A group left without members is `()`, and so is `()?`.
+   So there is no group around a in `((((a))))`, one in `((a,b),c)`, and there are two in
+   `((a,b)?,c)` and in `((a|b|())|c)`. Atoms and nodes are counted as written.
 
    desk_next lists the names that may come next behind the children: those whose addition would
    leave the row complete or open. It writes their numbers into the row that it is lent, from the

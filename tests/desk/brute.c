@@ -4,6 +4,9 @@
    begin some model text, and where names and nodes begin. The other refusals are tested place by
    place, in the words of the table.
 
+   Depth: the text is flattened by one small change after the other, in the words of document 02,
+   W3, until no group is left to change; then brackets are counted.
+
    Verdict: the model as a type of document 001, derived (Brzozowski) by each child in turn. Two
    further ways must agree on small inputs: membership by definition 2.1 word for word, and a search
    through derived types for a longer row.
@@ -252,21 +255,188 @@ static bool written_before(const uint8_t *text, size_t len, const struct spellin
     return false;
 }
 
-/* Does this refusal of the table, 12 to 17, stand at this place? */
+/* Does this refusal of the table, 12 to 19 but for 14, stand at this place? */
 static bool stands(uint32_t number, const uint8_t *text, size_t len, const struct spelling *s,
                    size_t p)
 {
     switch (number) {
     case 12: return s->name_at[p] && name_length(text, len, p) > 32;
     case 13: return text[p] == ']' && wrong_count(text, p);
-    case 14: return text[p] == '('
-                    && how_many_bytes(text, p + 1, '(') > 16 + how_many_bytes(text, p, ')');
     case 15: return s->name_at[p] && how_many(s->name_at, p + 1) > 64;
     case 16: return s->node_at[p] && how_many(s->node_at, p + 1) > 128;
     case 17: return s->name_at[p] && written_before(text, len, s, p);
+    case 19: return text[p] == '('
+                    && how_many_bytes(text, p + 1, '(') > 64 + how_many_bytes(text, p, ')');
     default: return false;
     }
 }
+
+/* ---- the depth of a model text ---- */
+
+/* Where the first member of these ends: at the first sign outside inner brackets, round or
+   curly. */
+static size_t member_length(const uint8_t *text, size_t len)
+{
+    size_t depth = 0, i;
+    for (i = 0; i < len; i++) {
+        if (depth == 0 && (text[i] == ',' || text[i] == '|' || text[i] == '&'))
+            break;
+        depth += text[i] == '(' || text[i] == '{';
+        depth -= text[i] == ')' || text[i] == '}';
+    }
+    return i;
+}
+
+/* A model text in which every atom is an `a`, without count and mark. Groups in curly brackets are
+   flattened, those in round ones not yet. */
+struct shape {
+    uint8_t *text;
+    size_t len;
+};
+
+/* A group of a shape, by its brackets. */
+struct group {
+    size_t open, close;
+    char sign; /* of a group of one or none `)` */
+    bool marked;
+};
+
+/* How long the atom at this place is, with count and mark; 0 where there is none. */
+static size_t atom_length(const uint8_t *text, size_t len, size_t place)
+{
+    size_t n = name_length(text, len, place), end = place + n;
+    if (n != 0 && end < len && text[end] == '[')
+        while (text[end++] != ']')
+            ;
+    if (n != 0 && end < len && text[end] == '?')
+        end++;
+    return end - place;
+}
+
+static struct shape shape_of(const uint8_t *text, size_t len)
+{
+    struct shape s = {grown(NULL, len), 0};
+    for (size_t i = 0; i < len;) {
+        size_t n = atom_length(text, len, i);
+        s.text[s.len++] = n == 0 ? text[i] : 'a';
+        i += n == 0 ? 1 : n;
+    }
+    return s;
+}
+
+static void cut(struct shape *s, size_t at, size_t n)
+{
+    s->len -= n;
+    memmove(s->text + at, s->text + at + n, s->len - at);
+}
+
+/* Puts a mark behind this bracket; there is room for it where something was cut. */
+static void mark(struct shape *s, size_t bracket)
+{
+    memmove(s->text + bracket + 2, s->text + bracket + 1, s->len - bracket - 1);
+    s->text[bracket + 1] = '?';
+    s->len++;
+}
+
+/* The byte behind the first member of the group that this bracket opens. */
+static char sign_of(const struct shape *s, size_t open, size_t close)
+{
+    return (char)s->text[open + 1 + member_length(s->text + open + 1, close - open - 1)];
+}
+
+/* The first group to close of those in round brackets; false if there is none. */
+static bool innermost(const struct shape *s, struct group *g)
+{
+    const uint8_t *close = memchr(s->text, ')', s->len);
+    if (close == NULL)
+        return false;
+    g->close = g->open = (size_t)(close - s->text);
+    while (s->text[g->open] != '(')
+        g->open--;
+    g->sign = sign_of(s, g->open, g->close);
+    g->marked = g->close + 1 < s->len && s->text[g->close + 1] == '?';
+    return true;
+}
+
+/* A member `()` goes, and a sign beside it if there is one; it marks a choice. */
+static bool drop_empty(struct shape *s, struct group g)
+{
+    for (size_t at = g.open + 1, n; at < g.close; at += n + 1) {
+        n = member_length(s->text + at, g.close - at);
+        if (s->text[at] != '{' || s->text[at + 1] != '}')
+            continue;
+        size_t length = g.sign == ')' ? n : n + 1;
+        cut(s, at > g.open + 1 ? at - 1 : at, length);
+        if (g.sign == '|' && !g.marked)
+            mark(s, g.close - length);
+        return true;
+    }
+    return false;
+}
+
+/* A group without members is `()`, and so is `()?`. */
+static bool finish_empty(struct shape *s, struct group g)
+{
+    if (g.close != g.open + 1)
+        return false;
+    memcpy(s->text + g.open, "{}", 2);
+    if (g.marked)
+        cut(s, g.close + 1, 1);
+    return true;
+}
+
+/* A group of one goes; its mark, if it has one, takes the place of the member's. */
+static bool dissolve(struct shape *s, struct group g)
+{
+    if (g.sign != ')')
+        return false;
+    size_t lost = g.marked && s->text[g.close - 1] == '?' ? 2 : 1;
+    cut(s, g.close + 1 - lost, lost);
+    cut(s, g.open, 1);
+    return true;
+}
+
+/* The brackets of an unmarked member of the same sign go. */
+static bool join(struct shape *s, struct group g)
+{
+    for (size_t at = g.open + 1, n; at < g.close; at += n + 1) {
+        n = member_length(s->text + at, g.close - at);
+        size_t last = at + n - 1;
+        if (s->text[last] != '}' || sign_of(s, at, last) != g.sign)
+            continue;
+        cut(s, last, 1);
+        cut(s, at, 1);
+        return true;
+    }
+    return false;
+}
+
+static void finish(struct shape *s, struct group g)
+{
+    s->text[g.open] = '{';
+    s->text[g.close] = '}';
+}
+
+/* The largest number of groups around an atom, after flattening. */
+static size_t depth_of(const uint8_t *text, size_t len)
+{
+    struct shape s = shape_of(text, len);
+    struct group g;
+    while (innermost(&s, &g))
+        if (!drop_empty(&s, g) && !finish_empty(&s, g) && !dissolve(&s, g) && !join(&s, g))
+            finish(&s, g);
+    size_t depth = 0, around = 0;
+    for (size_t i = 0; i < s.len; i++) {
+        around += s.text[i] == '{';
+        around -= s.text[i] == '}';
+        if (s.text[i] == 'a' && around > depth)
+            depth = around;
+    }
+    free(s.text);
+    return depth;
+}
+
+/* ---- all refusals of a model text ---- */
 
 uint32_t brute_model(const uint8_t *text, size_t len, size_t *place)
 {
@@ -276,7 +446,7 @@ uint32_t brute_model(const uint8_t *text, size_t len, size_t *place)
     struct spelling s = spell(text, len);
     uint32_t answer = 0;
     for (size_t p = 0; p < s.good && answer == 0; p++)
-        for (uint32_t number = 12; number <= 17 && answer == 0; number++)
+        for (uint32_t number = 12; number <= 19 && answer == 0; number++)
             if (stands(number, text, len, &s, p)) {
                 answer = number;
                 *place = p;
@@ -284,6 +454,9 @@ uint32_t brute_model(const uint8_t *text, size_t len, size_t *place)
     if (answer == 0 && !s.whole) {
         answer = 11;
         *place = s.good;
+    } else if (answer == 0 && depth_of(text, len) > 16) {
+        answer = 14;
+        *place = len;
     }
     free_spelling(&s);
     return answer;
@@ -386,19 +559,6 @@ static const struct type *type_of_atom(struct model *model, const uint8_t *text,
     if (min > 0)
         return atom(model->pool, name, min, max);
     return pair(model->pool, CHOICE, leaf(model->pool, EMPTY_ROW), atom(model->pool, name, 1, max));
-}
-
-/* Where the first member of these ends: at the first sign outside inner brackets. */
-static size_t member_length(const uint8_t *text, size_t len)
-{
-    size_t depth = 0, i;
-    for (i = 0; i < len; i++) {
-        if (depth == 0 && (text[i] == ',' || text[i] == '|' || text[i] == '&'))
-            break;
-        depth += text[i] == '(';
-        depth -= text[i] == ')';
-    }
-    return i;
 }
 
 /* What stands between a group's brackets, nested to the left. */

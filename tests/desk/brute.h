@@ -8,7 +8,7 @@
 /* The oracle's own ways to a verdict disagree. */
 enum { BRUTE_SPLIT = 99 };
 
-/* 0 for a model text, or its refusal, 10 to 17, with its place in *place. */
+/* 0 for a model text, or its refusal, 10 to 17 or 19, with its place in *place. */
 uint32_t brute_model(const uint8_t *text, size_t len, size_t *place);
 
 /* The answer that desk_judge has to give, or BRUTE_SPLIT. */

@@ -31,6 +31,7 @@ struct amounts {
     unsigned small;   /* models of up to six names, short rows mostly of the model or near it */
     unsigned damaged; /* the same, some bytes of one text changed, lost, added or cut off */
     unsigned large;   /* models of up to 64 names, rows of up to 4,096 children and a few more */
+    unsigned deep;    /* models with 17 to 70 brackets open at once, some of them damaged */
 };
 
 /* So many random ones of each; the seed fixes them. */

@@ -9,7 +9,9 @@
 
 #include <string.h>
 
-static const struct amounts HOW_MANY = {.small = 300000, .damaged = 300000, .large = 5000};
+static const struct amounts HOW_MANY = {
+    .small = 300000, .damaged = 300000, .large = 5000, .deep = 100000,
+};
 
 /* The ends of two pieces of memory, one for each text. */
 static uint8_t *model_end, *children_end;

@@ -1,5 +1,6 @@
 /* Rows and texts whose answers stand in documents 01 and 02 or follow from them. */
 #include "cases.h"
+#include "chain.h"
 #include "desk.h"
 #include "lists.h"
 
@@ -39,6 +40,9 @@ static const struct {
     {"()?", "", 0},
     {"(a?)?", "a", 0},
     {"((a))", "a", 0},
+    {"((((a))))?", "a", 0},
+    {"((a|b|())|c)", "", 0},
+    {"((a|b|())|c)", "b c", 2},
     {"a[0..2]", "a a a", 2},
     {"a[1..2]?", "", 0},
     {"(a[2..2]|())", "a", 1},
@@ -53,6 +57,13 @@ static const struct {
 };
 
 #define NAME_31 "abcdefghijklmnopqrstuvwxyz01234"
+#define OPEN_16 "(((((((((((((((("
+#define CLOSE_16 "))))))))))))))))"
+#define OPEN_64 OPEN_16 OPEN_16 OPEN_16 OPEN_16
+#define CLOSE_64 CLOSE_16 CLOSE_16 CLOSE_16 CLOSE_16
+
+/* A place: the length of the text. */
+#define AT_END SIZE_MAX
 
 /* The answer to a model text is 0 if it is one. */
 static const struct {
@@ -60,11 +71,11 @@ static const struct {
     uint32_t answer;
     size_t place;
 } TEXTS[] = {
-    /* 01, the paragraph under the rows */
+    /* 01, the paragraph under the rows, with the brackets of 02, W3 */
     {NAME_31 "5", 0, 0},
     {NAME_31 "56", 12, 0},
-    {"((((((((((((((((a))))))))))))))))", 0, 0},
-    {"(((((((((((((((((a)))))))))))))))))", 14, 16},
+    {OPEN_64 "a" CLOSE_64, 0, 0},
+    {OPEN_64 "(a)" CLOSE_64, 19, 64},
     {"a[2..1", 11, 6},
     {"a[2..1]", 13, 6},
     {"(a,b|c)", 11, 4},
@@ -90,7 +101,8 @@ static const struct {
     {"a[1]", 11, 3},
     {"a[1..*5]", 11, 6},
     /* 11 before every other number at a place */
-    {"((((((((((((((((a(", 11, 17},
+    {OPEN_16 "a(", 11, 17},
+    {OPEN_64 "a(", 11, 65},
     /* marks, signs, what stands behind a model */
     {"a??", 11, 2},
     {"a?[1..2]", 11, 2},
@@ -106,6 +118,85 @@ static const struct {
     {"a-", 0, 0},
     {"-a", 11, 0},
     {"(", 11, 1},
+    /* brackets round one name, with marks and beside other members */
+    {"((((a))))", 0, 0},
+    {OPEN_16 "(a)" CLOSE_16, 0, 0},
+    {OPEN_64 "a?" CLOSE_64 "?", 0, 0},
+    {OPEN_64 "()" CLOSE_64, 19, 64},
+    {OPEN_64 "(a)?" CLOSE_64, 19, 64},
+    {OPEN_64 "(", 19, 64},
+    {"(b,c?," OPEN_64 "a" CLOSE_64 ")", 19, 69},
+    {"(" OPEN_16 "a" CLOSE_16 "|" OPEN_64 "b" CLOSE_64 ")", 19, 98},
+    {"(" OPEN_16 "a" CLOSE_16 "," OPEN_16 "b" CLOSE_16 "," OPEN_16 "c" CLOSE_16 ")", 0, 0},
+};
+
+/* The same, of texts in which groups stand inside each other: brackets around them, groups, their
+   signs, the members beside the next group, the innermost member, what stands behind a group. */
+static const struct {
+    struct chain chain;
+    uint32_t answer;
+    size_t place;
+} CHAINS[] = {
+    /* signs that differ keep groups apart */
+    {{0, 16, ",|", "n", "z", ""}, 0, 0},
+    {{0, 17, ",|", "n", "z", ""}, 14, AT_END},
+    {{0, 17, "|,", "n", "z", ""}, 14, AT_END},
+    {{0, 17, "&,|", "n", "z", ""}, 14, AT_END},
+    {{0, 16, ",|", "n", "(y&z)", ""}, 14, AT_END},
+    {{0, 63, "&|", "n", "z", ""}, 14, AT_END},
+    /* the same signs, and brackets of one member around the groups or inside them */
+    {{1, 16, ",|", "n", "z", ""}, 0, 0},
+    {{2, 16, ",|", "n", "((z))?", ""}, 0, 0},
+    {{48, 16, ",|", "n", "z", ""}, 0, 0},
+    {{49, 16, ",|", "n", "z", ""}, 19, 114},
+    {{47, 17, ",|", "n", "z", ""}, 14, AT_END},
+    {{48, 17, ",|", "n", "z", ""}, 19, 118},
+    /* one sign: they join, but for marked ones */
+    {{0, 30, ",", "n", "z", ""}, 0, 0},
+    {{0, 30, "|", "n", "z", ""}, 0, 0},
+    {{0, 63, "&", "n", "z", ""}, 0, 0},
+    {{0, 16, ",", "n", "z", "?"}, 0, 0},
+    {{0, 17, ",", "n", "z", "?"}, 14, AT_END},
+    {{0, 17, "|", "n", "z", "?"}, 14, AT_END},
+    {{0, 17, "&", "n", "z", "?"}, 14, AT_END},
+    {{0, 32, ",,||", "n", "z", ""}, 0, 0},
+    {{0, 34, ",,||", "n", "z", ""}, 14, AT_END},
+    /* groups of one dissolve; `()` makes them */
+    {{0, 64, ",", "", "z", "?"}, 0, 0},
+    {{0, 65, ",", "", "z", "?"}, 19, 64},
+    {{0, 64, ",", "", "()", ""}, 19, 64},
+    {{0, 64, ",", "e", "z", ""}, 19, 253},
+    {{0, 63, ",", "e", "z", ""}, 0, 0},
+    {{0, 63, "&", "e", "z", "?"}, 0, 0},
+    {{0, 63, "|", "e", "()", "?"}, 0, 0},
+    {{0, 40, ",|", "e", "z", ""}, 0, 0},
+    {{0, 40, ",|", "ee", "(y|z)", ""}, 0, 0},
+    {{0, 30, ",", "en", "z", ""}, 0, 0},
+    {{0, 17, ",", "n", "()", "?"}, 0, 0},
+    {{0, 18, ",", "n", "()", "?"}, 14, AT_END},
+    /* a choice marked by `()` joins no choice around it */
+    {{0, 17, "|", "n", "z", ""}, 0, 0},
+    {{0, 16, "|", "ne", "z", ""}, 0, 0},
+    {{0, 17, "|", "ne", "z", ""}, 14, AT_END},
+    {{0, 17, "|", "en", "()", ""}, 0, 0},
+    {{0, 18, "|", "en", "()", ""}, 14, AT_END},
+    {{0, 16, "|", "ne", "(y|z)", ""}, 0, 0},
+    {{0, 16, "|", "ne", "(y|z|())", ""}, 14, AT_END},
+    {{0, 16, ",|", "n", "(z|())", ""}, 0, 0},
+    {{0, 16, "|,", "n", "(()|(y,z))", ""}, 14, AT_END},
+    {{0, 16, "|,", "n", "(()&(y,z))", ""}, 0, 0},
+    /* every other refusal comes before 14 */
+    {{0, 17, ",|", "n", "z%", ""}, 11, 76},
+    {{0, 17, ",|", "n", "(z", ""}, 11, AT_END},
+    {{0, 17, ",|", "n", "z)", ""}, 11, 93},
+    {{0, 17, ",|", "n", NAME_31 "56", ""}, 12, 75},
+    {{0, 17, ",|", "n", "z[2..1]", ""}, 13, 81},
+    {{0, 17, ",|", "nnnn", "z", ""}, 15, 263},
+    {{0, 17, ",|", "neeeeee", "z", ""}, 16, 358},
+    {{0, 17, ",|", "n", "n16", ""}, 17, 75},
+    /* at one bracket 16 comes before 19, and 19 alone one node earlier */
+    {{0, 64, ",", "n", "(z)", ""}, 16, 310},
+    {{1, 63, ",", "n", "(z)", ""}, 19, 306},
 };
 
 #define EXAMPLE "(axis,target,(crawl&gather)?,hold[0..2])"
@@ -241,6 +332,30 @@ static struct call long_call(size_t i)
     return (struct call){bytes_of(LONG_FAULTS[i].model), written(&children)};
 }
 
+enum { KNOWN_TEXTS = LENGTH(TEXTS) + LENGTH(CHAINS) };
+
+/* A model text, without children; where it is refused, the place is the one of the refusal. */
+struct known {
+    struct call call;
+    uint32_t answer;
+    size_t place;
+};
+
+/* This one of the texts, or of the chains behind them; it stays until the next call. */
+static struct known known_text(size_t i)
+{
+    static struct text model;
+    if (i < LENGTH(TEXTS)) {
+        begin(&model, TEXTS[i].text);
+        return (struct known){{written(&model), NO_BYTES}, TEXTS[i].answer, TEXTS[i].place};
+    }
+    i -= LENGTH(TEXTS);
+    begin(&model, "");
+    put_chain(&model, CHAINS[i].chain);
+    return (struct known){{written(&model), NO_BYTES}, CHAINS[i].answer,
+                          CHAINS[i].place == AT_END ? model.len : CHAINS[i].place};
+}
+
 void check_known_rows(judge_texts *judge, struct report *report)
 {
     check_long_row(judge, report);
@@ -252,22 +367,22 @@ void check_known_rows(judge_texts *judge, struct report *report)
 
 void check_known_texts(judge_texts *judge, struct report *report)
 {
-    for (size_t i = 0; i < LENGTH(TEXTS); i++) {
-        struct call c = {bytes_of(TEXTS[i].text), NO_BYTES};
-        uint32_t answer = ask(judge, c);
-        report_answer(report, c, answer <= 2 ? 0 : answer, TEXTS[i].answer);
+    for (size_t i = 0; i < KNOWN_TEXTS; i++) {
+        struct known text = known_text(i);
+        uint32_t answer = ask(judge, text.call);
+        report_answer(report, text.call, answer <= 2 ? 0 : answer, text.answer);
     }
 }
 
 void check_known_places(place_refusal *model, struct report *report)
 {
-    for (size_t i = 0; i < LENGTH(TEXTS); i++) {
-        struct call c = {bytes_of(TEXTS[i].text), NO_BYTES};
+    for (size_t i = 0; i < KNOWN_TEXTS; i++) {
+        struct known text = known_text(i);
         size_t place;
-        uint32_t answer = model(c.model.at, c.model.len, &place);
-        report_answer(report, c, answer, TEXTS[i].answer);
+        uint32_t answer = model(text.call.model.at, text.call.model.len, &place);
+        report_answer(report, text.call, answer, text.answer);
         if (answer != 0)
-            report_value(report, c, "place", place, TEXTS[i].place);
+            report_value(report, text.call, "place", place, text.place);
     }
 }
 
@@ -303,10 +418,10 @@ void check_known_faults(find_fault *find, struct report *report)
         struct call c = long_call(i);
         report_fault(report, c, ask(find, c), LONG_FAULTS[i].answer);
     }
-    for (size_t i = 0; i < LENGTH(TEXTS); i++) {
-        struct call c = {bytes_of(TEXTS[i].text), NO_BYTES};
-        report_fault(report, c, ask(find, c),
-                     TEXTS[i].answer == 0 ? DESK_NO_FAULT : REFUSAL(TEXTS[i].answer));
+    for (size_t i = 0; i < KNOWN_TEXTS; i++) {
+        struct known text = known_text(i);
+        report_fault(report, text.call, ask(find, text.call),
+                     text.answer == 0 ? DESK_NO_FAULT : REFUSAL(text.answer));
     }
 }
 
@@ -314,8 +429,8 @@ void try_known(try_call *f, struct report *to)
 {
     for (size_t i = 0; i < LENGTH(ROWS); i++)
         f(to, call_of(ROWS[i].model, ROWS[i].children));
-    for (size_t i = 0; i < LENGTH(TEXTS); i++)
-        f(to, (struct call){bytes_of(TEXTS[i].text), NO_BYTES});
+    for (size_t i = 0; i < KNOWN_TEXTS; i++)
+        f(to, known_text(i).call);
     for (size_t i = 0; i < LENGTH(LISTS); i++)
         f(to, call_of(LISTS[i].model, LISTS[i].children));
     for (size_t i = 0; i < LENGTH(FAULTS); i++)

@@ -1,16 +1,9 @@
-/* Texts at and past every limit of document 01. */
+/* Texts at and past every limit of documents 01 and 02. */
 #include "cases.h"
+#include "chain.h"
 
 #include <stdio.h>
 #include <string.h>
-
-/* The k-th of many short names. */
-static void put_name(struct text *t, size_t k)
-{
-    char name[24];
-    snprintf(name, sizeof name, "n%zu", k);
-    put(t, name);
-}
 
 /* The model alone, with one child, and with a bad child: a refusal of the model comes first. */
 static void try_model(try_call *f, struct report *to, struct bytes model)
@@ -61,20 +54,54 @@ static void try_names(try_call *f, struct report *to)
 }
 
 /* Brackets inside each other, and brackets that are closed again beside them. */
-static void try_depth(try_call *f, struct report *to)
+static void try_brackets(try_call *f, struct report *to)
 {
     static const char *const BRACKETS[] = {"(", "(()&", "(b&(", "((),(())?,"};
     static const char *const MIDDLES[] = {"a", "", "a(", "%", "a,a", "(", "a[2..1]"};
-    for (size_t depth = 4; depth <= 18; depth++)
+    static const size_t TIMES[] = {4, 8, 15, 16, 17, 18, 31, 32, 33, 62, 63, 64, 65, 66};
+    for (size_t t = 0; t < LENGTH(TIMES); t++)
         for (size_t i = 0; i < LENGTH(BRACKETS); i++)
             for (size_t k = 0; k < LENGTH(MIDDLES); k++) {
                 static struct text model;
                 begin(&model, "");
-                put_times(&model, BRACKETS[i], depth);
+                put_times(&model, BRACKETS[i], TIMES[t]);
                 put(&model, MIDDLES[k]);
                 try_model(f, to, written(&model));
-                put_times(&model, ")", depth);
+                put_times(&model, ")", TIMES[t]);
                 try_model(f, to, written(&model));
+            }
+}
+
+/* Groups inside each other with every innermost member, around the depth of 16. */
+static void try_middles(try_call *f, struct report *to, struct chain c)
+{
+    static const char *const MIDDLES[] = {
+        "a", "()", "()?", "(a,b)", "(a|b)", "(a&b)?", "((a|b|())|c)", "(()|(a,b))", "((),(a,b))",
+        "n0", "(a", "a)", "a[2..1]",
+    };
+    for (c.groups = 15; c.groups <= 18; c.groups++)
+        for (size_t i = 0; i < LENGTH(MIDDLES); i++) {
+            static struct text model;
+            begin(&model, "");
+            c.middle = MIDDLES[i];
+            put_chain(&model, c);
+            try_model(f, to, written(&model));
+        }
+}
+
+static void try_depth(try_call *f, struct report *to)
+{
+    static const char *const SIGNS[] = {",", "|", ",|", "|&", ",,|"};
+    static const char *const BESIDE[] = {"n", "ne", "en", "e"};
+    static const size_t OUTER[] = {0, 47}; /* with 17 groups inside them 64 brackets are open */
+    for (size_t i = 0; i < LENGTH(SIGNS); i++)
+        for (size_t k = 0; k < LENGTH(BESIDE); k++)
+            for (size_t j = 0; j < LENGTH(OUTER); j++) {
+                struct chain c = {.outer = OUTER[j], .signs = SIGNS[i], .beside = BESIDE[k]};
+                c.behind = "";
+                try_middles(f, to, c);
+                c.behind = "?";
+                try_middles(f, to, c);
             }
 }
 
@@ -243,6 +270,7 @@ void try_limits(try_call *f, struct report *to)
 {
     try_sizes(f, to);
     try_names(f, to);
+    try_brackets(f, to);
     try_depth(f, to);
     try_width(f, to);
     try_counts(f, to);

@@ -92,6 +92,48 @@ static size_t grow(struct sketch *s, size_t names, size_t depth)
     return me;
 }
 
+/* ---- deep models ---- */
+
+/* How often, of a hundred groups inside each other, one is so. */
+struct habit {
+    size_t alone;  /* the next group is its only member */
+    size_t turned; /* the next group has a sign of its own choice */
+    size_t marked;
+};
+
+static bool chance(struct dice *d, size_t percent) { return below(d, 100) < percent; }
+
+/* A name, `()` or a small group. */
+static size_t grow_small(struct sketch *s)
+{
+    size_t names = one_in(&s->dice, 4) ? 0 : one_in(&s->dice, 8) ? 2 : 1;
+    return grow(s, s->atoms + names > NAMES ? 0 : names, 2);
+}
+
+/* So many groups inside each other, small members beside them, seldom a second such member. */
+static size_t grow_deep(struct sketch *s, const struct habit *h, char sign, size_t groups)
+{
+    struct dice *d = &s->dice;
+    if (groups == 0)
+        return grow_small(s);
+    size_t me = new_member(s, sign);
+    s->member[me].optional = chance(d, h->marked);
+    char inner = chance(d, h->turned) ? ",|&"[below(d, 3)] : sign;
+    size_t first = grow_deep(s, h, inner, groups - 1), last = first;
+    for (size_t more = chance(d, h->alone) ? 0 : 1 + one_in(d, 4); more > 0; more--) {
+        size_t beside = one_in(d, 60) ? grow_deep(s, h, inner, groups / 2) : grow_small(s);
+        if (one_in(d, 2)) {
+            s->member[beside].next = first;
+            first = beside;
+        } else {
+            s->member[last].next = beside;
+            last = beside;
+        }
+    }
+    s->member[me].first = first;
+    return me;
+}
+
 /* ---- texts ---- */
 
 static void write_atom(const struct sketch *s, const struct member *m, struct text *t)
@@ -324,13 +366,10 @@ static void alike_names(struct sketch *s)
             s->name[k][i] = i == 5 ? '\0' : "abc"[(rest + i) % 3];
 }
 
-/* A new model, and a row that mostly is of it or near it. */
-static void make_case(struct sketch *s, size_t names, size_t depth, struct text *model,
-                      struct text *children)
+/* The model's text, and a row that mostly is of it or near it. */
+static void write_case(struct sketch *s, size_t top, struct text *model, struct text *children)
 {
     struct row row = {.len = 0};
-    s->members = s->atoms = 0;
-    size_t top = grow(s, names, depth);
     begin(model, "");
     write_member(s, top, model);
     if (one_in(&s->dice, 8)) {
@@ -344,6 +383,14 @@ static void make_case(struct sketch *s, size_t names, size_t depth, struct text 
     write_row(s, &row, children);
 }
 
+/* A new model. */
+static void make_case(struct sketch *s, size_t names, size_t depth, struct text *model,
+                      struct text *children)
+{
+    s->members = s->atoms = 0;
+    write_case(s, grow(s, names, depth), model, children);
+}
+
 /* The arguments of make_case are rolled one by one, so that the seed fixes their order too. */
 static void make_small(struct sketch *s, struct text *model, struct text *children)
 {
@@ -353,14 +400,36 @@ static void make_small(struct sketch *s, struct text *model, struct text *childr
     make_case(s, below(&s->dice, 7), depth, model, children);
 }
 
+static void damage_model(struct sketch *s, struct text *model)
+{
+    for (size_t n = 1 + below(&s->dice, 3); n > 0; n--)
+        damage(&s->dice, model, "()()[],,||&&??..*-0123459abcz%\n\tA \x80");
+}
+
 static void make_damaged(struct sketch *s, struct text *model, struct text *children)
 {
     make_small(s, model, children);
     if (one_in(&s->dice, 5))
         damage(&s->dice, children, "\t\tabc1-A% \n");
     else
-        for (size_t n = 1 + below(&s->dice, 3); n > 0; n--)
-            damage(&s->dice, model, "()()[],,||&&??..*-0123459abcz%\n\tA \x80");
+        damage_model(s, model);
+}
+
+/* One in eight is damaged too. */
+static void make_deep(struct sketch *s, struct text *model, struct text *children)
+{
+    struct habit h;
+    s->stretch = 2;
+    alike_names(s);
+    size_t groups = 17 + below(&s->dice, 54);
+    size_t wide = 10 + below(&s->dice, groups < 45 ? groups - 10 : 35); /* so many not alone */
+    h.alone = 100 - 100 * wide / groups;
+    h.turned = below(&s->dice, 150);
+    h.marked = below(&s->dice, 60);
+    s->members = s->atoms = 0;
+    write_case(s, grow_deep(s, &h, ",|&"[groups % 3], groups), model, children);
+    if (one_in(&s->dice, 8))
+        damage_model(s, model);
 }
 
 static void make_large(struct sketch *s, struct text *model, struct text *children)
@@ -393,4 +462,5 @@ void try_random(uint64_t seed, struct amounts how_many, try_call *f, struct repo
     try_made(make_small, seed, how_many.small, f, to);
     try_made(make_damaged, seed + 1, how_many.damaged, f, to);
     try_made(make_large, seed + 2, how_many.large, f, to);
+    try_made(make_deep, seed + 3, how_many.deep, f, to);
 }

@@ -5,7 +5,9 @@
 #include "lists.h"
 #include "twin.h"
 
-static const struct amounts HOW_MANY = {.small = 60000, .damaged = 60000, .large = 60};
+static const struct amounts HOW_MANY = {
+    .small = 60000, .damaged = 60000, .large = 60, .deep = 5000,
+};
 
 static struct report lists, faults;
 

@@ -18,7 +18,7 @@ uint32_t twin_next(const uint8_t *model, size_t model_len, const uint8_t *childr
 uint32_t twin_first_fault(const uint8_t *model, size_t model_len,
                           const uint8_t *children, size_t children_len);
 
-/* 0 for a model text, or its refusal, 10 to 17, with its place (counted from 0) in *place. */
+/* 0 for a model text, or its refusal, 10 to 17 or 19, with its place (counted from 0) in *place. */
 uint32_t twin_model(const uint8_t *text, size_t len, size_t *place);
 
 #endif

@@ -3,7 +3,8 @@
    The model text is read by recursive descent into nodes in the order they begin. Judging is two
    passes: one over the children, which notes for each name how often, from where and up to where it
    stands; one over the nodes, last to first, with a stack that holds for each member what the row
-   looks like through that member's names alone. No state outlives a call.
+   looks like through that member's names alone. Where over 16 brackets were open at once, a walk
+   over the nodes between reading and judging counts the depth. No state outlives a call.
 
    The functions are static and stand here so that twin.c, which is timed, has a copy of its own for
    the compiler to place in its one caller. */
@@ -19,7 +20,8 @@ enum {
     MAX_TEXT = 4096,
     MAX_NAME = 32,
     MAX_COUNT = 60000,
-    MAX_DEPTH = 16,
+    MAX_DEPTH = 16, /* groups around an atom, after flattening */
+    MAX_OPEN = 64,  /* round brackets open at once */
     MAX_ATOMS = 64,
     MAX_NODES = 128,
     MAX_CHILDREN_TEXT = 65535,
@@ -40,6 +42,7 @@ enum answer {
     MANY_ATOMS = 15,
     MANY_NODES = 16,
     REPEATED_NAME = 17,
+    MANY_BRACKETS = 19,
     CHILDREN_SIZE = 30,
     NO_NAME = 35,
     MANY_CHILDREN = 36,
@@ -123,6 +126,7 @@ struct reader {
     size_t len;
     size_t at;
     struct rule *rule;
+    bool deep; /* over MAX_DEPTH brackets were open at once */
     uint32_t refusal;
     size_t place;
 };
@@ -204,7 +208,7 @@ static bool read_atom(struct reader *r)
     return peek(r) != '[' || read_count(r, &node->min, &node->max);
 }
 
-static bool read_member(struct reader *r, uint32_t depth);
+static bool read_member(struct reader *r, uint32_t open);
 
 /* The kind of group that a sign makes; ATOM for a byte that is no sign. */
 static enum kind kind_of_sign(int byte)
@@ -212,13 +216,14 @@ static enum kind kind_of_sign(int byte)
     return byte == ',' ? SEQUENCE : byte == '|' ? CHOICE : byte == '&' ? INTERLEAVING : ATOM;
 }
 
-/* `depth` brackets are open around this group. */
-static bool read_group(struct reader *r, uint32_t depth)
+/* `open` brackets are open around this group. */
+static bool read_group(struct reader *r, uint32_t open)
 {
-    if (depth == MAX_DEPTH)
-        return refuse(r, TOO_DEEP, r->at);
     if (r->rule->node_count == MAX_NODES)
         return refuse(r, MANY_NODES, r->at);
+    if (open == MAX_OPEN)
+        return refuse(r, MANY_BRACKETS, r->at);
+    r->deep |= open >= MAX_DEPTH;
     struct node *node = &r->rule->node[r->rule->node_count++];
     *node = (struct node){.kind = SEQUENCE};
     r->at++;
@@ -227,7 +232,7 @@ static bool read_group(struct reader *r, uint32_t depth)
         return true;
     }
     for (int sign = 0;; r->at++) {
-        if (!read_member(r, depth + 1))
+        if (!read_member(r, open + 1))
             return false;
         node->members++;
         int byte = peek(r);
@@ -242,13 +247,13 @@ static bool read_group(struct reader *r, uint32_t depth)
     return true;
 }
 
-static bool read_member(struct reader *r, uint32_t depth)
+static bool read_member(struct reader *r, uint32_t open)
 {
     struct node *node = &r->rule->node[r->rule->node_count]; /* where the member begins */
     int byte = peek(r);
     if (byte != '(' && !is_letter(byte))
         return refuse(r, SPELLING, r->at);
-    if (!(byte == '(' ? read_group(r, depth) : read_atom(r)))
+    if (!(byte == '(' ? read_group(r, open) : read_atom(r)))
         return false;
     if (peek(r) == '?') {
         node->optional = true;
@@ -256,6 +261,52 @@ static bool read_member(struct reader *r, uint32_t depth)
     }
     return true;
 }
+
+/* ---- the depth ---- */
+
+/* What flattening leaves of a member. */
+struct flat {
+    bool empty; /* nothing but `()` */
+    uint8_t kind;
+    bool optional;
+    uint8_t depth; /* the largest number of groups around an atom, at most MAX_OPEN */
+};
+
+/* Flattens the member that begins at *next, and moves on to the node behind it. A group of one is
+   its member, with the group's mark if it has one; a group that joins another counts no more. */
+static struct flat flatten(const struct node **next)
+{
+    const struct node *node = (*next)++;
+    struct flat all = {.kind = node->kind, .optional = node->optional}, last = all;
+    if (node->kind == ATOM)
+        return all;
+    uint32_t left = 0; /* members that are not `()` */
+    for (uint32_t i = 0; i < node->members; i++) {
+        struct flat member = flatten(next);
+        if (member.empty) {
+            all.optional |= node->kind == CHOICE;
+            continue;
+        }
+        bool joins = member.kind == node->kind && !member.optional;
+        uint8_t depth = joins ? member.depth : member.depth + 1;
+        if (depth > all.depth)
+            all.depth = depth;
+        last = member;
+        left++;
+    }
+    if (left == 0)
+        return (struct flat){.empty = true};
+    last.optional |= all.optional;
+    return left == 1 ? last : all;
+}
+
+static bool is_too_deep(const struct rule *rule)
+{
+    const struct node *first = rule->node;
+    return flatten(&first).depth > MAX_DEPTH;
+}
+
+/* ---- the whole text ---- */
 
 /* Fills the rule and gives 0, or gives the refusal and its place. */
 static uint32_t read_model(const uint8_t *text, size_t len, struct rule *rule, size_t *place)
@@ -267,8 +318,12 @@ static uint32_t read_model(const uint8_t *text, size_t len, struct rule *rule, s
     rule->names.count = 0;
     memset(rule->names.slot, 0, sizeof rule->names.slot);
     struct reader r = {.text = text, .len = len, .rule = rule};
-    if (read_member(&r, 0) && r.at != len)
-        refuse(&r, SPELLING, r.at);
+    if (read_member(&r, 0)) {
+        if (r.at != len)
+            refuse(&r, SPELLING, r.at);
+        else if (r.deep && is_too_deep(rule))
+            refuse(&r, TOO_DEEP, len);
+    }
     *place = r.place;
     return r.refusal;
 }

@@ -1,13 +1,13 @@
 // Nodes as numbers, one each: so the reader and the judge of rows hold them, in an array that is lent.
 
-ghost use mathlib.Core.Path.{_≡_};
+ghost use mathlib.Core.{Path._≡_, List.[], List._∷_};
 ghost use Prim.Native.Nat.{_≤_};
 ghost use lib.{Dec.T, ListN.length};
 ghost use Rattle.model.specs.declared.rule.Kind.the-variants.{Atom, Group};
-ghost use Rattle.model.specs.Rule.{used};
+ghost use Rattle.model.specs.Rule.{used, unused, ruleWith};
 ghost use Rattle.fields.specs.Limits.{maxNodes};
 ghost use Rattle.judge.specs.Reading.Buffer.{Stores};
-ghost use Rattle.judge.specs.Packed.{packedWord, nodeIn, plainNode, optionalNode, isSign, signBy, kindBy, markBy};
+ghost use Rattle.judge.specs.Packed.{packedWord, nodeIn, ruleIn, plainNode, optionalNode, isSign, signBy, kindBy, markBy};
 use model::rule::Kind;
 use model::rule::MAX_NODES;
 use model::rule::Mark;
@@ -150,4 +150,36 @@ pub(crate) fn pack(rule: Rule, words: &mut [u64; MAX_NODES])
         words[i] = packed_node(node);
         i += 1;
     }
+}
+
+// The rule of `()`.
+pub(crate) fn no_rule() -> Rule
+    ensures { λ r. ⌜ r ≡ ruleWith (unused ∷ []) ⌝ }
+{
+    let node = Node {
+        kind: Kind::Group {
+            sign: Sign::None,
+            members: 0,
+        },
+        mark: Mark::Plain,
+    };
+    Rule {
+        nodes: [node; MAX_NODES],
+        len: 1,
+    }
+}
+
+// The rule of the first len nodes.
+pub(crate) fn unpack(words: &[u64; MAX_NODES], len: usize) -> Rule
+    requires { ⌜ (len ≤ maxNodes) × (length (now words) ≡ maxNodes) ⌝ }
+    ensures { λ r. ⌜ r ≡ ruleIn (now (words .entry)) len ⌝ }
+{
+    let mut rule = no_rule();
+    let mut i: usize = 0;
+    while i < len {
+        rule.nodes[i] = unpacked(words[i]);
+        i += 1;
+    }
+    rule.len = len;
+    rule
 }

@@ -1,26 +1,23 @@
 // What a model text reads into: its rule, and its names as places in the text.
 
-ghost use mathlib.Core.{Path._≡_, List.[], List._∷_, List.map};
+ghost use mathlib.Core.{Path._≡_, List.[], List.map};
 ghost use Prim.Native.Nat.{_≤_};
 ghost use lib.ListN.{length, take};
-ghost use Rattle.model.specs.{Rule.ruleWith, Rule.unused, Syntax.numberIn};
+ghost use Rattle.model.specs.Syntax.{numberIn};
 ghost use Rattle.judge.specs.Reading.{namesWith, refusal, reading, partsOf};
-ghost use Rattle.judge.specs.Packed.{nodeIn, placeOf};
-use crate::packed::unpacked;
+ghost use Rattle.judge.specs.Packed.{placeOf};
+use crate::packed::no_rule;
+use crate::packed::unpack;
 use crate::reader::Got;
 use crate::reader::read_whole;
 use crate::table::SLOTS;
 use fields::bytes::same_bytes;
 use fields::limits::lesser;
 use model::fault::ModelFault;
-use model::rule::Kind;
 use model::rule::MAX_ATOMS;
 use model::rule::MAX_NODES;
-use model::rule::Mark;
 use model::rule::NameNumber;
-use model::rule::Node;
 use model::rule::Rule;
-use model::rule::Sign;
 
 // Where a name stands in the text.
 pub struct NamePlace {
@@ -46,22 +43,6 @@ pub struct Reading {
     pub names: Names,
 }
 
-fn no_rule() -> Rule
-    ensures { λ r. ⌜ r ≡ ruleWith (unused ∷ []) ⌝ }
-{
-    let node = Node {
-        kind: Kind::Group {
-            sign: Sign::None,
-            members: 0,
-        },
-        mark: Mark::Plain,
-    };
-    Rule {
-        nodes: [node; MAX_NODES],
-        len: 1,
-    }
-}
-
 fn no_names() -> Names
     ensures { λ r. ⌜ r ≡ namesWith [] ⌝ }
 {
@@ -80,20 +61,6 @@ fn refused(f: ModelFault, p: usize) -> Reading
         rule: no_rule(),
         names: no_names(),
     }
-}
-
-fn rule_of(work: &[u64; MAX_NODES], len: usize) -> Rule
-    requires { ⌜ (len ≤ 128) × (length (now work) ≡ 128) ⌝ }
-    ensures { λ r. ⌜ r ≡ ruleWith (map nodeIn (take len (now (work .entry)))) ⌝ }
-{
-    let mut rule = no_rule();
-    let mut i: usize = 0;
-    while i < len {
-        rule.nodes[i] = unpacked(work[i]);
-        i += 1;
-    }
-    rule.len = len;
-    rule
 }
 
 fn names_of(words: &[u64; MAX_NODES], len: usize) -> Names
@@ -122,7 +89,7 @@ pub fn read_model(text: &[u8]) -> Reading
     match read_whole(text, &mut work, &mut names, &mut heads) {
         Got::Past(past) => Reading {
             outcome: Outcome::Read,
-            rule: rule_of(&work, past.nodes),
+            rule: unpack(&work, past.nodes),
             names: names_of(&names, past.names),
         },
         Got::Fault(f, p) => refused(f, p),

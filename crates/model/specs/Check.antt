@@ -1,18 +1,18 @@
--- The test of a rule that one pass over its nodes can do: document 01, refusal 40. `Check.Exact` has that it holds just where some accepted model text
+-- The test of a rule that passes over its nodes can do: document 01, refusal 40. `Check.Exact` has that it holds just where some accepted model text
 -- reads into the rule.
 pub mod Laws
 pub mod Scan
 pub mod Exact
-use mathlib.Core.{Bool.Bool, Bool.true, Bool.false, Bool._&&_, List.List, List.[], List._∷_}
-use Prim.Native.Nat.{ℕ, _+_, max, min}
-use lib.{Dec.leb, Dec.eqb, ListN.drop, ListN.length}
+use mathlib.Core.{Bool.Bool, Bool.true, Bool.false, Bool.cond, Bool._&&_, List.List, List.[], List._∷_}
+use Prim.Native.Nat.{ℕ, _+_}
+use lib.{Dec.leb, Dec.eqb, ListN.drop, ListN.length, ListN.getD}
 use Rattle.model.specs.{declared.rule.Upper.Upper, declared.rule.Sign.Sign, declared.rule.Kind.Kind, declared.rule.Node.Node as RuleNode}
-use Rattle.model.specs.{declared.rule.Rule.Rule, Tree.isPlain, Rule.used, Rule.names}
+use Rattle.model.specs.{declared.rule.Rule.Rule, Tree.isPlain, Tree.highest, Rule.used, Rule.names, Depth.deeper, Depth.ruleDepth}
 use Rattle.model.specs.declared.rule.Upper.the-variants.{Number, Unbounded}
 use Rattle.model.specs.declared.rule.Sign.the-variants.{None, Sequence, Choice, Interleaving}
 use Rattle.model.specs.declared.rule.Kind.the-variants.{Atom, Group}
 use Rattle.model.specs.Model.{Algebra, needed, treesIn, eval, isAtom}
-use Rattle.fields.specs.Limits.{maxCount, maxDepth, maxAtoms, maxNodes}
+use Rattle.fields.specs.Limits.{maxCount, maxDepth, maxNesting, maxAtoms, maxNodes}
 
 -- 13, of the counts of a node
 abbrev pub upperFits : ℕ → Upper → Bool
@@ -43,21 +43,13 @@ abbrev pub allUnused : List RuleNode → Bool
 allUnused [] = true
 allUnused (x ∷ l) = isUnused x && allUnused l
 
--- The depth of a tree, but no more than one over the limit.
-abbrev pub highest : List ℕ → ℕ
-highest [] = 0
-highest (d ∷ l) = max d (highest l)
+-- Of a node, by what it is of its members: how many round brackets are open at once, but no more than one over the limit.
+abbrev pub nestingOf : Kind → ℕ → ℕ
+nestingOf (Atom lo hi) d = 0
+nestingOf (Group s n) d = deeper d
 
-abbrev pub deeper : ℕ → ℕ
-deeper d = min (maxDepth + 1) (d + 1)
-
--- a node, by the greatest depth of its members
-abbrev pub depthOf : Kind → ℕ → ℕ
-depthOf (Atom lo hi) d = 0
-depthOf (Group s n) d = deeper d
-
-abbrev pub depthBy : Algebra ℕ
-depthBy = record { onAtom = λ k lo hi. 0; onGroup = λ k s l. deeper (highest l); onMark = λ m d. d }
+abbrev pub nestingBy : Algebra ℕ
+nestingBy = record { onAtom = λ k lo hi. 0; onGroup = λ k s l. deeper (highest l); onMark = λ m d. d }
 
 -- one tree, and no more is said of it than n
 abbrev pub oneUnder : ℕ → List ℕ → Bool
@@ -71,9 +63,13 @@ wellFormed r =
     leb (r .len) maxNodes
     && allUnused (drop (r .len) (r .nodes))
     && sound (used r)
-    && oneUnder maxDepth (eval depthBy (used r) 0)
+    && oneUnder maxNesting (eval nestingBy (used r) 0)
     && leb (names r) maxAtoms
+
+-- the brackets open at once, if so, and else one over the limit
+abbrev pub ruleNesting : Rule → ℕ
+ruleNesting r = cond (wellFormed r) (getD (eval nestingBy (used r) 0) 0 0) (maxNesting + 1)
 
 -- an array of nodes has 128 places, which no code can test and a rule of the specs may break
 unfoldable pub readable : Rule → Bool
-readable r = eqb (length (r .nodes)) maxNodes && wellFormed r
+readable r = eqb (length (r .nodes)) maxNodes && (wellFormed r && leb (ruleDepth r) maxDepth)

@@ -159,7 +159,10 @@ fn tell_models() {
     tell_model(b"11", b"rule\ta\t(b\n");
     tell_model(b"12", b"rule\ta\taaaaaaaaaaaaaaaaaaaaaaaaaaaaaaaaa\n");
     tell_model(b"13", b"rule\ta\tb[2..1]\n");
-    tell_model(b"14", b"rule\ta\t(((((((((((((((((\n");
+    tell_model(
+        b"14",
+        b"rule\ta\t(ba,(bb|(bc,(bd|(be,(bf|(bg,(bh|(bi,(bj|(bk,(bl|(bm,(bn|(bo,(bp|(bq,b)))))))))))))))))\n",
+    );
     tell_model(
         b"15",
         b"rule\ta\t(aa,ab,ac,ad,ae,af,ag,ah,ai,aj,ak,al,am,an,ao,ap,aq,ar,as,at,au,av,aw,ax,ay,az,ba,bb,bc,bd,be,bf,bg,bh,bi,bj,\
@@ -173,6 +176,10 @@ fn tell_models() {
          (),(),(),(),(),(),(),(),(),(),(),())\n",
     );
     tell_model(b"17", b"rule\ta\t(b,b)\n");
+    tell_model(
+        b"19",
+        b"rule\ta\t(((((((((((((((((((((((((((((((((((((((((((((((((((((((((((((((((\n",
+    );
 }
 
 fn tell_lists() {

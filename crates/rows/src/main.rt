@@ -180,8 +180,6 @@ fn first_faults() {
 fn limits() {
     read(b"abcdefghabcdefghabcdefghabcdefgh");
     read(b"abcdefghabcdefghabcdefghabcdefghi");
-    read(b"((((((((((((((((a))))))))))))))))");
-    read(b"(((((((((((((((((a)))))))))))))))))");
     read(b"a[2..1");
     read(b"a[2..1]");
     read(b"(a,b|c)");
@@ -243,6 +241,19 @@ fn put(text: &mut [u8], at: usize, bytes: &[u8]) -> usize
     end
 }
 
+// Puts bytes so many times.
+fn put_times(text: &mut [u8], at: usize, bytes: &[u8], count: usize) -> usize
+    ensures { λ r. ⌜ r ≤ length (now (text .exit)) ⌝ }
+{
+    let mut end = lesser(at, text.len());
+    let mut i: usize = 0;
+    while i < count {
+        end = put(text, end, bytes);
+        i += 1;
+    }
+    end
+}
+
 // A group of 64 names, aa to ah, ba to hh, and these bytes behind it.
 fn read_names(shown: &[u8], behind: &[u8]) {
     let mut text = [0u8; ROOM];
@@ -256,15 +267,11 @@ fn read_names(shown: &[u8], behind: &[u8]) {
     read_as(shown, &text[0..end]);
 }
 
-// A group of so many empty ones, and these bytes behind it.
+// A group of so many empty ones, each with a comma, and these bytes.
 fn read_groups(shown: &[u8], count: usize, behind: &[u8]) {
     let mut text = [0u8; ROOM];
-    let mut at = put(&mut text, 0, b"(()");
-    let mut i: usize = 1;
-    while i < count {
-        at = put(&mut text, at, b",()");
-        i += 1;
-    }
+    let mut at = put(&mut text, 0, b"(");
+    at = put_times(&mut text, at, b"(),", count);
     let end = put(&mut text, at, behind);
     read_as(shown, &text[0..end]);
 }
@@ -278,9 +285,136 @@ fn atoms_and_nodes() {
         b"65 names, the last of 33 characters",
         b",aaaaaaaaaaaaaaaaaaaaaaaaaaaaaaaaa)",
     );
-    read_groups(b"128 nodes", 127, b")");
-    read_groups(b"129 nodes", 127, b",())");
-    read_groups(b"129 nodes, the last 17 deep", 112, b",(((((((((((((((((a");
+    read_groups(b"128 nodes", 126, b"())");
+    read_groups(b"129 nodes", 127, b"())");
+    read_groups(
+        b"129 nodes, the last a 65th open bracket",
+        64,
+        b"((((((((((((((((((((((((((((((((((((((((((((((((((((((((((((((((",
+    );
+}
+
+// These bytes, then these, then the last so many times.
+fn read_nested(shown: &[u8], open: &[u8], inside: &[u8], close: &[u8], count: usize) {
+    let mut text = [0u8; ROOM];
+    let mut at = put(&mut text, 0, open);
+    at = put(&mut text, at, inside);
+    let end = put_times(&mut text, at, close, count);
+    read_as(shown, &text[0..end]);
+}
+
+// Document 02, W3: brackets open at once.
+fn brackets() {
+    read(b"((((a))))");
+    read_nested(
+        b"64 brackets",
+        b"((((((((((((((((((((((((((((((((((((((((((((((((((((((((((((((((",
+        b"a",
+        b")",
+        64,
+    );
+    read_nested(
+        b"65 brackets",
+        b"(((((((((((((((((((((((((((((((((((((((((((((((((((((((((((((((((",
+        b"a",
+        b")",
+        65,
+    );
+    read_nested(
+        b"65 brackets, marked",
+        b"(((((((((((((((((((((((((((((((((((((((((((((((((((((((((((((((((",
+        b"a",
+        b")?",
+        65,
+    );
+}
+
+// Document 02, W3: depth. Signs by turns keep each group, and so do marks; one sign joins them all.
+fn depths() {
+    read_nested(
+        b"16 signs by turns",
+        b"(a,(b|(c,(d|(e,(f|(g,(h|(i,(j|(k,(l|(m,(n|(o,(p|",
+        b"x",
+        b")",
+        16,
+    );
+    read_nested(
+        b"17 signs by turns",
+        b"(a,(b|(c,(d|(e,(f|(g,(h|(i,(j|(k,(l|(m,(n|(o,(p|(q,",
+        b"x",
+        b")",
+        17,
+    );
+    read_nested(
+        b"17 signs by turns, a name twice",
+        b"(a,(b|(c,(d|(e,(f|(g,(h|(i,(j|(k,(l|(m,(n|(o,(p|(q,",
+        b"a",
+        b")",
+        17,
+    );
+    read_nested(
+        b"17 signs by turns, a bracket left open",
+        b"(a,(b|(c,(d|(e,(f|(g,(h|(i,(j|(k,(l|(m,(n|(o,(p|(q,",
+        b"x",
+        b")",
+        16,
+    );
+    read_nested(
+        b"17 signs by turns in 64 brackets",
+        b"((((((((((((((((((((((((((((((((((((((((((((((((a,(b|(c,(d|(e,(f|(g,(h|(i,(j|(k,(l|(m,(n|(o,(p|(q,",
+        b"x",
+        b")",
+        64,
+    );
+    read_nested(
+        b"16 signs by turns in 64 brackets",
+        b"(((((((((((((((((((((((((((((((((((((((((((((((((a,(b|(c,(d|(e,(f|(g,(h|(i,(j|(k,(l|(m,(n|(o,(p|",
+        b"x",
+        b")",
+        64,
+    );
+    read_nested(
+        b"26 of one sign",
+        b"(a&(b&(c&(d&(e&(f&(g&(h&(i&(j&(k&(l&(m&(n&(o&(p&(q&(r&(s&(t&(u&(v&(w&(x&(y&(z&",
+        b"()",
+        b")",
+        26,
+    );
+    read_nested(
+        b"16 of one sign, marked",
+        b"(a&(b&(c&(d&(e&(f&(g&(h&(i&(j&(k&(l&(m&(n&(o&(p&",
+        b"x",
+        b")?",
+        16,
+    );
+    read_nested(
+        b"17 of one sign, marked",
+        b"(a&(b&(c&(d&(e&(f&(g&(h&(i&(j&(k&(l&(m&(n&(o&(p&(q&",
+        b"x",
+        b")?",
+        17,
+    );
+    read_nested(
+        b"15 signs by turns round ((x|y)|z)",
+        b"(a,(b|(c,(d|(e,(f|(g,(h|(i,(j|(k,(l|(m,(n|(o,",
+        b"((x|y)|z)",
+        b")",
+        15,
+    );
+    read_nested(
+        b"15 signs by turns round ((x|y|())|z)",
+        b"(a,(b|(c,(d|(e,(f|(g,(h|(i,(j|(k,(l|(m,(n|(o,",
+        b"((x|y|())|z)",
+        b")",
+        15,
+    );
+    read_nested(
+        b"17 signs by turns round ()",
+        b"(a,(b|(c,(d|(e,(f|(g,(h|(i,(j|(k,(l|(m,(n|(o,(p|(q,",
+        b"((),()?)",
+        b")",
+        17,
+    );
 }
 
 fn main() {
@@ -291,4 +425,6 @@ fn main() {
     names_and_counts();
     marks_and_groups();
     atoms_and_nodes();
+    brackets();
+    depths();
 }

@@ -26,8 +26,8 @@ use Rattle.judge.specs.Next.{NextReply, nextListed, nextRefused, NextInto, all-
 use Rattle.judge.specs.Next.Laws.{list-exactly, next-few, next-replies-exactly}
 use Rattle.desk.specs.Desk.{replyNumber, verdictNumber, deskAnswer, refusalBase, basedNumber, nextNumber, deskNext, faultNumber, deskFault, PlaceFits}
 
--- those of the model text are 10 to 17, those of the children text 30 to 37, the judge's own below 47, verdicts below 3
-pub model-under : (f : ModelFault) → (10 ≤ modelNumber f) × (modelNumber f < 18)
+-- those of the model text are 10 to 19, those of the children text 30 to 37, the judge's own below 47, verdicts below 3
+pub model-under : (f : ModelFault) → (10 ≤ modelNumber f) × (modelNumber f < 20)
 model-under f = (number-over f, number-under f)
 
 pub cue-under : (f : CueFault) → (30 ≤ cueNumber f) × (cueNumber f < 38)

@@ -14,14 +14,14 @@ whole : (c : tie.After-past)
     Whole (start r .args .text .now) (r .read-whole .last .1 .0) (r .read-whole .last .1 .1 .0, r .read-whole .last .1 .1 .1 .0) (c .past .given .0 .0)
 whole c = whole-past (c .before .before .read-whole .ensures) (c .past .given .1)
 
-rule-of-requires : tie.Need-rule-of-requires
-rule-of-requires c κs = let w = whole (c .before .before) in (w .nodes .few, w .nodes .whole)
+unpack-requires : tie.Need-unpack-requires
+unpack-requires c κs = let w = whole (c .before .before) in (w .nodes .few, w .nodes .whole)
 
 names-of-requires : tie.Need-names-of-requires
 names-of-requires c κs = let w = whole (c .before .before .before .before) in (w .tabled .few, w .named .held .whole)
 
 returns : tie.Need-returns
-returns c = let r = c .before .before in reading-is (whole (r .before .before .before)) (r .rule-of .ensures) (c .names-of .ensures)
+returns c = let r = c .before .before in reading-is (whole (r .before .before .before)) (r .unpack .ensures) (c .names-of .ensures)
 
 returns-2 : tie.Need-returns-2
 returns-2 c =
@@ -35,7 +35,7 @@ read-model-spec =
     (tie.spec
     (λ c κs. search needs)
     (λ c. search needs)
-    rule-of-requires
+    unpack-requires
     names-of-requires
     (λ c. search needs)
     (λ c κs. search needs)

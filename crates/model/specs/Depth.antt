@@ -1,0 +1,71 @@
+-- The depth of a rule, as one pass over its nodes finds it: of each flattened tree only a few facts are kept. `Depth.Laws.depth-is` has that it is the
+-- depth of the model.
+pub mod Laws
+use mathlib.Core.Bool.{Bool, true, false, cond, not, _&&_, _||_}
+use mathlib.Core.List.{List, [], _∷_}
+use Prim.Native.Nat.{ℕ, _+_, _-_, max, min}
+use lib.{Dec.ltb, ListN.getD}
+use Rattle.model.specs.{declared.rule.Sign.Sign, declared.rule.Sign.the-variants.None, declared.rule.Mark.Mark, declared.rule.Kind.Kind, declared.rule.Rule.Rule}
+use Rattle.model.specs.{declared.depth.Flat.Flat, Rule.used, Flatten.sameSign, Flatten.isChoice, Model.Algebra, Model.eval}
+use Rattle.model.specs.declared.rule.Mark.the-variants.{Plain, Optional}
+use Rattle.model.specs.declared.rule.Kind.the-variants.{Atom, Group}
+use Rattle.fields.specs.Limits.{maxNesting}
+
+-- one more, but no more than one over the limit
+abbrev pub deeper : ℕ → ℕ
+deeper d = min maxNesting d + 1
+
+abbrev pub nilFlat : Flat
+nilFlat = record { sign = None; marked = false; empty = true; depth = 0 }
+
+abbrev pub atomFlat : Flat
+atomFlat = record { sign = None; marked = false; empty = false; depth = 0 }
+
+-- an unmarked group of the sign; only groups have a depth
+abbrev pub mergesBy : Sign → Flat → Bool
+mergesBy s x = sameSign s (x .sign) && (not (x .marked) && ltb 0 (x .depth))
+
+-- how many groups it brings into a group of the sign
+abbrev pub bringsBy : Sign → Flat → ℕ
+bringsBy s x = cond (mergesBy s x) (x .depth - 1) (x .depth)
+
+-- a member, and a group of the sign that the members behind it make
+abbrev pub besideBy : Sign → Flat → Flat → Flat
+besideBy s x y =
+    cond (x .empty) y
+    (cond (y .empty) x (record { sign = s; marked = false; empty = false; depth = deeper (max (bringsBy s x) (bringsBy s y)) }))
+
+abbrev pub gatheredBy : Sign → List Flat → Flat
+gatheredBy s [] = nilFlat
+gatheredBy s (x ∷ l) = besideBy s x (gatheredBy s l)
+
+abbrev pub someEmpty : List Flat → Bool
+someEmpty [] = false
+someEmpty (x ∷ l) = x .empty || someEmpty l
+
+abbrev pub overBy : Mark → Flat → Flat
+overBy Plain x = x
+overBy Optional x = record { sign = x .sign; marked = not (x .empty); empty = x .empty; depth = x .depth }
+
+-- the members of a group made x, and whether a `()` was dropped
+abbrev pub closedBy : Sign → Bool → Flat → Flat
+closedBy s b x = overBy (cond (isChoice s && b) Optional Plain) x
+
+abbrev pub groupBy : Sign → List Flat → Flat
+groupBy s l = closedBy s (someEmpty l) (gatheredBy s l)
+
+-- a node, as the pass comes to it
+abbrev pub signIn : Kind → Sign
+signIn (Atom lo hi) = None
+signIn (Group s n) = s
+
+abbrev pub partBy : Kind → Bool → Flat → Flat
+partBy (Atom lo hi) b x = atomFlat
+partBy (Group s n) b x = closedBy s b x
+
+abbrev pub flatBy : Algebra Flat
+flatBy = record { onAtom = λ k lo hi. atomFlat; onGroup = λ k s l. groupBy s l; onMark = overBy }
+
+-- no more than one over the limit of brackets
+abbrev pub ruleDepth : Rule → ℕ
+ruleDepth r = getD (eval flatBy (used r) 0) 0 nilFlat .depth

@@ -1,0 +1,213 @@
+-- The pass finds the depth: what it keeps of a model's nodes is what can be seen of the flattened trees.
+use mathlib.Core.{Path._≡_, Path.refl, Path.ap, Path.ap₂, Path.sym, Path._∙_, Path.subst, Logic.⊎-elim, Logic.inl, Logic.inr}
+use mathlib.Core.Bool.{Bool, true, false, cond, not, _&&_, _||_, and-false, and-eq-true-iff}
+use mathlib.Core.List.{List, [], _∷_, map}
+use Prim.Native.Nat.{ℕ, suc, _+_, _-_, _≤_, _<_, max, min}
+use native.Mathlib.Omega.{arith}
+use lib.{Dec.ltb, ListN.getD, ListN.take, ListN.drop, ListN.set, ListN.length, Seq.slice-empty}
+use borrow.Author.Tests.{lt-ltb, ltb-true, eq-eqb}
+use Rattle.fields.specs.{Tests.by-test, Stack.slice-back, Stack.slice-is, Limits.maxNesting, Limits.maxNodes}
+use Rattle.model.specs.{declared.rule.Sign.Sign, declared.rule.Mark.Mark, declared.rule.Kind.Kind, declared.rule.Node.Node as RuleNode}
+use Rattle.model.specs.{declared.depth.Flat.Flat, Rule.ruleOf, Model.Pass.Passed, Model.Pass.pass-turn}
+use Rattle.model.specs.declared.rule.Kind.the-variants.{Atom, Group}
+use Rattle.model.specs.declared.rule.Sign.the-variants.{None}
+use Rattle.model.specs.declared.rule.Mark.the-variants.{Plain, Optional}
+use Rattle.model.specs.Tree.{Node, leaf, group, marked, Members, none, _▹_, size, atoms, isPlain}
+use Rattle.model.specs.Flatten.{signNumber, sameSign, isChoice, _⧺_, nil, isNil, someNil, merges, membersOf, gathered, grouped, over, droppedMark}
+use Rattle.model.specs.Flatten.{flattenNode, flatten, flattenAll, depth}
+use Rattle.model.specs.Flatten.Solid.{Solid, SolidAll, Flattened, AllFlattened, solid-not-nil, merged, solid-append, gathered-solid, grouped-flattened}
+use Rattle.model.specs.Flatten.Solid.{tree-flattened, node-flattened, all-flattened}
+use Rattle.model.specs.{Syntax.Syntax, Model.countsOf, Model.modelOf, Flatten.Map.depth-map}
+use Rattle.model.specs.Flatten.Depth.{deepest, deepestOf, deepest-append, deepest-first, group-deepest}
+use Rattle.model.specs.{Rule.Laws.rule-eval, Model.Counts, Model.Model, Model.fold, Model.foldNode, Model.foldAll, Model.needed, Model.evalStep}
+use Rattle.model.specs.Depth.{deeper, nilFlat, mergesBy, bringsBy, besideBy, gatheredBy, someEmpty, overBy, groupBy, signIn, partBy, flatBy}
+use Rattle.model.specs.Depth.{ruleDepth}
+
+-- what is kept of a tree
+abbrev markOf : Model → Mark
+markOf (marked m n) = m
+
+abbrev signOf : Model → Sign
+signOf (marked m (leaf c)) = None
+signOf (marked m (group s ts)) = s
+
+abbrev kept : Model → Flat
+kept t = record { sign = signOf t; marked = not (isPlain (markOf t)); empty = isNil t; depth = min (maxNesting + 1) (deepest t) }
+
+-- only groups have a depth
+same : (b : Bool) → not (not b) && true ≡ b
+same true = refl
+same false = refl
+
+merges-kept : (s : Sign) (t : Model) → Solid t → mergesBy s (kept t) ≡ merges s t
+merges-kept s (marked m (leaf c)) h = rw (and-false, and-false)
+merges-kept s (marked m (group r ts)) h =
+    rw (lt-ltb 0 (min (maxNesting + 1) (deepest (marked m (group r ts)))) (omega (arith, group-deepest m r ts h)), same (isPlain m))
+
+-- what a member brings into a group
+abbrev brought : Sign → Model → Members Counts
+brought s t = cond (merges s t) (membersOf t) (t ▹ none)
+
+gathered-more : (s : Sign) (t : Model) (l : List Model) → Solid t → gathered s (t ∷ l) ≡ brought s t ⧺ gathered s l
+gathered-more s t l h = rw (solid-not-nil t h) (by-test (merges s t) (λ e. rw e) (λ e. rw e))
+
+brought-solid : (s : Sign) (t : Model) → Solid t → SolidAll (brought s t) s × (1 ≤ size (brought s t))
+brought-solid s t h =
+    by-test (merges s t)
+    (λ e. let k = subst Solid (merged s t e) h in rw e (k .1, omega (arith, k .0)))
+    (λ e. rw e ((h, e, tt), omega arith))
+
+brings-kept : (s : Sign) (t : Model) → Solid t → min maxNesting (bringsBy s (kept t)) ≡ min maxNesting (deepestOf (brought s t))
+brings-kept s t h =
+    by-test (merges s t)
+    (λ e. let d : deepest t ≡ suc (deepestOf (membersOf t)) =
+    ap deepest (merged s t e) ∙ group-deepest Plain s (membersOf t) (subst Solid (merged s t e) h) in
+    rw (merges-kept s t h, e) (omega (arith, d)))
+    (λ e. rw (merges-kept s t h, e) (omega (arith, deepest-first t none)))
+
+-- groups of two members or more
+size-append : (ts us : Members Counts) → size (ts ⧺ us) ≡ size ts + size us
+size-append none us = omega arith
+size-append (t ▹ ts) us = omega (arith, size-append ts us)
+
+append-none : (ts : Members Counts) → ts ⧺ none ≡ ts
+append-none none = refl
+append-none (t ▹ ts) = ap (λ us. t ▹ us) (append-none ts)
+
+several : (s : Sign) (ts : Members Counts) → 2 ≤ size ts → grouped s ts ≡ marked Plain (group s ts)
+several s none h = absurd (omega arith)
+several s (t ▹ none) h = absurd (omega arith)
+several s (t ▹ u ▹ ts) h = refl
+
+kept-group : (s : Sign) (ts : Members Counts) → 2 ≤ size ts → SolidAll ts s
+    → kept (grouped s ts) ≡ record { sign = s; marked = false; empty = false; depth = min maxNesting (deepestOf ts) + 1 }
+kept-group s ts h k =
+    let d = group-deepest Plain s ts (h, k) in
+    let e : min (maxNesting + 1) (deepest (marked Plain (group s ts))) ≡ min maxNesting (deepestOf ts) + 1 = omega (arith, d) in
+    rw (several s ts h, e, solid-not-nil (marked Plain (group s ts)) (h, k))
+
+-- some members make a group, which brings them all
+some-not-nil : (s : Sign) (u : Model) (us : Members Counts) → SolidAll (u ▹ us) s → isNil (grouped s (u ▹ us)) ≡ false
+some-not-nil s u none h = solid-not-nil u (h .0)
+some-not-nil s u (v ▹ us) h = refl
+
+brings-all : (s : Sign) (u : Model) (us : Members Counts) → SolidAll (u ▹ us) s
+    → min maxNesting (bringsBy s (kept (grouped s (u ▹ us)))) ≡ min maxNesting (deepestOf (u ▹ us))
+brings-all s u none h = brings-kept s u (h .0) ∙ rw (h .1)
+brings-all s u (v ▹ us) h =
+    let ts = u ▹ v ▹ us in
+    let e : merges s (marked Plain (group s ts)) ≡ true = rw (eq-eqb (signNumber s) (signNumber s) refl) in
+    brings-kept s (marked Plain (group s ts)) (omega arith, h) ∙ rw e
+
+cap-max : (n a b : ℕ) → min n (max a b) ≡ max (min n a) (min n b)
+cap-max n a b = omega arith
+
+beside-nil : (s : Sign) (x : Flat) → x .empty ≡ false → besideBy s x nilFlat ≡ x
+beside-nil s x e = rw e
+
+beside-kept : (s : Sign) (t : Model) (us : Members Counts) → Solid t → SolidAll us s
+    → kept (grouped s (brought s t ⧺ us)) ≡ besideBy s (kept t) (kept (grouped s us))
+beside-kept s t none h k = ap kept alone ∙ sym (beside-nil s (kept t) (solid-not-nil t h))
+  where
+    alone : grouped s (brought s t ⧺ none) ≡ t
+    alone =
+        by-test (merges s t)
+        (λ e. rw (e, append-none (membersOf t)) (several s (membersOf t) (subst Solid (merged s t e) h .0) ∙ sym (merged s t e)))
+        (λ e. rw e)
+beside-kept s t (u ▹ us) h k =
+    let b = brought-solid s t h in
+    let n : 2 ≤ size (brought s t ⧺ (u ▹ us)) = omega (arith, size-append (brought s t) (u ▹ us), b .1) in
+    rw (solid-not-nil t h, some-not-nil s u us k)
+    (kept-group s (brought s t ⧺ (u ▹ us)) n (solid-append (brought s t) (u ▹ us) s (b .0) k)
+    ∙ rw (
+      deepest-append (brought s t) (u ▹ us),
+      cap-max maxNesting (deepestOf (brought s t)) (deepestOf (u ▹ us)),
+      cap-max maxNesting (bringsBy s (kept t)) (bringsBy s (kept (grouped s (u ▹ us)))),
+      brings-kept s t h,
+      brings-all s u us k,
+    ))
+
+gathered-kept : (s : Sign) (l : List Model) → AllFlattened l → gatheredBy s (map kept l) ≡ kept (grouped s (gathered s l))
+gathered-kept s [] h = refl
+gathered-kept s (t ∷ l) h =
+    ⊎-elim (λ e. rw e (gathered-kept s l (h .1)))
+    (λ k. rw (gathered-kept s l (h .1)) (sym (ap (λ ts. kept (grouped s ts)) (gathered-more s t l k) ∙ beside-kept s t (gathered s l) k (gathered-solid s l (h .1)))))
+    (h .0)
+
+some-empty : (l : List Model) → someEmpty (map kept l) ≡ someNil l
+some-empty [] = refl
+some-empty (t ∷ l) = ap (λ b. isNil t || b) (some-empty l)
+
+over-kept : (m : Mark) (t : Model) → Flattened t → overBy m (kept t) ≡ kept (over m t)
+over-kept Plain t h = refl
+over-kept Optional t (inl e) = rw e
+over-kept Optional (marked m (leaf c)) (inr h) = refl
+over-kept Optional (marked m (group s none)) (inr h) = absurd (omega (arith, h .0))
+over-kept Optional (marked m (group s (t ▹ ts))) (inr h) = refl
+
+group-kept : (s : Sign) (l : List Model) → AllFlattened l → groupBy s (map kept l) ≡ kept (over (droppedMark s l) (grouped s (gathered s l)))
+group-kept s l h =
+    rw (some-empty l, gathered-kept s l h)
+    (over-kept (droppedMark s l) (grouped s (gathered s l)) (grouped-flattened s (gathered s l) (gathered-solid s l h)))
+
+mutual
+  node-kept : (n : Node Counts) (k : ℕ) → foldNode flatBy n k ≡ kept (flattenNode n)
+  node-kept (leaf c) k = refl
+  node-kept (group s ts) k = rw (all-kept ts k) (group-kept s (flattenAll ts) (all-flattened ts))
+
+  tree-kept : (t : Model) (k : ℕ) → fold flatBy t k ≡ kept (flatten t)
+  tree-kept (marked m n) k = rw (node-kept n k) (over-kept m (flattenNode n) (node-flattened n))
+
+  all-kept : (ts : Members Counts) (k : ℕ) → foldAll flatBy ts k ≡ map kept (flattenAll ts)
+  all-kept none k = refl
+  all-kept (t ▹ ts) k = ap₂ {C = List Flat} (λ x l. x ∷ l) (tree-kept t k) (all-kept ts (k + atoms t))
+
+pub depth-is : (t : Model) → ruleDepth (ruleOf t) ≡ min (maxNesting + 1) (depth t)
+depth-is t = ap (λ l. getD l 0 nilFlat .depth) (rule-eval flatBy t 0) ∙ ap (λ x. x .depth) (tree-kept t 0)
+
+-- of a text's tree
+pub text-depth : (t : Syntax) → ruleDepth (ruleOf (modelOf t)) ≡ min (maxNesting + 1) (depth t)
+text-depth t = depth-is (modelOf t) ∙ ap (min (maxNesting + 1)) (depth-map (λ a. countsOf (a .count)) t)
+
+pub merges-deep : (s : Sign) (x : Flat) → mergesBy s x ≡ true → 0 < x .depth
+merges-deep s x e =
+    let h = and-eq-true-iff (sameSign s (x .sign)) (not (x .marked) && ltb 0 (x .depth)) .0 e in
+    ltb-true 0 (x .depth) (and-eq-true-iff (not (x .marked)) (ltb 0 (x .depth)) .0 (h .1) .1)
+
+-- The loops. A member more, before place at of the stack; those behind end before `end`.
+module _ (s : Sign) (stack : List Flat) (end : ℕ) where
+  pub record Joined (at : ℕ) (b : Bool) (x : Flat) : Type 0 where
+    pub made : x ≡ gatheredBy s (drop at (take end stack))
+    pub drops : b ≡ someEmpty (drop at (take end stack))
+
+  pub join-none : Joined end false nilFlat
+  join-none = let e = slice-empty end stack in record { made = rw e; drops = rw e }
+
+  pub join-turn : (at : ℕ) (d : Flat) {b : Bool} {x r : Flat} → 0 < at → at ≤ end → at ≤ length stack → r ≡ besideBy s (getD stack (at - 1) d) x
+      → Joined at b x → Joined (at - 1) (getD stack (at - 1) d .empty || b) r
+  join-turn at d p h k e j = record {
+    made = rw (slice-back stack end at d p h k, ← j .made) e;
+    drops = rw (slice-back stack end at d p h k, ← j .drops);
+  }
+
+-- a node, by its members
+abbrev nodeBy : Kind → Mark → List Flat → Flat
+nodeBy κ m l = overBy m (partBy κ (someEmpty l) (gatheredBy (signIn κ) l))
+
+node-step : (κ : Kind) (m : Mark) (k : ℕ) (rest : List Flat) → nodeBy κ m (take (needed κ) rest) ∷ drop (needed κ) rest ≡ evalStep flatBy κ m k rest
+node-step (Atom lo hi) m k rest = refl
+node-step (Group s n) m k rest = refl
+
+-- a turn, with what its calls gave
+pub depth-turn : (nodes : List RuleNode) (len i : ℕ) (d : RuleNode) {stack : List Flat} {top members clipped at : ℕ} {s : Sign} {b : Bool} {x y z : Flat}
+    → 0 < i → i ≤ len → i ≤ length nodes → 0 < top → top ≤ maxNodes → members ≡ needed (getD nodes (i - 1) d .kind)
+    → clipped ≡ min members (maxNodes - top) → s ≡ signIn (getD nodes (i - 1) d .kind) → Joined s stack (clipped + top) at b x → at ≡ top
+    → y ≡ partBy (getD nodes (i - 1) d .kind) b x → z ≡ overBy (getD nodes (i - 1) d .mark) y
+    → Passed flatBy (drop i (take len nodes)) stack top
+    → Passed flatBy (drop (i - 1) (take len nodes)) (set stack (clipped + top - 1) z) (clipped + top - 1)
+depth-turn nodes len i d {stack = stack} {top = top} {clipped = clipped} {at = at} a b c p h m n f j e g q t =
+    let node = getD nodes (i - 1) d in
+    let l : drop at (take (clipped + top) stack) ≡ take (clipped + top - top) (drop top stack) =
+    ap (λ k. drop k (take (clipped + top) stack)) e ∙ slice-is top (clipped + top) stack in
+    pass-turn nodeBy node-step nodes len i d a b c p h m n
+    (q ∙ ap (overBy (node .mark)) (g ∙ ap₂ (partBy (node .kind)) (j .drops ∙ ap someEmpty l) (j .made ∙ ap₂ gatheredBy f l))) t

@@ -1,0 +1,128 @@
+-- Other atoms change nothing: a tree over other atoms, each made from an atom and its number, is flattened in the same way and is as deep.
+use mathlib.Core.{Path._≡_, Path.refl, Path.ap, Path.ap₂, Path._∙_, Bool.true, Bool._||_, Bool.false≢true}
+use mathlib.Core.List.{List, [], _∷_, _++_}
+use Prim.Native.Nat.{ℕ, suc, _+_}
+use native.Mathlib.Nat.{add-zero, zero-add, add-assoc}
+use Rattle.fields.specs.Tests.{by-test}
+use Rattle.model.specs.{declared.rule.Sign.Sign, declared.rule.Mark.Mark}
+use Rattle.model.specs.declared.rule.Mark.the-variants.{Plain, Optional}
+use Rattle.model.specs.Tree.{Node, leaf, group, Tree, marked, Members, none, _▹_, atoms, membersWeight, mapNode, mapTree, mapMembers, highest}
+use Rattle.model.specs.Flatten.{_⧺_, isNil, someNil, merges, membersOf, gathered, grouped, over, droppedMark, flattenNode, flatten, flattenAll}
+use Rattle.model.specs.Flatten.{nodeAround, groupsAround, membersAround, depth}
+use Rattle.model.specs.Flatten.Leaves.{flatten-atoms}
+
+module _ {A : Type 0} where
+  nil-atoms : (t : Tree A) → isNil t ≡ true → atoms t ≡ 0
+  nil-atoms (marked m (leaf a)) e = absurd (false≢true e)
+  nil-atoms (marked m (group s none)) e = refl
+  nil-atoms (marked m (group s (t ▹ ts))) e = absurd (false≢true e)
+
+  merged-atoms : (s : Sign) (t : Tree A) → merges s t ≡ true → atoms t ≡ membersWeight 1 0 (membersOf t)
+  merged-atoms s (marked m (leaf a)) e = absurd (false≢true e)
+  merged-atoms s (marked m (group r ts)) e = zero-add (membersWeight 1 0 ts)
+
+-- atoms are numbered from k in the order written
+module _ {A B : Type 0} (f : ℕ → A → B) where
+  abbrev mutual
+    pub numberNode : Node A → ℕ → Node B
+    numberNode (leaf a) k = leaf (f k a)
+    numberNode (group s ts) k = group s (numberAll ts k)
+
+    pub numberTree : Tree A → ℕ → Tree B
+    numberTree (marked m n) k = marked m (numberNode n k)
+
+    pub numberAll : Members A → ℕ → Members B
+    numberAll none k = none
+    numberAll (t ▹ ts) k = numberTree t k ▹ numberAll ts (k + atoms t)
+
+  abbrev numberList : List (Tree A) → ℕ → List (Tree B)
+  numberList [] k = []
+  numberList (t ∷ l) k = numberTree t k ∷ numberList l (k + atoms t)
+
+  append-number : (ts us : Members A) (k : ℕ) → numberAll ts k ⧺ numberAll us (k + membersWeight 1 0 ts) ≡ numberAll (ts ⧺ us) k
+  append-number none us k = rw add-zero
+  append-number (t ▹ ts) us k = rw (← add-assoc k (atoms t) (membersWeight 1 0 ts), append-number ts us (k + atoms t))
+
+  nil-number : (t : Tree A) (k : ℕ) → isNil (numberTree t k) ≡ isNil t
+  nil-number (marked m (leaf a)) k = refl
+  nil-number (marked m (group s none)) k = refl
+  nil-number (marked m (group s (t ▹ ts))) k = refl
+
+  some-nil-number : (l : List (Tree A)) (k : ℕ) → someNil (numberList l k) ≡ someNil l
+  some-nil-number [] k = refl
+  some-nil-number (t ∷ l) k = ap₂ _||_ (nil-number t k) (some-nil-number l (k + atoms t))
+
+  merges-number : (s : Sign) (t : Tree A) (k : ℕ) → merges s (numberTree t k) ≡ merges s t
+  merges-number s (marked m (leaf a)) k = refl
+  merges-number s (marked m (group r ts)) k = refl
+
+  members-number : (t : Tree A) (k : ℕ) → membersOf (numberTree t k) ≡ numberAll (membersOf t) k
+  members-number (marked m (leaf a)) k = refl
+  members-number (marked m (group s ts)) k = refl
+
+  gathered-number : (s : Sign) (l : List (Tree A)) (k : ℕ) → gathered s (numberList l k) ≡ numberAll (gathered s l) k
+  gathered-number s [] k = refl
+  gathered-number s (t ∷ l) k =
+      rw (nil-number t k, merges-number s t k, members-number t k, gathered-number s l (k + atoms t))
+      (by-test (isNil t)
+      (λ e. rw (e, nil-atoms t e, add-zero))
+      (λ e. by-test (merges s t)
+      (λ j. rw (e, j, merged-atoms s t j) (append-number (membersOf t) (gathered s l) k))
+      (λ j. rw (e, j))))
+
+  grouped-number : (s : Sign) (ts : Members A) (k : ℕ) → grouped s (numberAll ts k) ≡ numberTree (grouped s ts) k
+  grouped-number s none k = refl
+  grouped-number s (t ▹ none) k = refl
+  grouped-number s (t ▹ u ▹ ts) k = refl
+
+  over-number : (m : Mark) (t : Tree A) (k : ℕ) → over m (numberTree t k) ≡ numberTree (over m t) k
+  over-number Plain t k = refl
+  over-number Optional (marked m n) k =
+      rw (nil-number (marked m n) k) (by-test (isNil (marked m n)) (λ e. rw e) (λ e. rw e))
+
+  mutual
+    flattenNode-number : (n : Node A) (k : ℕ) → flattenNode (numberNode n k) ≡ numberTree (flattenNode n) k
+    flattenNode-number (leaf a) k = refl
+    flattenNode-number (group s ts) k =
+        let l = flattenAll ts in
+        rw (flattenAll-number ts k, some-nil-number l k, gathered-number s l k, grouped-number s (gathered s l) k)
+        (over-number (droppedMark s l) (grouped s (gathered s l)) k)
+
+    pub flatten-number : (t : Tree A) (k : ℕ) → flatten (numberTree t k) ≡ numberTree (flatten t) k
+    flatten-number (marked m n) k = rw (flattenNode-number n k) (over-number m (flattenNode n) k)
+
+    flattenAll-number : (ts : Members A) (k : ℕ) → flattenAll (numberAll ts k) ≡ numberList (flattenAll ts) k
+    flattenAll-number none k = refl
+    flattenAll-number (t ▹ ts) k = rw (flatten-number t k, flattenAll-number ts (k + atoms t), flatten-atoms t)
+
+-- a map leaves the numbers aside
+module _ {A B : Type 0} (f : A → B) where
+  mutual
+    mapNode-number : (n : Node A) (k : ℕ) → numberNode (λ i a. f a) n k ≡ mapNode f n
+    mapNode-number (leaf a) k = refl
+    mapNode-number (group s ts) k = ap (group s) (mapMembers-number ts k)
+
+    map-number : (t : Tree A) (k : ℕ) → numberTree (λ i a. f a) t k ≡ mapTree f t
+    map-number (marked m n) k = ap (marked m) (mapNode-number n k)
+
+    mapMembers-number : (ts : Members A) (k : ℕ) → numberAll (λ i a. f a) ts k ≡ mapMembers f ts
+    mapMembers-number none k = refl
+    mapMembers-number (t ▹ ts) k = ap₂ {C = Members B} (λ u us. u ▹ us) (map-number t k) (mapMembers-number ts (k + atoms t))
+
+  pub flatten-map : (t : Tree A) → flatten (mapTree f t) ≡ mapTree f (flatten t)
+  flatten-map t = rw (← map-number t 0, ← map-number (flatten t) 0) (flatten-number (λ i a. f a) t 0)
+
+  mutual
+    nodeAround-map : (n : Node A) (d : ℕ) → nodeAround (mapNode f n) d ≡ nodeAround n d
+    nodeAround-map (leaf a) d = refl
+    nodeAround-map (group s ts) d = membersAround-map ts (suc d)
+
+    groupsAround-map : (t : Tree A) (d : ℕ) → groupsAround (mapTree f t) d ≡ groupsAround t d
+    groupsAround-map (marked m n) d = nodeAround-map n d
+
+    membersAround-map : (ts : Members A) (d : ℕ) → membersAround (mapMembers f ts) d ≡ membersAround ts d
+    membersAround-map none d = refl
+    membersAround-map (t ▹ ts) d = ap₂ {C = List ℕ} (λ k l. k ++ l) (groupsAround-map t d) (membersAround-map ts d)
+
+  pub depth-map : (t : Tree A) → depth (mapTree f t) ≡ depth t
+  depth-map t = ap highest (ap (λ (u : Tree B). groupsAround u 0) (flatten-map t) ∙ groupsAround-map (flatten t) 0)

@@ -1,0 +1,103 @@
+-- What flattening leaves: `()`, or a tree in which no group has fewer than two members and none could join the group around it.
+use mathlib.Core.{Path._≡_, Path.refl, Path.sym, Path.ap, Path._∙_, Path.subst, Logic._⊎_, Logic.inl, Logic.inr, Logic.⊎-elim}
+use mathlib.Core.Bool.{true, false, cond, _&&_, false≢true, and-eq-true-iff}
+use mathlib.Core.List.{List, [], _∷_}
+use Prim.Native.Nat.{ℕ, _≤_}
+use native.Mathlib.Omega.{arith}
+use lib.Dec.{eqb}
+use borrow.Author.Tests.{eqb-true}
+use Rattle.fields.specs.Tests.{by-test}
+use Rattle.model.specs.{declared.rule.Sign.Sign, declared.rule.Mark.Mark}
+use Rattle.model.specs.declared.rule.Sign.the-variants.{None, Sequence, Choice, Interleaving}
+use Rattle.model.specs.declared.rule.Mark.the-variants.{Plain, Optional}
+use Rattle.model.specs.Tree.{Node, leaf, group, Tree, marked, Members, none, _▹_, size, isPlain}
+use Rattle.model.specs.Flatten.{_⧺_, nil, isNil, merges, membersOf, gathered, grouped, over, droppedMark, flattenNode, flatten, flattenAll, signNumber}
+use Rattle.model.specs.Flatten.{sameSign}
+
+signOf : ℕ → Sign
+signOf n = cond (eqb n 0) None (cond (eqb n 1) Sequence (cond (eqb n 2) Choice Interleaving))
+
+sign-of : (s : Sign) → signOf (signNumber s) ≡ s
+unfolding signOf
+sign-of None = refl
+sign-of Sequence = refl
+sign-of Choice = refl
+sign-of Interleaving = refl
+
+same-sign : (s r : Sign) → sameSign s r ≡ true → r ≡ s
+same-sign s r e = sym (sign-of r) ∙ ap signOf (sym (eqb-true (signNumber s) (signNumber r) e)) ∙ sign-of s
+
+module _ {A : Type 0} where
+  abbrev mutual
+    SolidNode : Node A → Type 0
+    SolidNode (leaf a) = Unit {0}
+    SolidNode (group s ts) = (2 ≤ size ts) × SolidAll ts s
+
+    pub Solid : Tree A → Type 0
+    Solid (marked m n) = SolidNode n
+
+    pub SolidAll : Members A → Sign → Type 0
+    SolidAll none s = Unit {0}
+    SolidAll (t ▹ ts) s = Solid t × (merges s t ≡ false) × SolidAll ts s
+
+  abbrev pub Flattened : Tree A → Type 0
+  Flattened t = (t ≡ nil) ⊎ Solid t
+
+  abbrev pub AllFlattened : List (Tree A) → Type 0
+  AllFlattened [] = Unit {0}
+  AllFlattened (t ∷ l) = Flattened t × AllFlattened l
+
+  pub solid-not-nil : (t : Tree A) → Solid t → isNil t ≡ false
+  solid-not-nil (marked m (leaf a)) h = refl
+  solid-not-nil (marked m (group s none)) h = absurd (omega (arith, h .0))
+  solid-not-nil (marked m (group s (t ▹ ts))) h = refl
+
+  -- an unmarked group of the sign
+  pub merged : (s : Sign) (t : Tree A) → merges s t ≡ true → t ≡ marked Plain (group s (membersOf t))
+  merged s (marked m (leaf a)) e = absurd (false≢true e)
+  merged s (marked m (group r ts)) e =
+      let h = and-eq-true-iff (sameSign s r) (isPlain m) .0 e in
+      rw (same-sign s r (h .0), plain m (h .1))
+    where
+      plain : (m : Mark) → isPlain m ≡ true → m ≡ Plain
+      plain Plain e = refl
+      plain Optional e = absurd (false≢true e)
+
+  pub solid-append : (ts us : Members A) (s : Sign) → SolidAll ts s → SolidAll us s → SolidAll (ts ⧺ us) s
+  solid-append none us s h k = k
+  solid-append (t ▹ ts) us s h k = (h .0, h .1, solid-append ts us s (h .2) k)
+
+  -- a member in front of members that could not join
+  put-solid : (s : Sign) (t : Tree A) (us : Members A) → Solid t → SolidAll us s → SolidAll (cond (merges s t) (membersOf t ⧺ us) (t ▹ us)) s
+  put-solid s t us h k =
+      by-test (merges s t) (λ e. rw e (solid-append (membersOf t) us s (subst Solid (merged s t e) h .1) k)) (λ e. rw e (h, e, k))
+
+  pub gathered-solid : (s : Sign) (l : List (Tree A)) → AllFlattened l → SolidAll (gathered s l) s
+  gathered-solid s [] h = tt
+  gathered-solid s (t ∷ l) h =
+      let k = gathered-solid s l (h .1) in
+      ⊎-elim (λ e. rw e k) (λ i. rw (solid-not-nil t i) (put-solid s t (gathered s l) i k)) (h .0)
+
+  pub grouped-flattened : (s : Sign) (ts : Members A) → SolidAll ts s → Flattened (grouped s ts)
+  grouped-flattened s none h = inl refl
+  grouped-flattened s (t ▹ none) h = inr (h .0)
+  grouped-flattened s (t ▹ u ▹ ts) h = inr (omega arith, h)
+
+  over-flattened : (m : Mark) (t : Tree A) → Flattened t → Flattened (over m t)
+  over-flattened Plain t h = h
+  over-flattened Optional t (inl e) = inl (rw e)
+  over-flattened Optional (marked m n) (inr h) = inr (rw (solid-not-nil (marked m n) h) h)
+
+  mutual
+    pub node-flattened : (n : Node A) → Flattened (flattenNode n)
+    node-flattened (leaf a) = inr tt
+    node-flattened (group s ts) =
+        over-flattened (droppedMark s (flattenAll ts)) (grouped s (gathered s (flattenAll ts)))
+        (grouped-flattened s (gathered s (flattenAll ts)) (gathered-solid s (flattenAll ts) (all-flattened ts)))
+
+    pub tree-flattened : (t : Tree A) → Flattened (flatten t)
+    tree-flattened (marked m n) = over-flattened m (flattenNode n) (node-flattened n)
+
+    pub all-flattened : (ts : Members A) → AllFlattened (flattenAll ts)
+    all-flattened none = tt
+    all-flattened (t ▹ ts) = (tree-flattened t, all-flattened ts)
