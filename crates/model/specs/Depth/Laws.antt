@@ -15,8 +15,8 @@ use Rattle.model.specs.declared.rule.Mark.the-variants.{Plain, Optional}
 use Rattle.model.specs.Tree.{Node, leaf, group, marked, Members, none, _▹_, size, atoms, isPlain}
 use Rattle.model.specs.Flatten.{signNumber, sameSign, isChoice, _⧺_, nil, isNil, someNil, merges, membersOf, gathered, grouped, over, droppedMark}
 use Rattle.model.specs.Flatten.{flattenNode, flatten, flattenAll, depth}
-use Rattle.model.specs.Flatten.Solid.{Solid, SolidAll, Flattened, AllFlattened, solid-not-nil, merged, solid-append, gathered-solid, grouped-flattened}
-use Rattle.model.specs.Flatten.Solid.{tree-flattened, node-flattened, all-flattened}
+use Rattle.model.specs.Flatten.Solid.{Solid, SolidAll, Flattened, AllFlattened, solid-not-nil, solid-append, gathered-solid, grouped-flattened}
+use Rattle.model.specs.Flatten.{Solid.node-flattened, Solid.all-flattened, Merges.merged}
 use Rattle.model.specs.{Syntax.Syntax, Model.countsOf, Model.modelOf, Flatten.Map.depth-map}
 use Rattle.model.specs.Flatten.Depth.{deepest, deepestOf, deepest-append, deepest-first, group-deepest}
 use Rattle.model.specs.{Rule.Laws.rule-eval, Model.Counts, Model.Model, Model.fold, Model.foldNode, Model.foldAll, Model.needed, Model.evalStep}
@@ -24,15 +24,15 @@ use Rattle.model.specs.Depth.{deeper, nilFlat, mergesBy, bringsBy, besid
 use Rattle.model.specs.Depth.{ruleDepth}
 
 -- what is kept of a tree
-abbrev markOf : Model → Mark
-markOf (marked m n) = m
+abbrev markIn : Model → Mark
+markIn (marked m n) = m
 
-abbrev signOf : Model → Sign
-signOf (marked m (leaf c)) = None
-signOf (marked m (group s ts)) = s
+abbrev signUnder : Model → Sign
+signUnder (marked m (leaf c)) = None
+signUnder (marked m (group s ts)) = s
 
 abbrev kept : Model → Flat
-kept t = record { sign = signOf t; marked = not (isPlain (markOf t)); empty = isNil t; depth = min (maxNesting + 1) (deepest t) }
+kept t = record { sign = signUnder t; marked = not (isPlain (markIn t)); empty = isNil t; depth = min (maxNesting + 1) (deepest t) }
 
 -- only groups have a depth
 same : (b : Bool) → not (not b) && true ≡ b

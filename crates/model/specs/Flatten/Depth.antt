@@ -97,10 +97,6 @@ module _ {A : Type 0} where
   grouped-inside s (t ▹ none) = omega (arith, deepest-first t none)
   grouped-inside s (t ▹ u ▹ ts) = rw (members-deeper (t ▹ u ▹ ts) 0) (highest-more (membersAround (t ▹ u ▹ ts) 0) .1)
 
-  pub over-deepest : (m : Mark) (t : Tree A) → isNil t ≡ false → deepest (over m t) ≡ deepest t
-  over-deepest Plain t e = refl
-  over-deepest Optional (marked m n) e = rw e
-
   over-inside : (m : Mark) (t : Tree A) → deepest (over m t) ≤ deepest t
   over-inside Plain t = omega arith
   over-inside Optional (marked m n) = by-test (isNil (marked m n)) (λ e. rw e (omega arith)) (λ e. rw e (omega arith))

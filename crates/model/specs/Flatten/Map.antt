@@ -7,6 +7,7 @@ use Rattle.fields.specs.Tests.{by-test}
 use Rattle.model.specs.{declared.rule.Sign.Sign, declared.rule.Mark.Mark}
 use Rattle.model.specs.declared.rule.Mark.the-variants.{Plain, Optional}
 use Rattle.model.specs.Tree.{Node, leaf, group, Tree, marked, Members, none, _▹_, atoms, membersWeight, mapNode, mapTree, mapMembers, highest}
+use Rattle.model.specs.Tree.{numberNode, numberTree, numberAll}
 use Rattle.model.specs.Flatten.{_⧺_, isNil, someNil, merges, membersOf, gathered, grouped, over, droppedMark, flattenNode, flatten, flattenAll}
 use Rattle.model.specs.Flatten.{nodeAround, groupsAround, membersAround, depth}
 use Rattle.model.specs.Flatten.Leaves.{flatten-atoms}
@@ -23,27 +24,15 @@ module _ {A : Type 0} where
 
 -- atoms are numbered from k in the order written
 module _ {A B : Type 0} (f : ℕ → A → B) where
-  abbrev mutual
-    pub numberNode : Node A → ℕ → Node B
-    numberNode (leaf a) k = leaf (f k a)
-    numberNode (group s ts) k = group s (numberAll ts k)
-
-    pub numberTree : Tree A → ℕ → Tree B
-    numberTree (marked m n) k = marked m (numberNode n k)
-
-    pub numberAll : Members A → ℕ → Members B
-    numberAll none k = none
-    numberAll (t ▹ ts) k = numberTree t k ▹ numberAll ts (k + atoms t)
-
   abbrev numberList : List (Tree A) → ℕ → List (Tree B)
   numberList [] k = []
-  numberList (t ∷ l) k = numberTree t k ∷ numberList l (k + atoms t)
+  numberList (t ∷ l) k = numberTree f t k ∷ numberList l (k + atoms t)
 
-  append-number : (ts us : Members A) (k : ℕ) → numberAll ts k ⧺ numberAll us (k + membersWeight 1 0 ts) ≡ numberAll (ts ⧺ us) k
+  append-number : (ts us : Members A) (k : ℕ) → numberAll f ts k ⧺ numberAll f us (k + membersWeight 1 0 ts) ≡ numberAll f (ts ⧺ us) k
   append-number none us k = rw add-zero
   append-number (t ▹ ts) us k = rw (← add-assoc k (atoms t) (membersWeight 1 0 ts), append-number ts us (k + atoms t))
 
-  nil-number : (t : Tree A) (k : ℕ) → isNil (numberTree t k) ≡ isNil t
+  nil-number : (t : Tree A) (k : ℕ) → isNil (numberTree f t k) ≡ isNil t
   nil-number (marked m (leaf a)) k = refl
   nil-number (marked m (group s none)) k = refl
   nil-number (marked m (group s (t ▹ ts))) k = refl
@@ -52,15 +41,15 @@ module _ {A B : Type 0} (f : ℕ → A → B) where
   some-nil-number [] k = refl
   some-nil-number (t ∷ l) k = ap₂ _||_ (nil-number t k) (some-nil-number l (k + atoms t))
 
-  merges-number : (s : Sign) (t : Tree A) (k : ℕ) → merges s (numberTree t k) ≡ merges s t
+  merges-number : (s : Sign) (t : Tree A) (k : ℕ) → merges s (numberTree f t k) ≡ merges s t
   merges-number s (marked m (leaf a)) k = refl
   merges-number s (marked m (group r ts)) k = refl
 
-  members-number : (t : Tree A) (k : ℕ) → membersOf (numberTree t k) ≡ numberAll (membersOf t) k
+  members-number : (t : Tree A) (k : ℕ) → membersOf (numberTree f t k) ≡ numberAll f (membersOf t) k
   members-number (marked m (leaf a)) k = refl
   members-number (marked m (group s ts)) k = refl
 
-  gathered-number : (s : Sign) (l : List (Tree A)) (k : ℕ) → gathered s (numberList l k) ≡ numberAll (gathered s l) k
+  gathered-number : (s : Sign) (l : List (Tree A)) (k : ℕ) → gathered s (numberList l k) ≡ numberAll f (gathered s l) k
   gathered-number s [] k = refl
   gathered-number s (t ∷ l) k =
       rw (nil-number t k, merges-number s t k, members-number t k, gathered-number s l (k + atoms t))
@@ -70,28 +59,28 @@ module _ {A B : Type 0} (f : ℕ → A → B) where
       (λ j. rw (e, j, merged-atoms s t j) (append-number (membersOf t) (gathered s l) k))
       (λ j. rw (e, j))))
 
-  grouped-number : (s : Sign) (ts : Members A) (k : ℕ) → grouped s (numberAll ts k) ≡ numberTree (grouped s ts) k
+  grouped-number : (s : Sign) (ts : Members A) (k : ℕ) → grouped s (numberAll f ts k) ≡ numberTree f (grouped s ts) k
   grouped-number s none k = refl
   grouped-number s (t ▹ none) k = refl
   grouped-number s (t ▹ u ▹ ts) k = refl
 
-  over-number : (m : Mark) (t : Tree A) (k : ℕ) → over m (numberTree t k) ≡ numberTree (over m t) k
+  over-number : (m : Mark) (t : Tree A) (k : ℕ) → over m (numberTree f t k) ≡ numberTree f (over m t) k
   over-number Plain t k = refl
   over-number Optional (marked m n) k =
       rw (nil-number (marked m n) k) (by-test (isNil (marked m n)) (λ e. rw e) (λ e. rw e))
 
   mutual
-    flattenNode-number : (n : Node A) (k : ℕ) → flattenNode (numberNode n k) ≡ numberTree (flattenNode n) k
+    flattenNode-number : (n : Node A) (k : ℕ) → flattenNode (numberNode f n k) ≡ numberTree f (flattenNode n) k
     flattenNode-number (leaf a) k = refl
     flattenNode-number (group s ts) k =
         let l = flattenAll ts in
         rw (flattenAll-number ts k, some-nil-number l k, gathered-number s l k, grouped-number s (gathered s l) k)
         (over-number (droppedMark s l) (grouped s (gathered s l)) k)
 
-    pub flatten-number : (t : Tree A) (k : ℕ) → flatten (numberTree t k) ≡ numberTree (flatten t) k
+    pub flatten-number : (t : Tree A) (k : ℕ) → flatten (numberTree f t k) ≡ numberTree f (flatten t) k
     flatten-number (marked m n) k = rw (flattenNode-number n k) (over-number m (flattenNode n) k)
 
-    flattenAll-number : (ts : Members A) (k : ℕ) → flattenAll (numberAll ts k) ≡ numberList (flattenAll ts) k
+    flattenAll-number : (ts : Members A) (k : ℕ) → flattenAll (numberAll f ts k) ≡ numberList (flattenAll ts) k
     flattenAll-number none k = refl
     flattenAll-number (t ▹ ts) k = rw (flatten-number t k, flattenAll-number ts (k + atoms t), flatten-atoms t)
 

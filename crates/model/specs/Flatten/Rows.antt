@@ -1,23 +1,21 @@
 -- Flattening keeps the rows, of every tree. What `()` leaves behind where it is dropped is the one thing that differs from sign to sign.
-use mathlib.Core.{Path._≡_, Path.refl, Path.sym, Path.ap, Path.ap₂, Path._∙_, Path.subst, Logic._↔_, Logic.inl, Logic.inr, Logic.⊎-elim}
-use mathlib.Core.{Bool.Bool, Bool.true, Bool.false, Bool.cond, Bool._&&_, Bool.true≢false, Bool.false≢true, Bool.and-eq-true-iff}
+use mathlib.Core.{Path._≡_, Path.refl, Path.ap, Path.ap₂, Logic._↔_, Logic.inl, Logic.inr, Logic.⊎-elim}
+use mathlib.Core.Bool.{Bool, true, false, cond, _&&_, false≢true}
 use mathlib.Core.List.{List, [], _∷_}
 use Prim.Native.Nat.{ℕ, _+_}
 use native.Mathlib.Omega.{arith}
-use lib.ListN.{getD}
-use borrow.Author.Tests.{eqb-true}
 use Rattle.fields.specs.Tests.{by-test}
 use Rattle.model.specs.{declared.rule.Sign.Sign, declared.rule.Mark.Mark, Word.Word}
 use Rattle.model.specs.declared.rule.Sign.the-variants.{None, Sequence, Choice, Interleaving}
 use Rattle.model.specs.declared.rule.Mark.the-variants.{Plain, Optional}
-use Rattle.model.specs.Tree.{Node, leaf, group, Tree, marked, Members, none, _▹_, size, atoms, isPlain}
+use Rattle.model.specs.Tree.{Node, leaf, group, Tree, marked, Members, none, _▹_, size, atoms, numberNode, numberTree, numberAll}
 use Rattle.model.specs.Types.{Ty, ε, join, Operator, sequence, choice, interleaving, Language, Joined, Holds}
 use Rattle.model.specs.Types.Languages.{Same, itself, thus, back, Empty, Neutral, joined-same, neutral-left, neutral-right, joined-assoc}
 use Rattle.model.specs.Model.{Counts, Model, operator, joinedFrom, joinedType, markedType, countedType, typeBy, foldNode, fold, foldAll, typeOf}
 use Rattle.model.specs.Model.{nodeTypeWith, typeWith, typesWith}
-use Rattle.model.specs.Flatten.{signNumber, sameSign, isChoice, _⧺_, isNil, someNil, merges, membersOf, gathered, grouped, over, droppedMark}
+use Rattle.model.specs.Flatten.{isChoice, _⧺_, isNil, someNil, merges, membersOf, gathered, grouped, over, droppedMark}
 use Rattle.model.specs.Flatten.{flattenNode, flatten, flattenAll}
-use Rattle.model.specs.Flatten.Map.{numberNode, numberTree, numberAll, flatten-number}
+use Rattle.model.specs.Flatten.{Map.flatten-number, Merges.merged-some}
 
 -- the words of members, joined from the right
 abbrev Together : Operator → List Ty → Language
@@ -90,34 +88,7 @@ optional-over : (m : Mark) (T : Ty) → Same (Holds (markedType Optional T)) (Ho
 optional-over Plain T = itself (Joined choice Empty (Holds T))
 optional-over Optional T = one-empty (Holds T)
 
-plain-is : (m : Mark) → isPlain m ≡ true → m ≡ Plain
-plain-is Plain e = refl
-plain-is Optional e = absurd (false≢true e)
-
--- signs
-abbrev signAt : ℕ → Sign
-signAt n = getD (None ∷ Sequence ∷ Choice ∷ Interleaving ∷ []) n None
-
-sign-at : (s : Sign) → signAt (signNumber s) ≡ s
-sign-at None = refl
-sign-at Sequence = refl
-sign-at Choice = refl
-sign-at Interleaving = refl
-
-same-sign : (s r : Sign) → sameSign s r ≡ true → r ≡ s
-same-sign s r e = sym (sign-at r) ∙ ap signAt (sym (eqb-true (signNumber s) (signNumber r) e)) ∙ sign-at s
-
 module _ {A : Type 0} where
-  -- a group that joins another has members, no mark, and the same sign
-  merged-is : (s : Sign) (t : Tree A) → isNil t ≡ false → merges s t ≡ true → (u : Tree A) × (us : Members A) × (t ≡ marked Plain (group s (u ▹ us)))
-  merged-is s (marked m (leaf a)) n e = absurd (false≢true e)
-  merged-is s (marked m (group r none)) n e =
-      let i = and-eq-true-iff (sameSign s r) (isPlain m) .0 e in
-      absurd (true≢false (subst (λ m. isNil {A = A} (marked m (group r none)) ≡ false) (plain-is m (i .1)) n))
-  merged-is s (marked m (group r (u ▹ us))) n e =
-      let i = and-eq-true-iff (sameSign s r) (isPlain m) .0 e in
-      (u, us, (rw (plain-is m (i .1), same-sign s r (i .0))))
-
   -- what a member that is not `()` gives to a group of the sign
   abbrev kept : Sign → Tree A → Members A → Members A
   kept s t us = cond (merges s t) (membersOf t ⧺ us) (t ▹ us)
@@ -125,7 +96,7 @@ module _ {A : Type 0} where
   kept-some : (s : Sign) (t : Tree A) (us : Members A) → isNil t ≡ false → size (kept s t us) ≡ 0 → ⊥
   kept-some s t us n h =
       by-test (merges s t)
-      (λ j. omega (arith, rw (j, merged-is s t n j .2) at h))
+      (λ j. omega (arith, rw (j, merged-some s t n j .2) at h))
       (λ j. omega (arith, rw j at h))
 
   none-left : (s : Sign) (t : Tree A) (l : List (Tree A)) → size (gathered s (t ∷ l)) ≡ 0 → someNil (t ∷ l) ≡ true
@@ -166,7 +137,7 @@ module _ {A : Type 0} (f : A → Ty) where
       let o = operator s in
       let T = Together o (typesWith f us) in
       by-test (merges s t)
-      (λ j. let (u, ts, e) = merged-is s t n j in
+      (λ j. let (u, ts, e) = merged-some s t n j in
       rw (j, e) (thus (append-rows o (u ▹ ts) us) (joined-same o (back (from-together o (typeWith f u) (typesWith f ts))) (itself T))))
       (λ j. rw j (itself (Joined o (rows t) T)))
 

@@ -1,31 +1,14 @@
 -- What flattening leaves: `()`, or a tree in which no group has fewer than two members and none could join the group around it.
-use mathlib.Core.{Path._≡_, Path.refl, Path.sym, Path.ap, Path._∙_, Path.subst, Logic._⊎_, Logic.inl, Logic.inr, Logic.⊎-elim}
-use mathlib.Core.Bool.{true, false, cond, _&&_, false≢true, and-eq-true-iff}
+use mathlib.Core.{Path._≡_, Path.refl, Path.subst, Logic._⊎_, Logic.inl, Logic.inr, Logic.⊎-elim, Bool.false, Bool.cond}
 use mathlib.Core.List.{List, [], _∷_}
-use Prim.Native.Nat.{ℕ, _≤_}
+use Prim.Native.Nat.{_≤_}
 use native.Mathlib.Omega.{arith}
-use lib.Dec.{eqb}
-use borrow.Author.Tests.{eqb-true}
 use Rattle.fields.specs.Tests.{by-test}
 use Rattle.model.specs.{declared.rule.Sign.Sign, declared.rule.Mark.Mark}
-use Rattle.model.specs.declared.rule.Sign.the-variants.{None, Sequence, Choice, Interleaving}
 use Rattle.model.specs.declared.rule.Mark.the-variants.{Plain, Optional}
-use Rattle.model.specs.Tree.{Node, leaf, group, Tree, marked, Members, none, _▹_, size, isPlain}
-use Rattle.model.specs.Flatten.{_⧺_, nil, isNil, merges, membersOf, gathered, grouped, over, droppedMark, flattenNode, flatten, flattenAll, signNumber}
-use Rattle.model.specs.Flatten.{sameSign}
-
-signOf : ℕ → Sign
-signOf n = cond (eqb n 0) None (cond (eqb n 1) Sequence (cond (eqb n 2) Choice Interleaving))
-
-sign-of : (s : Sign) → signOf (signNumber s) ≡ s
-unfolding signOf
-sign-of None = refl
-sign-of Sequence = refl
-sign-of Choice = refl
-sign-of Interleaving = refl
-
-same-sign : (s r : Sign) → sameSign s r ≡ true → r ≡ s
-same-sign s r e = sym (sign-of r) ∙ ap signOf (sym (eqb-true (signNumber s) (signNumber r) e)) ∙ sign-of s
+use Rattle.model.specs.Tree.{Node, leaf, group, Tree, marked, Members, none, _▹_, size}
+use Rattle.model.specs.Flatten.{_⧺_, nil, isNil, merges, membersOf, gathered, grouped, over, droppedMark, flattenNode, flatten, flattenAll}
+use Rattle.model.specs.Flatten.Merges.{merged}
 
 module _ {A : Type 0} where
   abbrev mutual
@@ -51,17 +34,6 @@ module _ {A : Type 0} where
   solid-not-nil (marked m (leaf a)) h = refl
   solid-not-nil (marked m (group s none)) h = absurd (omega (arith, h .0))
   solid-not-nil (marked m (group s (t ▹ ts))) h = refl
-
-  -- an unmarked group of the sign
-  pub merged : (s : Sign) (t : Tree A) → merges s t ≡ true → t ≡ marked Plain (group s (membersOf t))
-  merged s (marked m (leaf a)) e = absurd (false≢true e)
-  merged s (marked m (group r ts)) e =
-      let h = and-eq-true-iff (sameSign s r) (isPlain m) .0 e in
-      rw (same-sign s r (h .0), plain m (h .1))
-    where
-      plain : (m : Mark) → isPlain m ≡ true → m ≡ Plain
-      plain Plain e = refl
-      plain Optional e = absurd (false≢true e)
 
   pub solid-append : (ts us : Members A) (s : Sign) → SolidAll ts s → SolidAll us s → SolidAll (ts ⧺ us) s
   solid-append none us s h k = k
