@@ -5,8 +5,8 @@ use mathlib.Core.Bool.{Bool, true, false, cond, not, _&&_, _||_}
 use mathlib.Core.List.{List, [], _∷_}
 use Prim.Native.Nat.{ℕ, _+_, _-_, max, min}
 use lib.{Dec.ltb, ListN.getD}
-use Rattle.model.specs.{declared.rule.Sign.Sign, declared.rule.Sign.the-variants.None, declared.rule.Mark.Mark, declared.rule.Kind.Kind, declared.rule.Rule.Rule}
-use Rattle.model.specs.{declared.depth.Flat.Flat, Rule.used, Flatten.sameSign, Flatten.isChoice, Model.Algebra, Model.eval}
+use Rattle.model.specs.{declared.rule.Sign.Sign, declared.rule.Sign.the-variants.None, declared.rule.Mark.Mark, declared.rule.Kind.Kind}
+use Rattle.model.specs.{declared.rule.Rule.Rule, declared.depth.Flat.Flat, Rule.used, Flatten.sameSign, Flatten.isChoice, Model.Algebra, Model.eval}
 use Rattle.model.specs.declared.rule.Mark.the-variants.{Plain, Optional}
 use Rattle.model.specs.declared.rule.Kind.the-variants.{Atom, Group}
 use Rattle.fields.specs.Limits.{maxNesting}

@@ -329,8 +329,8 @@ fn brackets() {
     );
 }
 
-// Document 02, W3: depth. Signs by turns keep each group, and so do marks; one sign joins them all.
-fn depths() {
+// Document 02, W3: depth. Signs by turns keep each group.
+fn signs_by_turns() {
     read_nested(
         b"16 signs by turns",
         b"(a,(b|(c,(d|(e,(f|(g,(h|(i,(j|(k,(l|(m,(n|(o,(p|",
@@ -360,12 +360,16 @@ fn depths() {
         16,
     );
     read_nested(
-        b"17 signs by turns in 64 brackets",
-        b"((((((((((((((((((((((((((((((((((((((((((((((((a,(b|(c,(d|(e,(f|(g,(h|(i,(j|(k,(l|(m,(n|(o,(p|(q,",
-        b"x",
+        b"17 signs by turns round ()",
+        b"(a,(b|(c,(d|(e,(f|(g,(h|(i,(j|(k,(l|(m,(n|(o,(p|(q,",
+        b"((),()?)",
         b")",
-        64,
+        17,
     );
+}
+
+// Brackets around it change nothing.
+fn signs_in_brackets() {
     read_nested(
         b"16 signs by turns in 64 brackets",
         b"(((((((((((((((((((((((((((((((((((((((((((((((((a,(b|(c,(d|(e,(f|(g,(h|(i,(j|(k,(l|(m,(n|(o,(p|",
@@ -373,6 +377,17 @@ fn depths() {
         b")",
         64,
     );
+    read_nested(
+        b"17 signs by turns in 64 brackets",
+        b"((((((((((((((((((((((((((((((((((((((((((((((((a,(b|(c,(d|(e,(f|(g,(h|(i,(j|(k,(l|(m,(n|(o,(p|(q,",
+        b"x",
+        b")",
+        64,
+    );
+}
+
+// One sign joins its groups, but for those with a mark, of their own or from `()`.
+fn one_sign() {
     read_nested(
         b"26 of one sign",
         b"(a&(b&(c&(d&(e&(f&(g&(h&(i&(j&(k&(l&(m&(n&(o&(p&(q&(r&(s&(t&(u&(v&(w&(x&(y&(z&",
@@ -408,13 +423,6 @@ fn depths() {
         b")",
         15,
     );
-    read_nested(
-        b"17 signs by turns round ()",
-        b"(a,(b|(c,(d|(e,(f|(g,(h|(i,(j|(k,(l|(m,(n|(o,(p|(q,",
-        b"((),()?)",
-        b")",
-        17,
-    );
 }
 
 fn main() {
@@ -426,5 +434,7 @@ fn main() {
     marks_and_groups();
     atoms_and_nodes();
     brackets();
-    depths();
+    signs_by_turns();
+    signs_in_brackets();
+    one_sign();
 }

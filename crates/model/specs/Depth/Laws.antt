@@ -130,8 +130,10 @@ beside-kept s t (u ▹ us) h k =
 gathered-kept : (s : Sign) (l : List Model) → AllFlattened l → gatheredBy s (map kept l) ≡ kept (grouped s (gathered s l))
 gathered-kept s [] h = refl
 gathered-kept s (t ∷ l) h =
-    ⊎-elim (λ e. rw e (gathered-kept s l (h .1)))
-    (λ k. rw (gathered-kept s l (h .1)) (sym (ap (λ ts. kept (grouped s ts)) (gathered-more s t l k) ∙ beside-kept s t (gathered s l) k (gathered-solid s l (h .1)))))
+    let rest = gathered-kept s l (h .1) in
+    let made : Members Counts → Flat = λ ts. kept (grouped s ts) in
+    ⊎-elim (λ e. rw e rest)
+    (λ k. rw rest (sym (ap made (gathered-more s t l k) ∙ beside-kept s t (gathered s l) k (gathered-solid s l (h .1)))))
     (h .0)
 
 some-empty : (l : List Model) → someEmpty (map kept l) ≡ someNil l

@@ -5,8 +5,9 @@ use Rattle.model.proofs.depth.beside.Tie as tie
 
 returns-3 : tie.Need-returns-3
 returns-3 c =
-    let b = c .before .before .before .before in
-    rw (b .before .if1 .left, b .if2 .left) (rw (c .one-deeper .ensures, c .before .larger .ensures, c .before .before .brings2 .ensures, c .before .before .before .brings .ensures))
+    let l = c .before in
+    let b = l .before .before in
+    rw (b .before .before .if1 .left, b .before .if2 .left) (rw (c .one-deeper .ensures, l .larger .ensures, l .before .brings2 .ensures, b .brings .ensures))
 
 pub beside-spec : {M : Type 1} → statement M
 beside-spec =
