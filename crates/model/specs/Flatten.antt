@@ -5,7 +5,7 @@ pub mod Depth
 pub mod Map
 pub mod Leaves
 pub mod Rows
-use mathlib.Core.Bool.{Bool, true, false, cond, _&&_, _||_}
+use mathlib.Core.Bool.{Bool, false, cond, _&&_, _||_}
 use mathlib.Core.List.{List, [], _∷_, _++_}
 use Prim.Native.Nat.{ℕ, suc}
 use lib.Dec.{eqb}
@@ -39,7 +39,7 @@ module _ {A : Type 0} where
 
   abbrev pub isNil : Tree A → Bool
   isNil (marked m (leaf a)) = false
-  isNil (marked m (group s none)) = true
+  isNil (marked m (group s none)) = isPlain m
   isNil (marked m (group s (t ▹ ts))) = false
 
   abbrev pub someNil : List (Tree A) → Bool

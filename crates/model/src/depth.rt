@@ -1,8 +1,8 @@
 // The depth of a rule: the most groups around an atom, after flattening. One pass over the nodes finds it.
 
 ghost use mathlib.Core.Path.{_≡_};
-ghost use Rattle.model.specs.Depth.{nilFlat, atomFlat, mergesBy, bringsBy, besideBy, overBy, closedBy, signIn, partBy, ruleDepth};
-ghost use Rattle.model.specs.Flatten.{signNumber};
+ghost use Rattle.model.specs.Depth.{nilFlat, mergesBy, bringsBy, besideBy, overBy, closedBy, signIn, partBy, ruleDepth};
+ghost use Rattle.model.specs.Flatten.{signNumber, sameSign};
 use crate::check::larger;
 use crate::check::members_of;
 use crate::check::one_deeper;
@@ -44,11 +44,17 @@ fn sign_number(sign: Sign) -> u8
     }
 }
 
+fn same_sign(a: Sign, b: Sign) -> bool
+    ensures { λ r. ⌜ r ≡ sameSign a b ⌝ }
+{
+    sign_number(a) == sign_number(b)
+}
+
 fn merges(sign: Sign, x: Flat) -> bool
     ensures { λ r. ⌜ r ≡ mergesBy sign x ⌝ }
 {
     let own = x.sign;
-    (sign_number(sign) == sign_number(own)) & (!x.marked & (0 < x.depth))
+    same_sign(sign, own) & (!x.marked & (0 < x.depth))
 }
 
 // How many groups the tree brings into a group of the sign.
@@ -110,7 +116,7 @@ fn sign_of(kind: Kind) -> Sign
 fn closed(sign: Sign, dropped: bool, x: Flat) -> Flat
     ensures { λ r. ⌜ r ≡ closedBy sign dropped x ⌝ }
 {
-    if (sign_number(sign) == 2) & dropped {
+    if same_sign(sign, Sign::Choice) & dropped {
         return over(Mark::Optional, x);
     }
     x

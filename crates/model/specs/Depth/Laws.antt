@@ -13,14 +13,14 @@ use Rattle.model.specs.declared.rule.Kind.the-variants.{Atom, Group}
 use Rattle.model.specs.declared.rule.Sign.the-variants.{None}
 use Rattle.model.specs.declared.rule.Mark.the-variants.{Plain, Optional}
 use Rattle.model.specs.Tree.{Node, leaf, group, marked, Members, none, _▹_, size, atoms, isPlain}
-use Rattle.model.specs.Flatten.{signNumber, sameSign, isChoice, _⧺_, nil, isNil, someNil, merges, membersOf, gathered, grouped, over, droppedMark}
+use Rattle.model.specs.Flatten.{signNumber, sameSign, _⧺_, isNil, someNil, merges, membersOf, gathered, grouped, over, droppedMark}
 use Rattle.model.specs.Flatten.{flattenNode, flatten, flattenAll, depth}
 use Rattle.model.specs.Flatten.Solid.{Solid, SolidAll, Flattened, AllFlattened, solid-not-nil, solid-append, gathered-solid, grouped-flattened}
 use Rattle.model.specs.Flatten.{Solid.node-flattened, Solid.all-flattened, Merges.merged}
 use Rattle.model.specs.{Syntax.Syntax, Model.countsOf, Model.modelOf, Flatten.Map.depth-map}
 use Rattle.model.specs.Flatten.Depth.{deepest, deepestOf, deepest-append, deepest-first, group-deepest}
 use Rattle.model.specs.{Rule.Laws.rule-eval, Model.Counts, Model.Model, Model.fold, Model.foldNode, Model.foldAll, Model.needed, Model.evalStep}
-use Rattle.model.specs.Depth.{deeper, nilFlat, mergesBy, bringsBy, besideBy, gatheredBy, someEmpty, overBy, groupBy, signIn, partBy, flatBy}
+use Rattle.model.specs.Depth.{nilFlat, mergesBy, bringsBy, besideBy, gatheredBy, someEmpty, overBy, groupBy, signIn, partBy, flatBy}
 use Rattle.model.specs.Depth.{ruleDepth}
 
 -- what is kept of a tree

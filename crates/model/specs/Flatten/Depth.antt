@@ -1,15 +1,14 @@
 -- How many groups are around the atoms of a tree. Flattening takes groups away: a tree is no deeper than its brackets are nested.
-use mathlib.Core.{Path._≡_, Path.refl, Path.ap, Path.ap₂, Path.sym, Path._∙_}
-use mathlib.Core.Bool.{true, false}
+use mathlib.Core.{Path._≡_, Path.refl, Path.ap, Path.sym, Path._∙_}
 use mathlib.Core.List.{List, [], _∷_, _++_, map, map-append, append-assoc}
 use Prim.Native.Nat.{ℕ, suc, _+_, _≤_, _<_, max}
 use native.Mathlib.Omega.{arith}
-use lib.ListN.{length, length-append, length-map}
+use lib.ListN.{length, length-append}
 use Rattle.fields.specs.Tests.{by-test}
 use Rattle.model.specs.{declared.rule.Sign.Sign, declared.rule.Mark.Mark}
 use Rattle.model.specs.declared.rule.Mark.the-variants.{Plain, Optional}
 use Rattle.model.specs.Tree.{Node, leaf, group, Tree, marked, Members, none, _▹_, size, highest, nodeNesting, nesting, membersNesting}
-use Rattle.model.specs.Flatten.{_⧺_, isNil, merges, membersOf, gathered, grouped, over, droppedMark, flattenNode, flatten, flattenAll, nodeAround}
+use Rattle.model.specs.Flatten.{_⧺_, isNil, merges, membersOf, gathered, grouped, over, droppedMark, flattenNode, flattenAll, nodeAround}
 use Rattle.model.specs.Flatten.{groupsAround, membersAround, depth}
 use Rattle.model.specs.Flatten.Solid.{Solid, SolidAll}
 

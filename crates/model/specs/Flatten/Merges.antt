@@ -38,5 +38,5 @@ module _ {A : Type 0} where
   -- and has members, if it is not `()`
   pub merged-some : (s : Sign) (t : Tree A) → isNil t ≡ false → merges s t ≡ true → (u : Tree A) × (us : Members A) × (t ≡ marked Plain (group s (u ▹ us)))
   merged-some s (marked m (leaf a)) n e = absurd (false≢true e)
-  merged-some s (marked m (group r none)) n e = absurd (true≢false n)
+  merged-some s (marked m (group r none)) n e = absurd (true≢false (sym (and-eq-true-iff (sameSign s r) (isPlain m) .0 e .1) ∙ n))
   merged-some s (marked m (group r (u ▹ us))) n e = (u, us, merged s (marked m (group r (u ▹ us))) e)

@@ -121,7 +121,7 @@ module _ {A : Type 0} (f : A → Ty) where
   nil-rows : (t : Tree A) → isNil t ≡ true → Same Empty (rows t)
   nil-rows (marked m (leaf a)) e = absurd (false≢true e)
   nil-rows (marked Plain (group s none)) e = itself Empty
-  nil-rows (marked Optional (group s none)) e = λ w. (inl, ⊎-elim (λ h. h) (λ h. h))
+  nil-rows (marked Optional (group s none)) e = absurd (false≢true e)
   nil-rows (marked m (group s (t ▹ ts))) e = absurd (false≢true e)
 
   over-rows : (m : Mark) (t : Tree A) → Same (rows (over m t)) (Holds (markedType m (typeWith f t)))

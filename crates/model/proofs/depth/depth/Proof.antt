@@ -1,6 +1,6 @@
 -- Passed holds of the nodes from i on; within a node, Joined of the members from place `at` on
-use mathlib.Core.{Path._≡_, Path.refl, Path.ap, Path._∙_}
-use Prim.Native.Nat.{_+_, _-_, _≤_, min}
+use mathlib.Core.{Path._≡_, Path.refl, Path.ap}
+use Prim.Native.Nat.{_-_, _≤_, min}
 use native.Mathlib.Omega.{arith}
 use lib.ListN.{length, take, drop}
 use borrow.Author.Needs.{needs}

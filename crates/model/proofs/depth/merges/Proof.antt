@@ -1,4 +1,4 @@
--- signs are the same where their numbers are
+-- an unmarked group of the same sign
 use borrow.Author.Needs.{needs}
 use Rattle.model.proofs.depth.merges.Statement.{statement}
 use Rattle.model.proofs.depth.merges.Tie as tie
@@ -7,4 +7,4 @@ returns : tie.Need-returns
 returns c = cc
 
 pub merges-spec : {M : Type 1} → statement M
-merges-spec = tie.close (tie.spec (λ c κs. search needs) (λ c κs. search needs) returns)
+merges-spec = tie.close (tie.spec (λ c κs. search needs) returns)
