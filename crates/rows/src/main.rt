@@ -267,11 +267,12 @@ fn read_names(shown: &[u8], behind: &[u8]) {
     read_as(shown, &text[0..end]);
 }
 
-// A group of so many empty ones, each with a comma, and these bytes.
-fn read_groups(shown: &[u8], count: usize, behind: &[u8]) {
+// A group of so many empty ones, each with a comma, so many brackets more, and these bytes.
+fn read_groups(shown: &[u8], count: usize, brackets: usize, behind: &[u8]) {
     let mut text = [0u8; ROOM];
     let mut at = put(&mut text, 0, b"(");
     at = put_times(&mut text, at, b"(),", count);
+    at = put_times(&mut text, at, b"(", brackets);
     let end = put(&mut text, at, behind);
     read_as(shown, &text[0..end]);
 }
@@ -285,19 +286,23 @@ fn atoms_and_nodes() {
         b"65 names, the last of 33 characters",
         b",aaaaaaaaaaaaaaaaaaaaaaaaaaaaaaaaa)",
     );
-    read_groups(b"128 nodes", 126, b"())");
-    read_groups(b"129 nodes", 127, b"())");
-    read_groups(
-        b"129 nodes, the last a 65th open bracket",
-        64,
-        b"((((((((((((((((((((((((((((((((((((((((((((((((((((((((((((((((",
-    );
+    read_groups(b"128 nodes", 126, 0, b"())");
+    read_groups(b"129 nodes", 127, 0, b"())");
+    read_groups(b"129 nodes, the last a 65th open bracket", 64, 64, b"");
 }
 
-// These bytes, then these, then the last so many times.
-fn read_nested(shown: &[u8], open: &[u8], inside: &[u8], close: &[u8], count: usize) {
+// So many brackets, what opens further groups, what is inside them, and so many times what closes one.
+fn read_nested(
+    shown: &[u8],
+    brackets: usize,
+    open: &[u8],
+    inside: &[u8],
+    close: &[u8],
+    count: usize,
+) {
     let mut text = [0u8; ROOM];
-    let mut at = put(&mut text, 0, open);
+    let mut at = put_times(&mut text, 0, b"(", brackets);
+    at = put(&mut text, at, open);
     at = put(&mut text, at, inside);
     let end = put_times(&mut text, at, close, count);
     read_as(shown, &text[0..end]);
@@ -306,122 +311,57 @@ fn read_nested(shown: &[u8], open: &[u8], inside: &[u8], close: &[u8], count: us
 // Document 02, W3: brackets open at once.
 fn brackets() {
     read(b"((((a))))");
-    read_nested(
-        b"64 brackets",
-        b"((((((((((((((((((((((((((((((((((((((((((((((((((((((((((((((((",
-        b"a",
-        b")",
-        64,
-    );
-    read_nested(
-        b"65 brackets",
-        b"(((((((((((((((((((((((((((((((((((((((((((((((((((((((((((((((((",
-        b"a",
-        b")",
-        65,
-    );
-    read_nested(
-        b"65 brackets, marked",
-        b"(((((((((((((((((((((((((((((((((((((((((((((((((((((((((((((((((",
-        b"a",
-        b")?",
-        65,
-    );
+    read_nested(b"64 brackets", 64, b"", b"a", b")", 64);
+    read_nested(b"65 brackets", 65, b"", b"a", b")", 65);
+    read_nested(b"65 brackets, marked", 65, b"", b"a", b")?", 65);
 }
 
-// Document 02, W3: depth. Signs by turns keep each group.
-fn signs_by_turns() {
-    read_nested(
-        b"16 signs by turns",
-        b"(a,(b|(c,(d|(e,(f|(g,(h|(i,(j|(k,(l|(m,(n|(o,(p|",
-        b"x",
-        b")",
-        16,
-    );
-    read_nested(
-        b"17 signs by turns",
-        b"(a,(b|(c,(d|(e,(f|(g,(h|(i,(j|(k,(l|(m,(n|(o,(p|(q,",
-        b"x",
-        b")",
-        17,
-    );
-    read_nested(
-        b"17 signs by turns, a name twice",
-        b"(a,(b|(c,(d|(e,(f|(g,(h|(i,(j|(k,(l|(m,(n|(o,(p|(q,",
-        b"a",
-        b")",
-        17,
-    );
-    read_nested(
-        b"17 signs by turns, a bracket left open",
-        b"(a,(b|(c,(d|(e,(f|(g,(h|(i,(j|(k,(l|(m,(n|(o,(p|(q,",
-        b"x",
-        b")",
-        16,
-    );
-    read_nested(
-        b"17 signs by turns round ()",
-        b"(a,(b|(c,(d|(e,(f|(g,(h|(i,(j|(k,(l|(m,(n|(o,(p|(q,",
-        b"((),()?)",
-        b")",
-        17,
-    );
+// The first groups of a chain, of three bytes each, in so many brackets more.
+fn read_chain(
+    shown: &[u8],
+    brackets: usize,
+    chain: &[u8],
+    groups: usize,
+    inside: &[u8],
+    close: &[u8],
+) {
+    let n = lesser(groups, 64);
+    let around = lesser(brackets, 64);
+    let end = lesser(3 * n, chain.len());
+    read_nested(shown, around, &chain[0..end], inside, close, around + n);
 }
 
-// Brackets around it change nothing.
-fn signs_in_brackets() {
-    read_nested(
-        b"16 signs by turns in 64 brackets",
-        b"(((((((((((((((((((((((((((((((((((((((((((((((((a,(b|(c,(d|(e,(f|(g,(h|(i,(j|(k,(l|(m,(n|(o,(p|",
-        b"x",
-        b")",
-        64,
-    );
-    read_nested(
-        b"17 signs by turns in 64 brackets",
-        b"((((((((((((((((((((((((((((((((((((((((((((((((a,(b|(c,(d|(e,(f|(g,(h|(i,(j|(k,(l|(m,(n|(o,(p|(q,",
-        b"x",
-        b")",
-        64,
-    );
+// Groups inside each other, with a name each and two signs by turns.
+fn read_turns(shown: &[u8], groups: usize, inside: &[u8], brackets: usize) {
+    let chain = b"(a,(b|(c,(d|(e,(f|(g,(h|(i,(j|(k,(l|(m,(n|(o,(p|(q,";
+    read_chain(shown, brackets, chain, groups, inside, b")");
 }
 
-// One sign joins its groups, but for those with a mark, of their own or from `()`.
-fn one_sign() {
-    read_nested(
-        b"26 of one sign",
-        b"(a&(b&(c&(d&(e&(f&(g&(h&(i&(j&(k&(l&(m&(n&(o&(p&(q&(r&(s&(t&(u&(v&(w&(x&(y&(z&",
-        b"()",
-        b")",
-        26,
-    );
-    read_nested(
-        b"16 of one sign, marked",
-        b"(a&(b&(c&(d&(e&(f&(g&(h&(i&(j&(k&(l&(m&(n&(o&(p&",
-        b"x",
-        b")?",
-        16,
-    );
-    read_nested(
-        b"17 of one sign, marked",
-        b"(a&(b&(c&(d&(e&(f&(g&(h&(i&(j&(k&(l&(m&(n&(o&(p&(q&",
-        b"x",
-        b")?",
-        17,
-    );
-    read_nested(
-        b"15 signs by turns round ((x|y)|z)",
-        b"(a,(b|(c,(d|(e,(f|(g,(h|(i,(j|(k,(l|(m,(n|(o,",
-        b"((x|y)|z)",
-        b")",
-        15,
-    );
-    read_nested(
+// The same with one sign, and what closes each.
+fn read_joined(shown: &[u8], groups: usize, inside: &[u8], close: &[u8]) {
+    let chain = b"(a&(b&(c&(d&(e&(f&(g&(h&(i&(j&(k&(l&(m&(n&(o&(p&(q&(r&(s&(t&(u&(v&(w&(x&(y&(z&";
+    read_chain(shown, 0, chain, groups, inside, close);
+}
+
+// Document 02, W3: depth. Signs by turns keep each group, brackets around them change nothing; one sign joins its groups, but for those with a mark, of
+// their own or from `()`.
+fn depths() {
+    read_turns(b"16 signs by turns", 16, b"x", 0);
+    read_turns(b"17 signs by turns", 17, b"x", 0);
+    read_turns(b"17 signs by turns, a name twice", 17, b"a", 0);
+    read_turns(b"17 signs by turns, a bracket left open", 17, b"(x", 0);
+    read_turns(b"17 signs by turns round ()", 17, b"((),()?)", 0);
+    read_turns(b"16 signs by turns in 64 brackets", 16, b"x", 48);
+    read_turns(b"17 signs by turns in 64 brackets", 17, b"x", 47);
+    read_joined(b"26 of one sign", 26, b"()", b")");
+    read_joined(b"16 of one sign, marked", 16, b"x", b")?");
+    read_joined(b"17 of one sign, marked", 17, b"x", b")?");
+    read_turns(b"15 signs by turns round ((x|y)|z)", 15, b"((x|y)|z)", 0);
+    read_turns(
         b"15 signs by turns round ((x|y|())|z)",
-        b"(a,(b|(c,(d|(e,(f|(g,(h|(i,(j|(k,(l|(m,(n|(o,",
-        b"((x|y|())|z)",
-        b")",
         15,
+        b"((x|y|())|z)",
+        0,
     );
 }
 
@@ -434,7 +374,5 @@ fn main() {
     marks_and_groups();
     atoms_and_nodes();
     brackets();
-    signs_by_turns();
-    signs_in_brackets();
-    one_sign();
+    depths();
 }
