@@ -59,9 +59,9 @@ abbrev pub signIn : Kind → Sign
 signIn (Atom lo hi) = None
 signIn (Group s n) = s
 
-abbrev pub partBy : Kind → Bool → Flat → Flat
-partBy (Atom lo hi) b x = atomFlat
-partBy (Group s n) b x = closedBy s b x
+abbrev pub flatPart : Kind → Bool → Flat → Flat
+flatPart (Atom lo hi) b x = atomFlat
+flatPart (Group s n) b x = closedBy s b x
 
 abbrev pub flatBy : Algebra Flat
 flatBy = record { onAtom = λ k lo hi. atomFlat; onGroup = λ k s l. groupBy s l; onMark = overBy }

@@ -1,7 +1,7 @@
 // The depth of a rule: the most groups around an atom, after flattening. One pass over the nodes finds it.
 
 ghost use mathlib.Core.Path.{_≡_};
-ghost use Rattle.model.specs.Depth.{nilFlat, mergesBy, bringsBy, besideBy, overBy, closedBy, signIn, partBy, ruleDepth};
+ghost use Rattle.model.specs.Depth.{nilFlat, mergesBy, bringsBy, besideBy, overBy, closedBy, signIn, flatPart, ruleDepth};
 ghost use Rattle.model.specs.Flatten.{signNumber, sameSign};
 use crate::check::larger;
 use crate::check::members_of;
@@ -123,7 +123,7 @@ fn closed(sign: Sign, dropped: bool, x: Flat) -> Flat
 }
 
 fn part(kind: Kind, dropped: bool, x: Flat) -> Flat
-    ensures { λ r. ⌜ r ≡ partBy kind dropped x ⌝ }
+    ensures { λ r. ⌜ r ≡ flatPart kind dropped x ⌝ }
 {
     match kind {
         Kind::Atom { min: _, max: _ } => Flat {
@@ -136,8 +136,8 @@ fn part(kind: Kind, dropped: bool, x: Flat) -> Flat
     }
 }
 
-// Nodes from the last to the first: what is kept of the trees that are read stands on a stack that grows down, and a group takes its members from it,
-// the last first.
+// The depth, no more than one over the limit of brackets. Nodes from the last to the first: what is kept of the trees that are read stands on a stack that
+// grows down, and a group takes its members from it, the last first.
 pub fn depth(rule: Rule) -> u8
     ensures { λ r. ⌜ r ≡ ruleDepth rule ⌝ }
 {

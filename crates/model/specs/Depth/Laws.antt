@@ -8,7 +8,7 @@ use lib.{Dec.ltb, ListN.getD, ListN.take, ListN.drop, ListN.set, ListN.length, S
 use borrow.Author.Tests.{lt-ltb, ltb-true, eq-eqb}
 use Rattle.fields.specs.{Tests.by-test, Stack.slice-back, Stack.slice-is, Limits.maxNesting, Limits.maxNodes}
 use Rattle.model.specs.{declared.rule.Sign.Sign, declared.rule.Mark.Mark, declared.rule.Kind.Kind, declared.rule.Node.Node as RuleNode}
-use Rattle.model.specs.{declared.depth.Flat.Flat, Rule.ruleOf, Model.Pass.Passed, Model.Pass.pass-turn}
+use Rattle.model.specs.{declared.depth.Flat.Flat, Rule.ruleOf, Model.Walk.Walked, Model.Walk.walked-turn}
 use Rattle.model.specs.declared.rule.Kind.the-variants.{Atom, Group}
 use Rattle.model.specs.declared.rule.Sign.the-variants.{None}
 use Rattle.model.specs.declared.rule.Mark.the-variants.{Plain, Optional}
@@ -20,7 +20,7 @@ use Rattle.model.specs.Flatten.{Solid.node-flattened, Solid.all-flattene
 use Rattle.model.specs.{Syntax.Syntax, Model.countsOf, Model.modelOf, Flatten.Map.depth-map}
 use Rattle.model.specs.Flatten.Depth.{deepest, deepestOf, deepest-append, deepest-first, group-deepest}
 use Rattle.model.specs.{Rule.Laws.rule-eval, Model.Counts, Model.Model, Model.fold, Model.foldNode, Model.foldAll, Model.needed, Model.evalStep}
-use Rattle.model.specs.Depth.{nilFlat, mergesBy, bringsBy, besideBy, gatheredBy, someEmpty, overBy, groupBy, signIn, partBy, flatBy}
+use Rattle.model.specs.Depth.{nilFlat, mergesBy, bringsBy, besideBy, gatheredBy, someEmpty, overBy, groupBy, signIn, flatPart, flatBy}
 use Rattle.model.specs.Depth.{ruleDepth}
 
 -- what is kept of a tree
@@ -176,17 +176,17 @@ merges-deep s x e =
     let h = and-eq-true-iff (sameSign s (x .sign)) (not (x .marked) && ltb 0 (x .depth)) .0 e in
     ltb-true 0 (x .depth) (and-eq-true-iff (not (x .marked)) (ltb 0 (x .depth)) .0 (h .1) .1)
 
--- The loops. A member more, before place at of the stack; those behind end before `end`.
+-- The loops. Of the members that stand on the stack from place `at` to `end`: what they make, and whether a `()` was dropped.
 module _ (s : Sign) (stack : List Flat) (end : ℕ) where
-  pub record Joined (at : ℕ) (b : Bool) (x : Flat) : Type 0 where
+  pub record MembersMade (at : ℕ) (b : Bool) (x : Flat) : Type 0 where
     pub made : x ≡ gatheredBy s (drop at (take end stack))
     pub drops : b ≡ someEmpty (drop at (take end stack))
 
-  pub join-none : Joined end false nilFlat
+  pub join-none : MembersMade end false nilFlat
   join-none = let e = slice-empty end stack in record { made = rw e; drops = rw e }
 
   pub join-turn : (at : ℕ) (d : Flat) {b : Bool} {x r : Flat} → 0 < at → at ≤ end → at ≤ length stack → r ≡ besideBy s (getD stack (at - 1) d) x
-      → Joined at b x → Joined (at - 1) (getD stack (at - 1) d .empty || b) r
+      → MembersMade at b x → MembersMade (at - 1) (getD stack (at - 1) d .empty || b) r
   join-turn at d p h k e j = record {
     made = rw (slice-back stack end at d p h k, ← j .made) e;
     drops = rw (slice-back stack end at d p h k, ← j .drops);
@@ -194,7 +194,7 @@ module _ (s : Sign) (stack : List Flat) (end : ℕ) where
 
 -- a node, by its members
 abbrev nodeBy : Kind → Mark → List Flat → Flat
-nodeBy κ m l = overBy m (partBy κ (someEmpty l) (gatheredBy (signIn κ) l))
+nodeBy κ m l = overBy m (flatPart κ (someEmpty l) (gatheredBy (signIn κ) l))
 
 node-step : (κ : Kind) (m : Mark) (k : ℕ) (rest : List Flat) → nodeBy κ m (take (needed κ) rest) ∷ drop (needed κ) rest ≡ evalStep flatBy κ m k rest
 node-step (Atom lo hi) m k rest = refl
@@ -203,13 +203,13 @@ node-step (Group s n) m k rest = refl
 -- a turn, with what its calls gave
 pub depth-turn : (nodes : List RuleNode) (len i : ℕ) (d : RuleNode) {stack : List Flat} {top members clipped at : ℕ} {s : Sign} {b : Bool} {x y z : Flat}
     → 0 < i → i ≤ len → i ≤ length nodes → 0 < top → top ≤ maxNodes → members ≡ needed (getD nodes (i - 1) d .kind)
-    → clipped ≡ min members (maxNodes - top) → s ≡ signIn (getD nodes (i - 1) d .kind) → Joined s stack (clipped + top) at b x → at ≡ top
-    → y ≡ partBy (getD nodes (i - 1) d .kind) b x → z ≡ overBy (getD nodes (i - 1) d .mark) y
-    → Passed flatBy (drop i (take len nodes)) stack top
-    → Passed flatBy (drop (i - 1) (take len nodes)) (set stack (clipped + top - 1) z) (clipped + top - 1)
+    → clipped ≡ min members (maxNodes - top) → s ≡ signIn (getD nodes (i - 1) d .kind) → MembersMade s stack (clipped + top) at b x → at ≡ top
+    → y ≡ flatPart (getD nodes (i - 1) d .kind) b x → z ≡ overBy (getD nodes (i - 1) d .mark) y
+    → Walked flatBy (drop i (take len nodes)) stack top
+    → Walked flatBy (drop (i - 1) (take len nodes)) (set stack (clipped + top - 1) z) (clipped + top - 1)
 depth-turn nodes len i d {stack = stack} {top = top} {clipped = clipped} {at = at} a b c p h m n f j e g q t =
     let node = getD nodes (i - 1) d in
     let l : drop at (take (clipped + top) stack) ≡ take (clipped + top - top) (drop top stack) =
     ap (λ k. drop k (take (clipped + top) stack)) e ∙ slice-is top (clipped + top) stack in
-    pass-turn nodeBy node-step nodes len i d a b c p h m n
-    (q ∙ ap (overBy (node .mark)) (g ∙ ap₂ (partBy (node .kind)) (j .drops ∙ ap someEmpty l) (j .made ∙ ap₂ gatheredBy f l))) t
+    walked-turn nodeBy node-step nodes len i d a b c p h m n
+    (q ∙ ap (overBy (node .mark)) (g ∙ ap₂ (flatPart (node .kind)) (j .drops ∙ ap someEmpty l) (j .made ∙ ap₂ gatheredBy f l))) t

@@ -1,24 +1,24 @@
--- Passed holds of the nodes from i on; within a node, Joined of the members from place `at` on
+-- Walked holds of the nodes from i on; within a node, MembersMade of the members from place `at` on
 use mathlib.Core.{Path._≡_, Path.refl, Path.ap}
 use Prim.Native.Nat.{_-_, _≤_, min}
 use native.Mathlib.Omega.{arith}
 use lib.ListN.{length, take, drop}
 use borrow.Author.Needs.{needs}
 use Rattle.fields.specs.Stack.{unmapped, slice-none}
-use Rattle.model.specs.Depth.{nilFlat, flatBy, Laws.Joined, Laws.join-none, Laws.join-turn, Laws.depth-turn}
-use Rattle.model.specs.Model.Pass.{Passed, pass-none, pass-top, pass-empty}
+use Rattle.model.specs.Depth.{nilFlat, flatBy, Laws.MembersMade, Laws.join-none, Laws.join-turn, Laws.depth-turn}
+use Rattle.model.specs.Model.Walk.{Walked, walked-none, walked-top, walked-empty}
 use Rattle.model.proofs.depth.depth.Statement.{statement}
 use Rattle.model.proofs.depth.depth.Tie as tie
 
 abbrev Inv-loop2 : tie.InvT-loop2
-Inv-loop2 rule stack top i kind mark sign end x₀ dropped₀ at₀ x dropped at = (top ≤ at) × (at ≤ end) × Joined sign stack end at dropped x
+Inv-loop2 rule stack top i kind mark sign end x₀ dropped₀ at₀ x dropped at = (top ≤ at) × (at ≤ end) × MembersMade sign stack end at dropped x
 
 abbrev μ-loop2 : tie.MeasureT-loop2
 μ-loop2 rule stack top i kind mark sign end x₀ dropped₀ at₀ x dropped at = at
 
 abbrev Inv-loop : tie.InvT-loop
 Inv-loop rule stack₀ top₀ i₀ stack top i =
-    (i ≤ min (rule .len) 128) × (i ≤ top) × (top ≤ 128) × Passed flatBy (drop i (take (rule .len) (rule .nodes))) stack top
+    (i ≤ min (rule .len) 128) × (i ≤ top) × (top ≤ 128) × Walked flatBy (drop i (take (rule .len) (rule .nodes))) stack top
 
 abbrev μ-loop : tie.MeasureT-loop
 μ-loop rule stack₀ top₀ i₀ stack top i = i
@@ -30,7 +30,7 @@ long s = search (needs, unmapped)
 loop-holds : tie.Need-loop-holds Inv-loop2 μ-loop2 Inv-loop μ-loop
 loop-holds c =
     let r = c .before .before .args .t1 in
-    (search needs, search needs, search needs, pass-none _ _ (rw (c .lesser .ensures, ← long (c .before .before)) (slice-none (r .nodes) (r .len))) refl)
+    (search needs, search needs, search needs, walked-none _ _ (rw (c .lesser .ensures, ← long (c .before .before)) (slice-none (r .nodes) (r .len))) refl)
 
 loop2-holds : tie.Need-loop2-holds Inv-loop2 μ-loop2 Inv-loop μ-loop
 loop2-holds c = (omega arith, omega arith, rw (c .nil2 .ensures) (join-none _ _ _))
@@ -80,13 +80,13 @@ returns : tie.Need-returns Inv-loop2 μ-loop2 Inv-loop μ-loop
 returns c =
     let v = c .before .before .before .loop in
     let z : v .i ≡ 0 = omega arith in
-    ap (λ x. x .depth) (pass-top (rw z at (v .inv .3)) _ _ (omega arith))
+    ap (λ x. x .depth) (walked-top (rw z at (v .inv .3)) _ _ (omega arith))
 
 returns-2 : tie.Need-returns-2 Inv-loop2 μ-loop2 Inv-loop μ-loop
 returns-2 c =
     let v = c .before .before .loop in
     let z : v .i ≡ 0 = omega arith in
-    ap (λ x. x .depth) (pass-empty (rw z at (v .inv .3)) nilFlat (omega arith))
+    ap (λ x. x .depth) (walked-empty (rw z at (v .inv .3)) nilFlat (omega arith))
 
 pub depth-spec : {M : Type 1} → statement M
 depth-spec =

@@ -10,33 +10,33 @@ use Rattle.model.specs.Model.{Algebra, after, needed, treesIn, evalStep,
 use Rattle.fields.specs.{Limits.maxNodes, Stack.slice-back, Stack.first-entries, Stack.replaced}
 
 -- of the nodes l: what their trees give stands on the stack
-pub record Passed {A : Type 0} (g : Algebra A) (l : List RuleNode) (stack : List A) (top : ℕ) : Type 0 where
+pub record Walked {A : Type 0} (g : Algebra A) (l : List RuleNode) (stack : List A) (top : ℕ) : Type 0 where
   pub long : length stack ≡ maxNodes
   pub stack-is : (k : ℕ) → drop top stack ≡ eval g l k
 
 module _ {A : Type 0} {g : Algebra A} where
-  pub pass-none : (l : List RuleNode) (stack : List A) → l ≡ [] → length stack ≡ maxNodes → Passed g l stack maxNodes
-  pass-none l stack e h = record { long = h; stack-is = λ k. rw (e, drop-of-length-le stack {i = maxNodes} (omega arith)) }
+  pub walked-none : (l : List RuleNode) (stack : List A) → l ≡ [] → length stack ≡ maxNodes → Walked g l stack maxNodes
+  walked-none l stack e h = record { long = h; stack-is = λ k. rw (e, drop-of-length-le stack {i = maxNodes} (omega arith)) }
 
-  module _ {l : List RuleNode} {stack : List A} {top : ℕ} (t : Passed g l stack top) where
-    pub pass-trees : maxNodes - top ≡ treesIn l
-    pass-trees = sym (rw (length-drop, t .long)) ∙ ap length (t .stack-is 0) ∙ length-eval g l 0
+  module _ {l : List RuleNode} {stack : List A} {top : ℕ} (t : Walked g l stack top) where
+    pub walked-trees : maxNodes - top ≡ treesIn l
+    walked-trees = sym (rw (length-drop, t .long)) ∙ ap length (t .stack-is 0) ∙ length-eval g l 0
 
     -- the first tree, or none
-    pub pass-top : (b d : A) → top < maxNodes → getD stack top b ≡ getD (eval g l 0) 0 d
-    pass-top b d h = let k : top < length stack = omega (arith, t .long) in ap (λ r. getD r 0 d) (sym (drop-cons stack top b k) ∙ t .stack-is 0)
+    pub walked-top : (b d : A) → top < maxNodes → getD stack top b ≡ getD (eval g l 0) 0 d
+    walked-top b d h = let k : top < length stack = omega (arith, t .long) in ap (λ r. getD r 0 d) (sym (drop-cons stack top b k) ∙ t .stack-is 0)
 
-    pub pass-empty : (d : A) → maxNodes ≤ top → d ≡ getD (eval g l 0) 0 d
-    pass-empty d h = rw (← t .stack-is 0, drop-of-length-le stack {i = top} (omega (arith, t .long)))
+    pub walked-empty : (d : A) → maxNodes ≤ top → d ≡ getD (eval g l 0) 0 d
+    walked-empty d h = rw (← t .stack-is 0, drop-of-length-le stack {i = top} (omega (arith, t .long)))
 
   -- `part` is what a node gives, by what its members give
   module _ (part : Kind → Mark → List A → A)
       (step : (κ : Kind) (m : Mark) (k : ℕ) (rest : List A) → part κ m (take (needed κ) rest) ∷ drop (needed κ) rest ≡ evalStep g κ m k rest) where
     -- one node more: the entries up to end are its members
-    pass-node : {x : RuleNode} {l : List RuleNode} {stack : List A} {top : ℕ} → Passed g l stack top → (end : ℕ) (y : A) → 0 < top → top ≤ maxNodes
+    walked-node : {x : RuleNode} {l : List RuleNode} {stack : List A} {top : ℕ} → Walked g l stack top → (end : ℕ) (y : A) → 0 < top → top ≤ maxNodes
         → end ≡ min (needed (x .kind)) (maxNodes - top) + top → y ≡ part (x .kind) (x .mark) (take (end - top) (drop top stack))
-        → Passed g (x ∷ l) (set stack (end - 1) y) (end - 1)
-    pass-node {x} {l} {stack} {top} t end y p h i j =
+        → Walked g (x ∷ l) (set stack (end - 1) y) (end - 1)
+    walked-node {x} {l} {stack} {top} t end y p h i j =
         let κ = x .kind in
         record {
           long = rw length-set (t .long);
@@ -46,11 +46,11 @@ module _ {A : Type 0} {g : Algebra A} where
         }
 
     -- a turn of the loop, with what its calls gave
-    pub pass-turn : (nodes : List RuleNode) (len i : ℕ) (d : RuleNode) {stack : List A} {top : ℕ} {members clipped : ℕ} {y : A}
+    pub walked-turn : (nodes : List RuleNode) (len i : ℕ) (d : RuleNode) {stack : List A} {top : ℕ} {members clipped : ℕ} {y : A}
         → 0 < i → i ≤ len → i ≤ length nodes → 0 < top → top ≤ maxNodes → members ≡ needed (getD nodes (i - 1) d .kind)
         → clipped ≡ min members (maxNodes - top)
         → y ≡ part (getD nodes (i - 1) d .kind) (getD nodes (i - 1) d .mark) (take (clipped + top - top) (drop top stack))
-        → Passed g (drop i (take len nodes)) stack top
-        → Passed g (drop (i - 1) (take len nodes)) (set stack (clipped + top - 1) y) (clipped + top - 1)
-    pass-turn nodes len i d {clipped = clipped} {y = y} a b c p h m n j t =
-        rw (slice-back nodes len i d a b c) (pass-node t (clipped + _) y p h (rw (n, m)) j)
+        → Walked g (drop i (take len nodes)) stack top
+        → Walked g (drop (i - 1) (take len nodes)) (set stack (clipped + top - 1) y) (clipped + top - 1)
+    walked-turn nodes len i d {clipped = clipped} {y = y} a b c p h m n j t =
+        rw (slice-back nodes len i d a b c) (walked-node t (clipped + _) y p h (rw (n, m)) j)
