@@ -6,7 +6,7 @@ use mathlib.Core.List.{List, [], _∷_}
 use Prim.Native.Nat.{ℕ, _+_, _-_, max, min}
 use lib.{Dec.ltb, ListN.getD}
 use Rattle.model.specs.{declared.rule.Sign.Sign, declared.rule.Sign.the-variants.None, declared.rule.Mark.Mark, declared.rule.Kind.Kind}
-use Rattle.model.specs.{declared.rule.Rule.Rule, declared.depth.Flat.Flat, Rule.used, Flatten.sameSign, Flatten.isChoice, Model.Algebra, Model.eval}
+use Rattle.model.specs.{declared.rule.Rule.Rule, declared.depth.Flat.Flat, Rule.used, Flatten.sameSign, Flatten.droppedMark, Model.Algebra, Model.eval}
 use Rattle.model.specs.declared.rule.Mark.the-variants.{Plain, Optional}
 use Rattle.model.specs.declared.rule.Kind.the-variants.{Atom, Group}
 use Rattle.fields.specs.Limits.{maxNesting}
@@ -49,7 +49,7 @@ overBy Optional x = record { sign = x .sign; marked = not (x .empty); empty = x 
 
 -- the members of a group made x, and whether a `()` was dropped
 abbrev pub closedBy : Sign → Bool → Flat → Flat
-closedBy s b x = overBy (cond (isChoice s && b) Optional Plain) x
+closedBy s b x = overBy (droppedMark s b) x
 
 abbrev pub groupBy : Sign → List Flat → Flat
 groupBy s l = closedBy s (someEmpty l) (gatheredBy s l)

@@ -26,6 +26,10 @@ sameSign s r = eqb (signNumber s) (signNumber r)
 abbrev pub isChoice : Sign → Bool
 isChoice s = sameSign s Choice
 
+-- a `()` that is dropped from a choice marks it with `?`
+abbrev pub droppedMark : Sign → Bool → Mark
+droppedMark s dropped = cond (isChoice s && dropped) Optional Plain
+
 module _ {A : Type 0} where
   infixr 60 _⧺_
   -- members, and others behind them
@@ -55,10 +59,14 @@ module _ {A : Type 0} where
   membersOf (marked m (leaf a)) = none
   membersOf (marked m (group s ts)) = ts
 
-  -- the members of a group of the sign: `()` is dropped, and an unmarked group of the same sign joins it
+  -- a member more in front: an unmarked group of the same sign joins the group, any other member stays
+  abbrev pub withMember : Sign → Tree A → Members A → Members A
+  withMember s t us = cond (merges s t) (membersOf t ⧺ us) (t ▹ us)
+
+  -- the members of a group of the sign; `()` is dropped
   abbrev pub gathered : Sign → List (Tree A) → Members A
   gathered s [] = none
-  gathered s (t ∷ l) = cond (isNil t) (gathered s l) (cond (merges s t) (membersOf t ⧺ gathered s l) (t ▹ gathered s l))
+  gathered s (t ∷ l) = cond (isNil t) (gathered s l) (withMember s t (gathered s l))
 
   -- a group left without members is `()`, and a group of one dissolves
   abbrev pub grouped : Sign → Members A → Tree A
@@ -71,14 +79,10 @@ module _ {A : Type 0} where
   over Plain t = t
   over Optional (marked m n) = cond (isNil (marked m n)) nil (marked Optional n)
 
-  -- a `()` that is dropped from a choice marks it with `?`
-  abbrev pub droppedMark : Sign → List (Tree A) → Mark
-  droppedMark s l = cond (isChoice s && someNil l) Optional Plain
-
   abbrev mutual
     pub flattenNode : Node A → Tree A
     flattenNode (leaf a) = marked Plain (leaf a)
-    flattenNode (group s ts) = over (droppedMark s (flattenAll ts)) (grouped s (gathered s (flattenAll ts)))
+    flattenNode (group s ts) = over (droppedMark s (someNil (flattenAll ts))) (grouped s (gathered s (flattenAll ts)))
 
     pub flatten : Tree A → Tree A
     flatten (marked m n) = over m (flattenNode n)

@@ -147,10 +147,10 @@ over-kept Optional (marked m (leaf c)) (inr h) = refl
 over-kept Optional (marked m (group s none)) (inr h) = absurd (omega (arith, h .0))
 over-kept Optional (marked m (group s (t ▹ ts))) (inr h) = refl
 
-group-kept : (s : Sign) (l : List Model) → AllFlattened l → groupBy s (map kept l) ≡ kept (over (droppedMark s l) (grouped s (gathered s l)))
+group-kept : (s : Sign) (l : List Model) → AllFlattened l → groupBy s (map kept l) ≡ kept (over (droppedMark s (someNil l)) (grouped s (gathered s l)))
 group-kept s l h =
     rw (some-empty l, gathered-kept s l h)
-    (over-kept (droppedMark s l) (grouped s (gathered s l)) (grouped-flattened s (gathered s l) (gathered-solid s l h)))
+    (over-kept (droppedMark s (someNil l)) (grouped s (gathered s l)) (grouped-flattened s (gathered s l) (gathered-solid s l h)))
 
 mutual
   node-kept : (n : Node Counts) (k : ℕ) → foldNode flatBy n k ≡ kept (flattenNode n)

@@ -8,7 +8,7 @@ use Rattle.fields.specs.Tests.{by-test}
 use Rattle.model.specs.{declared.rule.Sign.Sign, declared.rule.Mark.Mark}
 use Rattle.model.specs.declared.rule.Mark.the-variants.{Plain, Optional}
 use Rattle.model.specs.Tree.{Node, leaf, group, Tree, marked, Members, none, _▹_, size, highest, nodeNesting, nesting, membersNesting}
-use Rattle.model.specs.Flatten.{_⧺_, isNil, merges, membersOf, gathered, grouped, over, droppedMark, flattenNode, flattenAll, nodeAround}
+use Rattle.model.specs.Flatten.{_⧺_, isNil, someNil, merges, membersOf, gathered, grouped, over, droppedMark, flattenNode, flattenAll, nodeAround}
 use Rattle.model.specs.Flatten.{groupsAround, membersAround, depth}
 use Rattle.model.specs.Flatten.Solid.{Solid, SolidAll}
 
@@ -105,7 +105,7 @@ module _ {A : Type 0} where
     node-inside (leaf a) = omega arith
     node-inside (group s ts) =
         let l = flattenAll ts in
-        omega (arith, over-inside (droppedMark s l) (grouped s (gathered s l)), grouped-inside s (gathered s l), gathered-inside s l, all-inside ts)
+        omega (arith, over-inside (droppedMark s (someNil l)) (grouped s (gathered s l)), grouped-inside s (gathered s l), gathered-inside s l, all-inside ts)
 
     pub no-deeper : (t : Tree A) → depth t ≤ nesting t
     no-deeper (marked m n) = omega (arith, over-inside m (flattenNode n), node-inside n)

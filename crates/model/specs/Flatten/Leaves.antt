@@ -7,7 +7,7 @@ use Rattle.model.specs.{declared.rule.Sign.Sign, declared.rule.Mark.Mark
 use Rattle.model.specs.declared.rule.Mark.the-variants.{Plain, Optional}
 use Rattle.model.specs.Tree.{Node, leaf, group, Tree, marked, Members, none, _▹_, nodeLeaves, leaves, membersLeaves, atoms}
 use Rattle.model.specs.Tree.Leaves.{length-leaves}
-use Rattle.model.specs.Flatten.{_⧺_, isNil, merges, membersOf, gathered, grouped, over, droppedMark, flattenNode, flatten, flattenAll}
+use Rattle.model.specs.Flatten.{_⧺_, isNil, someNil, merges, membersOf, gathered, grouped, over, droppedMark, flattenNode, flatten, flattenAll}
 
 module _ {A : Type 0} where
   abbrev listLeaves : List (Tree A) → List A
@@ -18,12 +18,12 @@ module _ {A : Type 0} where
   append-leaves none us = refl
   append-leaves (t ▹ ts) us = rw (append-leaves ts us, append-assoc)
 
-  nil-leaves : (t : Tree A) → isNil t ≡ true → leaves t ≡ []
+  pub nil-leaves : (t : Tree A) → isNil t ≡ true → leaves t ≡ []
   nil-leaves (marked m (leaf a)) e = absurd (false≢true e)
   nil-leaves (marked m (group s none)) e = refl
   nil-leaves (marked m (group s (t ▹ ts))) e = absurd (false≢true e)
 
-  merged-leaves : (s : Sign) (t : Tree A) → merges s t ≡ true → membersLeaves (membersOf t) ≡ leaves t
+  pub merged-leaves : (s : Sign) (t : Tree A) → merges s t ≡ true → membersLeaves (membersOf t) ≡ leaves t
   merged-leaves s (marked m (leaf a)) e = absurd (false≢true e)
   merged-leaves s (marked m (group r ts)) e = refl
 
@@ -50,7 +50,7 @@ module _ {A : Type 0} where
     node-kept (leaf a) = refl
     node-kept (group s ts) =
         let l = flattenAll ts in
-        over-leaves (droppedMark s l) (grouped s (gathered s l)) ∙ grouped-leaves s (gathered s l) ∙ gathered-leaves s l ∙ members-kept ts
+        over-leaves (droppedMark s (someNil l)) (grouped s (gathered s l)) ∙ grouped-leaves s (gathered s l) ∙ gathered-leaves s l ∙ members-kept ts
 
     pub flatten-leaves : (t : Tree A) → leaves (flatten t) ≡ leaves t
     flatten-leaves (marked m n) = over-leaves m (flattenNode n) ∙ node-kept n

@@ -1,8 +1,9 @@
 -- Other atoms change nothing: a tree over other atoms, each made from an atom and its number, is flattened in the same way and is as deep.
-use mathlib.Core.{Path._≡_, Path.refl, Path.ap, Path.ap₂, Path._∙_, Bool.true, Bool._||_, Bool.false≢true}
+use mathlib.Core.{Path._≡_, Path.refl, Path.sym, Path.ap, Path.ap₂, Path._∙_, Bool.true, Bool._||_}
 use mathlib.Core.List.{List, [], _∷_, _++_}
 use Prim.Native.Nat.{ℕ, suc, _+_}
-use native.Mathlib.Nat.{add-zero, zero-add, add-assoc}
+use native.Mathlib.Nat.{add-zero, add-assoc}
+use lib.ListN.{length}
 use Rattle.fields.specs.Tests.{by-test}
 use Rattle.model.specs.{declared.rule.Sign.Sign, declared.rule.Mark.Mark}
 use Rattle.model.specs.declared.rule.Mark.the-variants.{Plain, Optional}
@@ -10,17 +11,15 @@ use Rattle.model.specs.Tree.{Node, leaf, group, Tree, marked, Members, n
 use Rattle.model.specs.Tree.{numberNode, numberTree, numberAll}
 use Rattle.model.specs.Flatten.{_⧺_, isNil, someNil, merges, membersOf, gathered, grouped, over, droppedMark, flattenNode, flatten, flattenAll}
 use Rattle.model.specs.Flatten.{nodeAround, groupsAround, membersAround, depth}
-use Rattle.model.specs.Flatten.Leaves.{flatten-atoms}
+use Rattle.model.specs.{Tree.Leaves.length-leaves, Tree.Leaves.members-leaves}
+use Rattle.model.specs.Flatten.Leaves.{nil-leaves, merged-leaves, flatten-atoms}
 
 module _ {A : Type 0} where
   nil-atoms : (t : Tree A) → isNil t ≡ true → atoms t ≡ 0
-  nil-atoms (marked m (leaf a)) e = absurd (false≢true e)
-  nil-atoms (marked m (group s none)) e = refl
-  nil-atoms (marked m (group s (t ▹ ts))) e = absurd (false≢true e)
+  nil-atoms t e = sym (length-leaves t) ∙ ap length (nil-leaves t e)
 
   merged-atoms : (s : Sign) (t : Tree A) → merges s t ≡ true → atoms t ≡ membersWeight 1 0 (membersOf t)
-  merged-atoms s (marked m (leaf a)) e = absurd (false≢true e)
-  merged-atoms s (marked m (group r ts)) e = zero-add (membersWeight 1 0 ts)
+  merged-atoms s t e = sym (length-leaves t) ∙ ap length (sym (merged-leaves s t e)) ∙ members-leaves (membersOf t)
 
 -- atoms are numbered from k in the order written
 module _ {A B : Type 0} (f : ℕ → A → B) where
@@ -75,7 +74,7 @@ module _ {A B : Type 0} (f : ℕ → A → B) where
     flattenNode-number (group s ts) k =
         let l = flattenAll ts in
         rw (flattenAll-number ts k, some-nil-number l k, gathered-number s l k, grouped-number s (gathered s l) k)
-        (over-number (droppedMark s l) (grouped s (gathered s l)) k)
+        (over-number (droppedMark s (someNil l)) (grouped s (gathered s l)) k)
 
     pub flatten-number : (t : Tree A) (k : ℕ) → flatten (numberTree f t k) ≡ numberTree f (flatten t) k
     flatten-number (marked m n) k = rw (flattenNode-number n k) (over-number m (flattenNode n) k)

@@ -1,6 +1,6 @@
 -- Flattening keeps the rows, of every tree. What `()` leaves behind where it is dropped is the one thing that differs from sign to sign.
 use mathlib.Core.{Path._≡_, Path.refl, Path.ap, Path.ap₂, Logic._↔_, Logic.inl, Logic.inr, Logic.⊎-elim}
-use mathlib.Core.Bool.{Bool, true, false, cond, _&&_, false≢true}
+use mathlib.Core.Bool.{Bool, true, false, cond, false≢true}
 use mathlib.Core.List.{List, [], _∷_}
 use Prim.Native.Nat.{ℕ, _+_}
 use native.Mathlib.Omega.{arith}
@@ -13,7 +13,7 @@ use Rattle.model.specs.Types.{Ty, ε, join, Operator, sequence, choice, 
 use Rattle.model.specs.Types.Languages.{Same, itself, thus, back, Empty, Neutral, joined-same, neutral-left, neutral-right, joined-assoc}
 use Rattle.model.specs.Model.{Counts, Model, operator, joinedFrom, joinedType, markedType, countedType, typeBy, foldNode, fold, foldAll, typeOf}
 use Rattle.model.specs.Model.{nodeTypeWith, typeWith, typesWith}
-use Rattle.model.specs.Flatten.{isChoice, _⧺_, isNil, someNil, merges, membersOf, gathered, grouped, over, droppedMark}
+use Rattle.model.specs.Flatten.{isChoice, _⧺_, isNil, someNil, merges, withMember, gathered, grouped, over, droppedMark}
 use Rattle.model.specs.Flatten.{flattenNode, flatten, flattenAll}
 use Rattle.model.specs.Flatten.{Map.flatten-number, Merges.merged-some}
 
@@ -61,10 +61,7 @@ dropped-behind choice true P Q =
 dropped-behind choice false P Q = itself (Joined choice P Q)
 dropped-behind interleaving b P Q = itself (Joined interleaving P Q)
 
-abbrev markIf : Bool → Mark
-markIf b = cond b Optional Plain
-
-dropped-marked : (s : Sign) (b : Bool) (T : Ty) → Same (Holds (markedType (markIf (isChoice s && b)) T)) (Dropped (operator s) b (Holds T))
+dropped-marked : (s : Sign) (b : Bool) (T : Ty) → Same (Holds (markedType (droppedMark s b) T)) (Dropped (operator s) b (Holds T))
 dropped-marked None b T = itself (Holds T)
 dropped-marked Sequence b T = itself (Holds T)
 dropped-marked Choice true T = itself (Joined choice Empty (Holds T))
@@ -72,7 +69,7 @@ dropped-marked Choice false T = itself (Holds T)
 dropped-marked Interleaving b T = itself (Holds T)
 
 -- every member is dropped
-dropped-all : (s : Sign) → Same (Holds (markedType (markIf (isChoice s && true)) ε)) (Dropped (operator s) true (Neutral (operator s)))
+dropped-all : (s : Sign) → Same (Holds (markedType (droppedMark s true) ε)) (Dropped (operator s) true (Neutral (operator s)))
 dropped-all None = itself Empty
 dropped-all Sequence = itself Empty
 dropped-all Choice = λ w. (⊎-elim inl inl, ⊎-elim inl (λ h. absurd h))
@@ -89,18 +86,14 @@ optional-over Plain T = itself (Joined choice Empty (Holds T))
 optional-over Optional T = one-empty (Holds T)
 
 module _ {A : Type 0} where
-  -- what a member that is not `()` gives to a group of the sign
-  abbrev kept : Sign → Tree A → Members A → Members A
-  kept s t us = cond (merges s t) (membersOf t ⧺ us) (t ▹ us)
-
-  kept-some : (s : Sign) (t : Tree A) (us : Members A) → isNil t ≡ false → size (kept s t us) ≡ 0 → ⊥
-  kept-some s t us n h =
+  with-some : (s : Sign) (t : Tree A) (us : Members A) → isNil t ≡ false → size (withMember s t us) ≡ 0 → ⊥
+  with-some s t us n h =
       by-test (merges s t)
       (λ j. omega (arith, rw (j, merged-some s t n j .2) at h))
       (λ j. omega (arith, rw j at h))
 
   none-left : (s : Sign) (t : Tree A) (l : List (Tree A)) → size (gathered s (t ∷ l)) ≡ 0 → someNil (t ∷ l) ≡ true
-  none-left s t l h = by-test (isNil t) (λ e. rw e) (λ e. absurd (kept-some s t (gathered s l) e (rw e at h)))
+  none-left s t l h = by-test (isNil t) (λ e. rw e) (λ e. absurd (with-some s t (gathered s l) e (rw e at h)))
 
 module _ {A : Type 0} (f : A → Ty) where
   abbrev rows : Tree A → Language
@@ -131,9 +124,9 @@ module _ {A : Type 0} (f : A → Ty) where
       (λ e. rw e λ w. (inl, ⊎-elim (λ h. h) (nil-rows (marked m n) e w .1)))
       (λ e. rw e (optional-over m (nodeTypeWith f n)))
 
-  kept-rows : (s : Sign) (t : Tree A) (us : Members A) → isNil t ≡ false
-      → Same (Together (operator s) (typesWith f (kept s t us))) (Joined (operator s) (rows t) (Together (operator s) (typesWith f us)))
-  kept-rows s t us n =
+  with-rows : (s : Sign) (t : Tree A) (us : Members A) → isNil t ≡ false
+      → Same (Together (operator s) (typesWith f (withMember s t us))) (Joined (operator s) (rows t) (Together (operator s) (typesWith f us)))
+  with-rows s t us n =
       let o = operator s in
       let T = Together o (typesWith f us) in
       by-test (merges s t)
@@ -150,7 +143,7 @@ module _ {A : Type 0} (f : A → Ty) where
       by-test (isNil t)
       (λ e. rw e (thus (dropped-nil o (someNil l) T) (joined-same o (nil-rows t e) (gathered-rows s l))))
       (λ e. rw e
-      (thus (dropped-same o (someNil l) (kept-rows s t (gathered s l) e))
+      (thus (dropped-same o (someNil l) (with-rows s t (gathered s l) e))
       (thus (dropped-behind o (someNil l) (rows t) T) (joined-same o (itself (rows t)) (gathered-rows s l)))))
 
   grouped-rows : (s : Sign) (t : Tree A) (ts : Members A) → Same (rows (grouped s (t ▹ ts))) (Together (operator s) (typesWith f (t ▹ ts)))
@@ -159,7 +152,7 @@ module _ {A : Type 0} (f : A → Ty) where
 
   -- b: some member was dropped, as it must where none is left
   left-rows : (s : Sign) (b : Bool) (ts : Members A) → (size ts ≡ 0 → b ≡ true)
-      → Same (Holds (markedType (markIf (isChoice s && b)) (typeWith f (grouped s ts)))) (Dropped (operator s) b (Together (operator s) (typesWith f ts)))
+      → Same (Holds (markedType (droppedMark s b) (typeWith f (grouped s ts)))) (Dropped (operator s) b (Together (operator s) (typesWith f ts)))
   left-rows s b none h = rw (h refl) (dropped-all s)
   left-rows s b (t ▹ ts) h = thus (dropped-marked s b (typeWith f (grouped s (t ▹ ts)))) (dropped-same (operator s) b (grouped-rows s t ts))
 
@@ -168,7 +161,7 @@ module _ {A : Type 0} (f : A → Ty) where
   group-rows s none h = by-test (isChoice s) (λ e. rw e (itself Empty)) (λ e. rw e (itself Empty))
   group-rows s (t ▹ ts) h =
       let l = flattenAll (t ▹ ts) in
-      thus (over-rows (droppedMark s l) (grouped s (gathered s l)))
+      thus (over-rows (droppedMark s (someNil l)) (grouped s (gathered s l)))
       (thus (left-rows s (someNil l) (gathered s l) (none-left s (flatten t) (flattenAll ts)))
       (thus (gathered-rows s l) (thus h (back (from-together (operator s) (typeWith f t) (typesWith f ts))))))
 

@@ -1,5 +1,5 @@
 -- What flattening leaves: `()`, or a tree in which no group has fewer than two members and none could join the group around it.
-use mathlib.Core.{Path._≡_, Path.refl, Path.subst, Logic._⊎_, Logic.inl, Logic.inr, Logic.⊎-elim, Bool.false, Bool.cond}
+use mathlib.Core.{Path._≡_, Path.refl, Path.subst, Logic._⊎_, Logic.inl, Logic.inr, Logic.⊎-elim, Bool.false}
 use mathlib.Core.List.{List, [], _∷_}
 use Prim.Native.Nat.{_≤_}
 use native.Mathlib.Omega.{arith}
@@ -7,7 +7,8 @@ use Rattle.fields.specs.Tests.{by-test}
 use Rattle.model.specs.{declared.rule.Sign.Sign, declared.rule.Mark.Mark}
 use Rattle.model.specs.declared.rule.Mark.the-variants.{Plain, Optional}
 use Rattle.model.specs.Tree.{Node, leaf, group, Tree, marked, Members, none, _▹_, size}
-use Rattle.model.specs.Flatten.{_⧺_, nil, isNil, merges, membersOf, gathered, grouped, over, droppedMark, flattenNode, flatten, flattenAll}
+use Rattle.model.specs.Flatten.{_⧺_, nil, isNil, someNil, merges, membersOf, withMember, gathered, grouped, over, droppedMark}
+use Rattle.model.specs.Flatten.{flattenNode, flatten, flattenAll}
 use Rattle.model.specs.Flatten.Merges.{merged}
 
 module _ {A : Type 0} where
@@ -39,16 +40,15 @@ module _ {A : Type 0} where
   solid-append none us s h k = k
   solid-append (t ▹ ts) us s h k = (h .0, h .1, solid-append ts us s (h .2) k)
 
-  -- a member in front of members that could not join
-  put-solid : (s : Sign) (t : Tree A) (us : Members A) → Solid t → SolidAll us s → SolidAll (cond (merges s t) (membersOf t ⧺ us) (t ▹ us)) s
-  put-solid s t us h k =
+  with-solid : (s : Sign) (t : Tree A) (us : Members A) → Solid t → SolidAll us s → SolidAll (withMember s t us) s
+  with-solid s t us h k =
       by-test (merges s t) (λ e. rw e (solid-append (membersOf t) us s (subst Solid (merged s t e) h .1) k)) (λ e. rw e (h, e, k))
 
   pub gathered-solid : (s : Sign) (l : List (Tree A)) → AllFlattened l → SolidAll (gathered s l) s
   gathered-solid s [] h = tt
   gathered-solid s (t ∷ l) h =
       let k = gathered-solid s l (h .1) in
-      ⊎-elim (λ e. rw e k) (λ i. rw (solid-not-nil t i) (put-solid s t (gathered s l) i k)) (h .0)
+      ⊎-elim (λ e. rw e k) (λ i. rw (solid-not-nil t i) (with-solid s t (gathered s l) i k)) (h .0)
 
   pub grouped-flattened : (s : Sign) (ts : Members A) → SolidAll ts s → Flattened (grouped s ts)
   grouped-flattened s none h = inl refl
@@ -64,7 +64,7 @@ module _ {A : Type 0} where
     pub node-flattened : (n : Node A) → Flattened (flattenNode n)
     node-flattened (leaf a) = inr tt
     node-flattened (group s ts) =
-        over-flattened (droppedMark s (flattenAll ts)) (grouped s (gathered s (flattenAll ts)))
+        over-flattened (droppedMark s (someNil (flattenAll ts))) (grouped s (gathered s (flattenAll ts)))
         (grouped-flattened s (gathered s (flattenAll ts)) (gathered-solid s (flattenAll ts) (all-flattened ts)))
 
     pub tree-flattened : (t : Tree A) → Flattened (flatten t)
