@@ -6,7 +6,7 @@ use lib.{Dec.T, Dec.eqb, ListN.length, ListN.getD}
 use Rattle.fields.specs.{Limits.maxFile, Bytes.Text, Split.lines, Split.behind, Split.part, Split.Laws.Stand, Children.allNames}
 use Rattle.judge.specs.{declared.reading.NamePlace.NamePlace, declared.verdict.ChildrenJudged.ChildrenJudged}
 use Rattle.judge.specs.declared.verdict.ChildrenJudged.the-variants.{Verdict, ModelRefused, ChildrenRefused}
-use Rattle.sheet.specs.{declared.line.Said.Said, Cues.children, Cues.cuesRead, Put.CueFits, Listing.wordOf, Listing.listingLine, Listing.said}
+use Rattle.sheet.specs.{declared.line.Said.Said, Cues.children, Cues.cuesRead, Cues.CueFits, Listing.wordOf, Listing.listingLine, Listing.said}
 use Rattle.sheet.specs.{declared.cues.CuesRead.the-variants.Count, declared.sheet.SheetOutcome.the-variants.Read, Sheet.sheetRead}
 use Rattle.sheet.specs.declared.line.Said.the-variants.{Complete, Open, Dead, NoSheet}
 

@@ -2,7 +2,7 @@
 pub mod Laws
 pub mod Good
 use mathlib.Core.{Bool.Bool, Bool.cond, Bool.not, Bool._&&_, Bool._||_, List.List, List.[], List._∷_}
-use Prim.Native.{Nat.ℕ, Nat.suc, Char.code}
+use Prim.Native.{Nat.ℕ, Nat.suc, Nat._≤_, Char.code}
 use lib.{Dec.leb, Dec.ltb, Dec.eqb, ListN.length, ListN.drop, ListN.getD}
 use Rattle.fields.specs.{Limits.maxRow, Limits.maxFile, declared.fault.CueFault.CueFault, Split.lines, Split.behind, Split.fields, Split.field}
 use Rattle.fields.specs.{Children.allNames}
@@ -19,6 +19,12 @@ isCueNumber x = leb 1 (length x) && (leb (length x) 5 && (not (eqb (getD x 0 0) 
 -- the children of a cue line
 abbrev pub children : Text → List Text
 children l = drop 3 (fields l)
+
+-- a line that is a cue's: it has its three fields, and no more children than the limit
+pub record CueFits (l : Text) : Type 0 where
+  pub enough : 3 ≤ length (fields l)
+  pub few : length (children l) ≤ maxRow
+  pub short : length l ≤ maxFile
 
 -- a line behind one with the number p: its own number, or what is wrong with it
 abbrev pub cueLine : ℕ → Text → CueLine

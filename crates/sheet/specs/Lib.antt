@@ -6,11 +6,10 @@
 --   Sheet      the lines of a sheet, what is wrong with one, and what they read into
 --   Listing    the lines of a listing, the answer and the buffer after
 --   RefusalLine   the line that is printed on a refusal
--- Number, Put and Coded hold what the proofs of the writer need: digits, bytes put into a buffer, verdicts kept as bytes.
+-- Number and Coded hold what the proofs of the writer need: digits, and verdicts kept as bytes.
 pub mod Cues
 pub mod Sheet
 pub mod Number
-pub mod Put
 pub mod Listing
 pub mod RefusalLine
 pub mod Coded

@@ -3,7 +3,8 @@
 ghost use mathlib.Core.{Path._≡_, List._++_};
 ghost use Prim.Native.Nat.{_≤_};
 ghost use lib.ListN.{length, drop};
-ghost use Rattle.sheet.specs.{RefusalLine.refusalHead, RefusalLine.refusalLine, RefusalLine.listedRefusal, Put.Put};
+ghost use Rattle.fields.specs.Put.{Put};
+ghost use Rattle.sheet.specs.{RefusalLine.refusalHead, RefusalLine.refusalLine, RefusalLine.listedRefusal};
 use crate::line::put;
 use crate::line::put_number;
 use crate::listing::Listed;

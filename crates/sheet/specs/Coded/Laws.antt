@@ -17,7 +17,8 @@ use Rattle.model.specs.{Syntax.numberIn, Fault.Answer, Fault.refused, Fault.acc
 use Rattle.model.specs.{Syntax.Number.number-below}
 use Rattle.sheet.specs.{declared.line.Said.Said, declared.sheet.Entry.Entry, declared.sheet.Sheet.Sheet, Cues.children, Cues.cuesRead}
 use Rattle.sheet.specs.{Sheet.Walk.Loaded, declared.sheet.SheetFault.SheetFault, declared.sheet.SheetOutcome.SheetOutcome}
-use Rattle.sheet.specs.{declared.cues.CuesRead.CuesRead, Put.Put, Put.CueFits}
+use Rattle.fields.specs.Put.{Put}
+use Rattle.sheet.specs.{declared.cues.CuesRead.CuesRead, Cues.CueFits}
 use Rattle.sheet.specs.declared.line.Said.the-variants.{Complete, Open, Dead, NoSheet}
 use Rattle.sheet.specs.Sheet.{kind, sheetOutcome, sheetBy, sheetRead}
 use Rattle.sheet.specs.declared.sheet.SheetOutcome.the-variants.{Read, Refused as SheetIsRefused}

@@ -8,7 +8,7 @@ use borrow.Author.Tests.{ltb-true, ltb-false}
 use Rattle.fields.specs.{Tests.by-test, Bytes.Text, Bytes.digits, declared.split.Heads.Heads, Split.lineFeed, Split.tab, Split.fields, Split.part}
 use Rattle.fields.specs.{Heads.headsOf}
 use Rattle.fields.specs.Heads.Laws.{fields-few, fields-three, Three}
-use Rattle.sheet.specs.{declared.line.Said.Said, Cues.children, Put.CueFits, Listing.word, Listing.listingLine}
+use Rattle.sheet.specs.{declared.line.Said.Said, Cues.children, Cues.CueFits, Listing.word, Listing.listingLine}
 use Rattle.sheet.specs.declared.line.Said.the-variants.{Complete, Open, Dead, NoSheet}
 
 module _ (l : Text) (h : Heads) where

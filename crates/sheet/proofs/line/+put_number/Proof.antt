@@ -2,7 +2,7 @@
 use Prim.Native.Nat.{_+_, _%_, ℕ, _<_}
 use lib.ListN.{length}
 use Rattle.sheet.specs.Number.{digits-one, digits-more, length-one, length-more}
-use Rattle.sheet.specs.Put.Laws.{put-one, put-then, put-ends}
+use Rattle.fields.specs.Put.Laws.{put-one, put-then, put-ends}
 use borrow.{Author.Needs.needs, Fn.Kinds.In}
 use borrow.Fn.PlainCycle.{Measures, is, falls, and}
 use native.Mathlib.Omega.{arith}

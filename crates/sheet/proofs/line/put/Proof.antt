@@ -3,7 +3,7 @@ use mathlib.Core.Path.{_≡_, refl, sym, ap, _∙_}
 use Prim.Native.Nat.{_+_, _-_, _≤_}
 use native.Mathlib.{Numerals.add-one, Omega.arith}
 use lib.{ListN.length, ListN.set, ListN.getD, Seq.paste, Seq.paste-zero, Seq.paste-suc}
-use Rattle.sheet.specs.Put.Laws.{put-whole}
+use Rattle.fields.specs.Put.Laws.{put-whole}
 use borrow.Author.Needs.{needs}
 use Rattle.sheet.proofs.line.put.Statement.{statement}
 use Rattle.sheet.proofs.line.put.Tie as tie

@@ -3,7 +3,8 @@ use mathlib.Core.Path.{_≡_, sym, _∙_}
 use Prim.Native.Nat.{_≤_}
 use lib.ListN.{length}
 use Rattle.fields.specs.Heads.Laws.{Three}
-use Rattle.sheet.specs.{Cues.children, Cues.Laws.children-count, Put.Laws.put-then, Put.Laws.put-ends}
+use Rattle.fields.specs.{Put.Laws.put-then, Put.Laws.put-ends}
+use Rattle.sheet.specs.{Cues.children, Cues.Laws.children-count}
 use Rattle.sheet.specs.Listing.Laws.{cue-three, piecesLength, line-is, line-sum, word-sum}
 use native.Mathlib.Omega.{arith}
 use borrow.Author.Needs.{needs}

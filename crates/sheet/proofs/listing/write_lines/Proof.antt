@@ -3,9 +3,10 @@ use mathlib.Core.{Path._≡_, List._++_}
 use Prim.Native.Nat.{_+_, _-_, _≤_}
 use lib.ListN.{length, drop}
 use Rattle.fields.specs.{Bytes.Text, Split.lines, Split.part}
-use Rattle.sheet.specs.{Listing.listingLine, Put.Begun, Coded.AtLine, Coded.Cue, Coded.listingCoded}
+use Rattle.fields.specs.Put.{Begun}
+use Rattle.sheet.specs.{Listing.listingLine, Coded.AtLine, Coded.Cue, Coded.listingCoded}
 use Rattle.sheet.specs.Coded.Laws.{before-first, before-cue, coded-next, coded-end}
-use Rattle.sheet.specs.Put.Laws.{begun-none, begun-length, begun-all, piece-fits, piece-room, piece-put}
+use Rattle.fields.specs.Put.Laws.{begun-none, begun-length, begun-all, piece-fits, piece-room, piece-put}
 use borrow.Author.Needs.{needs}
 use native.Mathlib.Omega.{arith}
 use Rattle.sheet.proofs.listing.write_lines.Statement.{statement}

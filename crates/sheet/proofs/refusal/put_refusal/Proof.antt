@@ -2,7 +2,8 @@
 use Prim.Native.Nat.{_+_, _≤_}
 use lib.ListN.{length}
 use Rattle.fields.specs.Bytes.{digits}
-use Rattle.sheet.specs.{Put.Laws.put-then, Put.Laws.put-ends, RefusalLine.refusalHead, RefusalLine.Laws.pieces-fit, RefusalLine.Laws.line-pieces}
+use Rattle.fields.specs.{Put.Laws.put-then, Put.Laws.put-ends}
+use Rattle.sheet.specs.{RefusalLine.refusalHead, RefusalLine.Laws.pieces-fit, RefusalLine.Laws.line-pieces}
 use native.Mathlib.Omega.{arith}
 use borrow.Author.Needs.{needs}
 use Rattle.sheet.proofs.refusal.put_refusal.Statement.{statement}

@@ -1,5 +1,5 @@
 -- What was put at the beginning.
-use Rattle.sheet.specs.Put.Laws.{put-ends, put-first}
+use Rattle.fields.specs.Put.Laws.{put-ends, put-first}
 use native.Mathlib.Omega.{arith}
 use borrow.Author.Needs.{needs}
 use Rattle.sheet.proofs.refusal.refusal_line.Statement.{statement}

@@ -3,14 +3,7 @@ pub mod Laws
 use mathlib.Core.{Path._≡_, List._++_}
 use Prim.Native.Nat.{ℕ, _+_, _≤_}
 use lib.ListN.{length, take, drop}
-use Rattle.fields.specs.{Bytes.Text, Limits.maxRow, Limits.maxFile, Split.fields}
-use Rattle.sheet.specs.Cues.{children}
-
--- a line that is a cue's: it has its three fields, and no more children than the limit
-pub record CueFits (l : Text) : Type 0 where
-  pub enough : 3 ≤ length (fields l)
-  pub few : length (children l) ≤ maxRow
-  pub short : length l ≤ maxFile
+use Rattle.fields.specs.Bytes.{Text}
 
 pub record Put (old new : Text) (at : ℕ) (s : Text) (end : ℕ) : Type 0 where
   pub fits : at + length s ≤ length old

@@ -5,8 +5,7 @@ use native.Mathlib.{Omega.arith, Numerals.add-one}
 use lib.ListN.{length, take, drop, set, length-append, length-take, length-drop, drop-of-length-le}
 use lib.Seq.{take-at, drop-at, drop-drop, set-split, paste, take-length, take-all, take-add}
 use borrow.Rule.Slice.PartMut.{putMid}
-use Rattle.fields.specs.Bytes.{Text}
-use Rattle.sheet.specs.Put.{Put, Begun}
+use Rattle.fields.specs.{Bytes.Text, Put.Put, Put.Begun}
 
 pub put-length : {old new : Text} {at : ℕ} {s : Text} {end : ℕ} → Put old new at s end → length new ≡ length old
 put-length {old} {new} {at} {s} {end} p =
