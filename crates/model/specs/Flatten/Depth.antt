@@ -13,7 +13,7 @@ use Rattle.model.specs.Flatten.{groupsAround, membersAround, depth}
 use Rattle.model.specs.Flatten.Solid.{Solid, SolidAll}
 
 -- the greatest of two lists, and of numbers that are one more
-highest-append : (l m : List ℕ) → highest (l ++ m) ≡ max (highest l) (highest m)
+pub highest-append : (l m : List ℕ) → highest (l ++ m) ≡ max (highest l) (highest m)
 highest-append [] m = omega arith
 highest-append (d ∷ l) m = omega (arith, highest-append l m)
 
@@ -75,7 +75,7 @@ module _ {A : Type 0} where
       ap highest (members-deeper ts 0) ∙ highest-one-more (membersAround ts 0) (members-atom ts s 0 (h .1) (omega (arith, h .0)))
 
   -- no deeper
-  abbrev deepestIn : List (Tree A) → ℕ
+  abbrev pub deepestIn : List (Tree A) → ℕ
   deepestIn [] = 0
   deepestIn (t ∷ l) = max (deepest t) (deepestIn l)
 
@@ -83,7 +83,7 @@ module _ {A : Type 0} where
   members-inside (marked m (leaf a)) = omega arith
   members-inside (marked m (group s ts)) = rw (members-deeper ts 0) (highest-more (membersAround ts 0) .0)
 
-  gathered-inside : (s : Sign) (l : List (Tree A)) → deepestOf (gathered s l) ≤ deepestIn l
+  pub gathered-inside : (s : Sign) (l : List (Tree A)) → deepestOf (gathered s l) ≤ deepestIn l
   gathered-inside s [] = omega arith
   gathered-inside s (t ∷ l) =
       let h = gathered-inside s l in
@@ -91,7 +91,7 @@ module _ {A : Type 0} where
       (λ f. rw f (omega (arith, deepest-append (membersOf t) (gathered s l), members-inside t, h)))
       (λ f. rw f (omega (arith, deepest-first t (gathered s l), h)))))
 
-  grouped-inside : (s : Sign) (ts : Members A) → deepest (grouped s ts) ≤ suc (deepestOf ts)
+  pub grouped-inside : (s : Sign) (ts : Members A) → deepest (grouped s ts) ≤ suc (deepestOf ts)
   grouped-inside s none = omega arith
   grouped-inside s (t ▹ none) = omega (arith, deepest-first t none)
   grouped-inside s (t ▹ u ▹ ts) = rw (members-deeper (t ▹ u ▹ ts) 0) (highest-more (membersAround (t ▹ u ▹ ts) 0) .1)

@@ -10,11 +10,11 @@ use Rattle.model.specs.Tree.Leaves.{length-leaves}
 use Rattle.model.specs.Flatten.{_⧺_, isNil, someNil, merges, membersOf, gathered, grouped, over, droppedMark, flattenNode, flatten, flattenAll}
 
 module _ {A : Type 0} where
-  abbrev listLeaves : List (Tree A) → List A
+  abbrev pub listLeaves : List (Tree A) → List A
   listLeaves [] = []
   listLeaves (t ∷ l) = leaves t ++ listLeaves l
 
-  append-leaves : (ts us : Members A) → membersLeaves (ts ⧺ us) ≡ membersLeaves ts ++ membersLeaves us
+  pub append-leaves : (ts us : Members A) → membersLeaves (ts ⧺ us) ≡ membersLeaves ts ++ membersLeaves us
   append-leaves none us = refl
   append-leaves (t ▹ ts) us = rw (append-leaves ts us, append-assoc)
 
@@ -27,7 +27,7 @@ module _ {A : Type 0} where
   merged-leaves s (marked m (leaf a)) e = absurd (false≢true e)
   merged-leaves s (marked m (group r ts)) e = refl
 
-  gathered-leaves : (s : Sign) (l : List (Tree A)) → membersLeaves (gathered s l) ≡ listLeaves l
+  pub gathered-leaves : (s : Sign) (l : List (Tree A)) → membersLeaves (gathered s l) ≡ listLeaves l
   gathered-leaves s [] = refl
   gathered-leaves s (t ∷ l) =
       by-test (isNil t)
@@ -36,7 +36,7 @@ module _ {A : Type 0} where
       (λ j. rw (e, j, append-leaves (membersOf t) (gathered s l), merged-leaves s t j, gathered-leaves s l))
       (λ j. rw (e, j, gathered-leaves s l)))
 
-  grouped-leaves : (s : Sign) (ts : Members A) → leaves (grouped s ts) ≡ membersLeaves ts
+  pub grouped-leaves : (s : Sign) (ts : Members A) → leaves (grouped s ts) ≡ membersLeaves ts
   grouped-leaves s none = refl
   grouped-leaves s (t ▹ none) = sym (append-nil (leaves t))
   grouped-leaves s (t ▹ u ▹ ts) = refl

@@ -18,32 +18,32 @@ use Rattle.model.specs.Flatten.{flattenNode, flatten, flattenAll}
 use Rattle.model.specs.Flatten.{Map.flatten-number, Merges.merged-some}
 
 -- the words of members, joined from the right
-abbrev Together : Operator → List Ty → Language
+abbrev pub Together : Operator → List Ty → Language
 Together o [] = Neutral o
 Together o (A ∷ l) = Joined o (Holds A) (Together o l)
 
-from-together : (o : Operator) (A : Ty) (l : List Ty) → Same (Holds (joinedFrom o A l)) (Together o (A ∷ l))
+pub from-together : (o : Operator) (A : Ty) (l : List Ty) → Same (Holds (joinedFrom o A l)) (Together o (A ∷ l))
 from-together o A [] = back (neutral-right o (Holds A))
 from-together o A (B ∷ l) = thus (from-together o (join o A B) l) (joined-assoc o (Holds A) (Holds B) (Together o l))
 
 -- what stays where `()` is dropped, or is not: the empty row of a choice
-abbrev Dropped : Operator → Bool → Language → Language
+abbrev pub Dropped : Operator → Bool → Language → Language
 Dropped sequence b P = P
 Dropped choice b P = cond b (Joined choice Empty P) P
 Dropped interleaving b P = P
 
-dropped-same : (o : Operator) (b : Bool) {P Q : Language} → Same P Q → Same (Dropped o b P) (Dropped o b Q)
+pub dropped-same : (o : Operator) (b : Bool) {P Q : Language} → Same P Q → Same (Dropped o b P) (Dropped o b Q)
 dropped-same sequence b f = f
 dropped-same choice true f = joined-same choice (itself Empty) f
 dropped-same choice false f = f
 dropped-same interleaving b f = f
 
-dropped-not : (o : Operator) (P : Language) → Same (Dropped o false P) P
+pub dropped-not : (o : Operator) (P : Language) → Same (Dropped o false P) P
 dropped-not sequence P = itself P
 dropped-not choice P = itself P
 dropped-not interleaving P = itself P
 
-one-empty : (P : Language) → Same (Joined choice Empty P) (Joined choice Empty (Joined choice Empty P))
+pub one-empty : (P : Language) → Same (Joined choice Empty P) (Joined choice Empty (Joined choice Empty P))
 one-empty P w = (inr, ⊎-elim inl (λ h. h))
 
 -- a `()` in front is dropped
@@ -54,7 +54,7 @@ dropped-nil choice false P = itself (Joined choice Empty P)
 dropped-nil interleaving b P = back (neutral-left interleaving P)
 
 -- any other member in front stays
-dropped-behind : (o : Operator) (b : Bool) (P Q : Language) → Same (Dropped o b (Joined o P Q)) (Joined o P (Dropped o b Q))
+pub dropped-behind : (o : Operator) (b : Bool) (P Q : Language) → Same (Dropped o b (Joined o P Q)) (Joined o P (Dropped o b Q))
 dropped-behind sequence b P Q = itself (Joined sequence P Q)
 dropped-behind choice true P Q =
     λ w. (⊎-elim (λ e. inr (inl e)) (⊎-elim inl (λ q. inr (inr q))), ⊎-elim (λ p. inr (inl p)) (⊎-elim inl (λ q. inr (inr q))))
@@ -76,12 +76,12 @@ dropped-all Choice = λ w. (⊎-elim inl inl, ⊎-elim inl (λ h. absurd h))
 dropped-all Interleaving = itself Empty
 
 -- marks
-marked-same : (m : Mark) (T U : Ty) → Same (Holds T) (Holds U) → Same (Holds (markedType m T)) (Holds (markedType m U))
+pub marked-same : (m : Mark) (T U : Ty) → Same (Holds T) (Holds U) → Same (Holds (markedType m T)) (Holds (markedType m U))
 marked-same Plain T U f = f
 marked-same Optional T U f = joined-same choice (itself Empty) f
 
 -- `?` in the place of another mark
-optional-over : (m : Mark) (T : Ty) → Same (Holds (markedType Optional T)) (Holds (markedType Optional (markedType m T)))
+pub optional-over : (m : Mark) (T : Ty) → Same (Holds (markedType Optional T)) (Holds (markedType Optional (markedType m T)))
 optional-over Plain T = itself (Joined choice Empty (Holds T))
 optional-over Optional T = one-empty (Holds T)
 
@@ -92,14 +92,14 @@ module _ {A : Type 0} where
       (λ j. omega (arith, rw (j, merged-some s t n j .2) at h))
       (λ j. omega (arith, rw j at h))
 
-  none-left : (s : Sign) (t : Tree A) (l : List (Tree A)) → size (gathered s (t ∷ l)) ≡ 0 → someNil (t ∷ l) ≡ true
+  pub none-left : (s : Sign) (t : Tree A) (l : List (Tree A)) → size (gathered s (t ∷ l)) ≡ 0 → someNil (t ∷ l) ≡ true
   none-left s t l h = by-test (isNil t) (λ e. rw e) (λ e. absurd (with-some s t (gathered s l) e (rw e at h)))
 
 module _ {A : Type 0} (f : A → Ty) where
   abbrev rows : Tree A → Language
   rows t = Holds (typeWith f t)
 
-  abbrev treeTypes : List (Tree A) → List Ty
+  abbrev pub treeTypes : List (Tree A) → List Ty
   treeTypes [] = []
   treeTypes (t ∷ l) = typeWith f t ∷ treeTypes l
 
@@ -111,7 +111,7 @@ module _ {A : Type 0} (f : A → Ty) where
       (back (joined-assoc o (rows t) (Together o (typesWith f ts)) (Together o (typesWith f us))))
 
   -- `()` has the empty row alone
-  nil-rows : (t : Tree A) → isNil t ≡ true → Same Empty (rows t)
+  pub nil-rows : (t : Tree A) → isNil t ≡ true → Same Empty (Holds (typeWith f t))
   nil-rows (marked m (leaf a)) e = absurd (false≢true e)
   nil-rows (marked Plain (group s none)) e = itself Empty
   nil-rows (marked Optional (group s none)) e = absurd (false≢true e)
@@ -134,7 +134,7 @@ module _ {A : Type 0} (f : A → Ty) where
       rw (j, e) (thus (append-rows o (u ▹ ts) us) (joined-same o (back (from-together o (typeWith f u) (typesWith f ts))) (itself T))))
       (λ j. rw j (itself (Joined o (rows t) T)))
 
-  gathered-rows : (s : Sign) (l : List (Tree A))
+  pub gathered-rows : (s : Sign) (l : List (Tree A))
       → Same (Dropped (operator s) (someNil l) (Together (operator s) (typesWith f (gathered s l)))) (Together (operator s) (treeTypes l))
   gathered-rows s [] = dropped-not (operator s) (Neutral (operator s))
   gathered-rows s (t ∷ l) =
@@ -151,7 +151,7 @@ module _ {A : Type 0} (f : A → Ty) where
   grouped-rows s t (u ▹ ts) = from-together (operator s) (typeWith f t) (typesWith f (u ▹ ts))
 
   -- b: some member was dropped, as it must where none is left
-  left-rows : (s : Sign) (b : Bool) (ts : Members A) → (size ts ≡ 0 → b ≡ true)
+  pub left-rows : (s : Sign) (b : Bool) (ts : Members A) → (size ts ≡ 0 → b ≡ true)
       → Same (Holds (markedType (droppedMark s b) (typeWith f (grouped s ts)))) (Dropped (operator s) b (Together (operator s) (typesWith f ts)))
   left-rows s b none h = rw (h refl) (dropped-all s)
   left-rows s b (t ▹ ts) h = thus (dropped-marked s b (typeWith f (grouped s (t ▹ ts)))) (dropped-same (operator s) b (grouped-rows s t ts))

@@ -1,0 +1,59 @@
+-- The tests of `oneAt`, in its order.
+use Prim.Native.Nat.{_≤_}
+use native.Mathlib.Omega.{arith}
+use borrow.Author.Tests.{eq-eqb, ne-eqb}
+use lib.ListN.{length}
+use Rattle.canonical.specs.Writer.Place.Ends.{name-inside, AtomEnds, ended-inside, kept-by}
+use borrow.Author.Needs.{needs}
+use Rattle.canonical.proofs.atom.kept_end.Statement.{statement}
+use Rattle.canonical.proofs.atom.kept_end.Tie as tie
+
+-- behind the two calls
+abbrev entry : tie.After-count-end → tie.Start
+entry c = c .before .before .before
+
+ends : (c : tie.After-count-end) → AtomEnds (entry c .args .text .now) (entry c .args .at) (c .before .name-end .result) (c .count-end .result)
+ends c = record { name-is = c .before .name-end .ensures; count-is = c .count-end .ensures }
+
+inside : (c : tie.After-count-end) → (c .before .name-end .result ≤ c .count-end .result) × (c .count-end .result ≤ length (entry c .args .text .now))
+inside c = ended-inside (ends c) (entry c .pre)
+
+count-end-requires : tie.Need-count-end-requires
+count-end-requires c κs = rw (c .name-end .ensures) (name-inside (c .before .before .args .text .now) (c .before .before .args .at) (c .before .before .pre))
+
+add-if1 : tie.Need-add-if1
+add-if1 c = omega (arith, inside c)
+
+shared-slice-read-if2 : tie.Need-shared-slice-read-if2
+shared-slice-read-if2 c = omega (arith, inside (c .before .before))
+
+shared-slice-read-if2-2 : tie.Need-shared-slice-read-if2-2
+shared-slice-read-if2-2 c = omega (arith, inside (c .before .before .before))
+
+returns : tie.Need-returns
+returns c =
+    let t = c .before .before .before in
+    rw (kept-by (ends (t .before)), eq-eqb _ _ (t .if1 .taken), c .if2 .taken)
+
+returns-2 : tie.Need-returns-2
+returns-2 c =
+    let t = c .before .before .before in
+    rw (kept-by (ends (t .before)), eq-eqb _ _ (t .if1 .taken), c .if2 .left)
+
+returns-3 : tie.Need-returns-3
+returns-3 c = rw (kept-by (ends (c .before)), ne-eqb _ _ (c .if1 .left))
+
+pub kept-end-spec : {M : Type 1} → statement M
+kept-end-spec =
+    tie.close
+    (tie.spec
+    (λ c κs. search needs)
+    count-end-requires
+    add-if1
+    (λ c. search needs)
+    shared-slice-read-if2
+    (λ c. search needs)
+    shared-slice-read-if2-2
+    returns
+    returns-2
+    returns-3)

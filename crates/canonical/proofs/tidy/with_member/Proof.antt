@@ -1,0 +1,90 @@
+-- The tests of `withMemberBy`, in its order.
+use mathlib.Core.Path.{refl}
+use native.Mathlib.Omega.{arith}
+use borrow.Author.{Needs.needs, Tests.eq-eqb, Tests.ne-eqb}
+use Rattle.canonical.proofs.tidy.with_member.Statement.{statement}
+use Rattle.canonical.proofs.tidy.with_member.Tie as tie
+
+-- behind the calls, and where the member is known to be no `()`
+abbrev called : tie.After-struct-known6 → tie.After-least-with
+called c = c .before .before .before
+
+abbrev some : tie.After-least-with → tie.Else1
+some c = c .before .before .before .before .before
+
+abbrev entry : tie.After-struct-known6 → tie.Start
+entry c = some (called c) .before .before .before
+
+-- where the member joins, and where its head is put on the stack
+abbrev joined : tie.After-struct-known8 → tie.Then2
+joined c = c .before .before
+
+abbrev put : tie.After-packed → tie.Else2
+put c = c .before .before
+
+returns : tie.Need-returns
+returns c = rw (eq-eqb _ _ (c .before .if1 .taken)) (c .without .ensures, refl)
+
+add-t15 : tie.Need-add-t15
+add-t15 c = omega (arith, entry (joined c .before) .pre)
+
+sub-t16 : tie.Need-sub-t16
+sub-t16 c = omega (arith, entry (joined (c .before) .before) .pre)
+
+add-t17 : tie.Need-add-t17
+add-t17 c = omega (arith, entry (joined (c .before .before) .before) .pre)
+
+returns-2 : tie.Need-returns-2
+returns-2 c =
+    let j = joined (c .before .before) in
+    let k = called (j .before) in
+    rw (ne-eqb _ _ (some k .if1 .left), j .if2 .taken)
+    (cc (k .before .before .before .remarked .ensures, k .before .nullable-with .ensures, k .least-with .ensures), refl)
+
+sub-top : tie.Need-sub-top
+sub-top c = omega (arith, entry (c .before .before) .pre)
+
+packed-requires : tie.Need-packed-requires
+packed-requires c κs = entry (c .before .before) .pre .small
+
+mul-stack : tie.Need-mul-stack
+mul-stack c = omega (arith, entry (put c .before) .pre)
+
+element-write-stack : tie.Need-element-write-stack
+element-write-stack c = omega (arith, entry (put c .before) .pre)
+
+add-t23 : tie.Need-add-t23
+add-t23 c = omega (arith, entry (put (c .before) .before) .pre)
+
+add-t24 : tie.Need-add-t24
+add-t24 c = omega (arith, entry (put (c .before .before .before) .before) .pre)
+
+returns-3 : tie.Need-returns-3
+returns-3 c =
+    let p = c .before .before .before in
+    let k = called (put p .before) in
+    rw (ne-eqb _ _ (some k .if1 .left), put p .if2 .left) (
+      cc (k .before .before .before .remarked .ensures, k .before .nullable-with .ensures, k .least-with .ensures),
+      (p .packed .result, p .packed .ensures, refl),
+    )
+
+pub with-member-spec : {M : Type 1} → statement M
+with-member-spec =
+    tie.close
+    (tie.spec
+    (λ c κs. search needs)
+    returns
+    (λ c κs. search needs)
+    (λ c κs. search needs)
+    (λ c κs. search needs)
+    add-t15
+    sub-t16
+    add-t17
+    returns-2
+    sub-top
+    packed-requires
+    mul-stack
+    element-write-stack
+    add-t23
+    add-t24
+    returns-3)

@@ -1,0 +1,46 @@
+-- The ends: what is proved of the one way to write a model. Each proof is a citation.
+use mathlib.Core.{Path._≡_, Logic._↔_, Logic._⊎_, Bool.true, List.List, List.[]}
+use Prim.Native.Nat.{ℕ, _≤_}
+use Rattle.fields.specs.{Bytes.Text, Tests.Tells}
+use Rattle.model.specs.{Word.Word, Types.Holds, Model.typeWith, Flatten.nil, Flatten.flatten, Flatten.depth, Fault.Answers, Fault.accepted}
+use Rattle.model.specs.Syntax.{Syntax}
+use Rattle.canonical.specs.{Tidy.treeNullable, Tidy.tidy, Tidy.Meaning.meaning, Tidy.Nullable.tree-nullable, Tidy.Flattened.tidy-flatten, Tidy.Form.Neat}
+use Rattle.canonical.specs.Order.{notAfter, smallest, Smallest.smallest-first, Smallest.smallest-in}
+use Rattle.canonical.specs.Canonical.{canonical, canonicalText, HoldsNames, WriteReply, wrote, writeReply, Writes}
+use Rattle.canonical.specs.Canonical.{Rows.canonical-rows, Fixed.canonical-twice, Fixed.canonical-neat, Depth.canonical-depth}
+use Rattle.canonical.specs.Canonical.{Accepted.canonical-accepted, Reply.held-same, Reply.writes-is, Reply.again}
+
+-- Document 02, W4: the canonical text of an accepted text is accepted, as the canonical tree, and that has the same rows of names as written.
+pub text-accepted : (x : Text) (t : Syntax) → Answers x (accepted t) → Answers (canonicalText t) (accepted (canonical t))
+text-accepted = canonical-accepted
+
+pub same-rows : (x : Text) (t : Syntax) → Answers x (accepted t) → (w : List Text) → HoldsNames (canonical t) w ↔ HoldsNames t w
+same-rows = held-same
+
+-- the same whatever numbers the names have, of every tree
+pub same-words : (ν : Text → ℕ) (t : Syntax) (w : Word) → Holds (typeWith (meaning ν) (canonical t)) w ↔ Holds (typeWith (meaning ν) t) w
+same-words = canonical-rows
+
+-- to write the canonical tree again changes nothing, and it is no deeper
+pub written-twice : (t : Syntax) → canonical (canonical t) ≡ canonical t
+written-twice = canonical-twice
+
+pub no-deeper : (t : Syntax) → depth (canonical t) ≤ depth t
+no-deeper = canonical-depth
+
+-- What the definitions mean: `()` or a neat tree is left; to flatten first is no stage of its own; a tree is nullable just where it holds the empty row.
+pub left : (t : Syntax) → (canonical t ≡ nil) ⊎ Neat (canonical t)
+left = canonical-neat
+
+pub flattened-first : (t : Syntax) → tidy (flatten t) ≡ tidy t
+flattened-first = tidy-flatten
+
+pub nullable-tree : (ν : Text → ℕ) (t : Syntax) → Tells (treeNullable t) (Holds (typeWith (meaning ν) t) [])
+nullable-tree = tree-nullable
+
+-- The reply of `write_model`, by the table, and of the text that it wrote: the same bytes.
+pub writes-exactly : (x : Text) (k : ℕ) (r : WriteReply) → Writes x k r ↔ (r ≡ writeReply x k)
+writes-exactly = writes-is
+
+pub writes-again : (x y : Text) (k : ℕ) → wrote y ≡ writeReply x k → wrote y ≡ writeReply y k
+writes-again = again

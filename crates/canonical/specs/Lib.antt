@@ -1,0 +1,11 @@
+-- What the writer of models promises. Open Ends first: the theorems, each a citation. Then the definitions; a folder beside a file holds the laws of what
+-- the file defines.
+--   Tidy       a tree with its counts and marks in one way
+--   Order      the members of `|` and `&` in one order
+--   Canonical  the one way to write a model, and what the writer answers
+-- Writer holds what the proofs of the code need.
+pub mod Ends
+pub mod Tidy
+pub mod Order
+pub mod Canonical
+pub mod Writer

@@ -1,0 +1,91 @@
+-- Counts and marks in one way, and the flattening that goes on by them: document 02, W4, but for the order of members. The pieces are those of
+-- `Flatten`.
+pub mod Meaning
+pub mod Nullable
+pub mod Rows
+pub mod Flattened
+pub mod Form
+pub mod Flat
+pub mod Leaves
+pub mod Formed
+use mathlib.Core.{Bool.Bool, Bool.true, Bool.false, Bool.cond, Bool.not, Bool._&&_, Bool._||_, List.List, List.[], List._∷_, List.map}
+use Prim.Native.Nat.{ℕ}
+use lib.Dec.{eqb, leb}
+use Rattle.fields.specs.Bytes.{Text, bytes, value}
+use Rattle.model.specs.{declared.rule.Sign.Sign, declared.rule.Mark.Mark}
+use Rattle.model.specs.declared.rule.Mark.the-variants.{Plain, Optional}
+use Rattle.model.specs.Tree.{Node, leaf, group, Tree, marked, Members, none, _▹_, isPlain}
+use Rattle.model.specs.Syntax.{Count, unwritten, between, onward, Spelling, Syntax}
+use Rattle.model.specs.Flatten.{isChoice, isNil, gathered, grouped, droppedMark}
+
+-- the lower count is 0
+abbrev pub fromZero : Count → Bool
+fromZero unwritten = false
+fromZero (between m n) = eqb (value m) 0
+fromZero (onward m) = eqb (value m) 0
+
+abbrev pub raised : Text → Text
+raised m = cond (eqb (value m) 0) (bytes "1") m
+
+-- `[0..n]` as `[1..n]`, and `[1..1]` left out
+abbrev pub tidyCount : Count → Count
+tidyCount unwritten = unwritten
+tidyCount (between m n) = cond (leb (value m) 1 && eqb (value n) 1) unwritten (between (raised m) n)
+tidyCount (onward m) = onward (raised m)
+
+abbrev pub tidyAtom : Spelling → Spelling
+tidyAtom a = record { name = a .name; count = tidyCount (a .count) }
+
+-- the empty row is held
+abbrev mutual
+  pub nodeNullable : Node Spelling → Bool
+  nodeNullable (leaf a) = fromZero (a .count)
+  nodeNullable (group s ts) = groupNullable ts s
+
+  pub groupNullable : Members Spelling → Sign → Bool
+  groupNullable none s = true
+  groupNullable (t ▹ ts) s = cond (isChoice s) (treeNullable t || someNullable ts) (treeNullable t && allNullable ts)
+
+  pub treeNullable : Syntax → Bool
+  treeNullable (marked m n) = not (isPlain m) || nodeNullable n
+
+  pub allNullable : Members Spelling → Bool
+  allNullable none = true
+  allNullable (t ▹ ts) = treeNullable t && allNullable ts
+
+  pub someNullable : Members Spelling → Bool
+  someNullable none = false
+  someNullable (t ▹ ts) = treeNullable t || someNullable ts
+
+-- a `?` takes the place of the mark that is there, and is dropped where the empty row is held without it
+abbrev pub marking : Mark → Syntax → Syntax
+marking Plain t = t
+marking Optional (marked m n) = marked (cond (nodeNullable n) Plain Optional) n
+
+-- in a choice, a member's `?` is moved to the choice
+abbrev pub stripped : Sign → Syntax → Syntax
+stripped s (marked m n) = marked (cond (isChoice s) Plain m) n
+
+-- a member that is `()`, or has a `?`
+abbrev pub gives : Syntax → Bool
+gives (marked m n) = isNil (marked m n) || not (isPlain m)
+
+abbrev pub someGives : List Syntax → Bool
+someGives [] = false
+someGives (t ∷ l) = gives t || someGives l
+
+-- a group of tidied members
+abbrev pub settled : Sign → List Syntax → Syntax
+settled s l = marking (droppedMark s (someGives l)) (grouped s (gathered s (map (stripped s) l)))
+
+abbrev mutual
+  pub tidyNode : Node Spelling → Syntax
+  tidyNode (leaf a) = marked (cond (fromZero (a .count)) Optional Plain) (leaf (tidyAtom a))
+  tidyNode (group s ts) = settled s (tidyAll ts)
+
+  pub tidy : Syntax → Syntax
+  tidy (marked m n) = marking m (tidyNode n)
+
+  pub tidyAll : Members Spelling → List Syntax
+  tidyAll none = []
+  tidyAll (t ▹ ts) = tidy t ∷ tidyAll ts

@@ -1,0 +1,277 @@
+-- One member more of a group keeps what is known.
+use mathlib.Core.{Path._≡_, Path.refl, Path.sym, Path.ap, Path.ap₂, Path._∙_, Path.subst, Logic._⊎_, Logic.inl, Logic.inr, Logic.⊎-elim}
+use mathlib.Core.{Bool.Bool, Bool.true, Bool.false, Bool.cond, Bool.not, Bool._&&_, Bool._||_, Bool.or-true, Bool.or-false, Bool.and-true, Bool.false≢true, List.List, List.[], List._∷_, List._++_, List.map, List.map-append, List.append-nil}
+use Prim.Native.{Nat.ℕ, Nat.zero, Nat.suc, Nat._+_, Nat._-_, Nat._≤_, Nat._<_, Char.code}
+use native.Mathlib.Omega.{arith}
+use lib.{Dec.eqb, ListN.length}
+use borrow.Author.Tests.{eq-eqb, ne-eqb, eqb-true}
+use Rattle.fields.specs.{Bytes.Text, Tests.by-test}
+use Rattle.model.specs.{declared.rule.Sign.Sign, declared.rule.Mark.Mark, Fault.nameFrom}
+use Rattle.model.specs.declared.rule.Mark.the-variants.{Plain, Optional}
+use Rattle.model.specs.Tree.{leaf, group, marked, Members, none, _▹_, size, nodes, leaves, membersWeight, membersLeaves, isPlain}
+use Rattle.model.specs.Flatten.{_⧺_, nil, isNil, isChoice, merges, membersOf, gathered}
+use Rattle.model.specs.Flatten.Leaves.{append-leaves, merged-leaves}
+use Rattle.model.specs.Flatten.Merges.{merged}
+use Rattle.model.specs.Syntax.{Spelling, Syntax, writtenNames}
+use Rattle.canonical.specs.{declared.tidy.Tidied.Tidied, declared.tidy.Gathered.Gathered, Order.notAfter, Order.lesser, Order.smallest}
+use Rattle.canonical.specs.Order.Smallest.{smallest-append}
+use Rattle.canonical.specs.Tidy.{nodeNullable, treeNullable, someNullable, allNullable, groupNullable, stripped, gives}
+use Rattle.canonical.specs.Writer.Tidied.{remarkedBy, lesserBy, bothBy, withMemberBy, keeps, joins}
+use Rattle.canonical.specs.Writer.Keeps.{signByte, signCode, isMarked, nullableNode, Proper, Least, Keeps, KeepsAll}
+use Rattle.canonical.specs.Writer.Keeps.Laws.{choice-byte, same-byte, no-atom, keeps-marked}
+use Rattle.canonical.specs.Writer.Stack.Laws.{append-none}
+
+-- the smaller of two names is that of both lists
+name-if : (x : Text) (b : Bool) (p q : ℕ) → nameFrom x (cond b p q) ≡ cond b (nameFrom x p) (nameFrom x q)
+name-if x true p q = refl
+name-if x false p q = refl
+
+least-append : (x : Text) (k l : List Text) (p q : ℕ) → Least x p k → Least x q l → Least x (lesserBy x p q) (k ++ l)
+least-append x [] l p q h i = absurd h
+least-append x (n ∷ k) [] p q h i = absurd i
+least-append x (n ∷ k) (m ∷ l) p q h i =
+    name-if x (notAfter (nameFrom x p) (nameFrom x q)) p q ∙ rw (h, i) (sym (smallest-append n k m l))
+
+pub size-append : (ts us : Members Spelling) → size (ts ⧺ us) ≡ size ts + size us
+size-append none us = omega arith
+size-append (t ▹ ts) us = omega (arith, size-append ts us)
+
+pub weight-append : (ts us : Members Spelling) → membersWeight 1 1 (ts ⧺ us) ≡ membersWeight 1 1 ts + membersWeight 1 1 us
+weight-append none us = omega arith
+weight-append (t ▹ ts) us = omega (arith, weight-append ts us)
+
+-- members that hold the empty row, before others that are some
+some-append : (ts us : Members Spelling) → someNullable (ts ⧺ us) ≡ (someNullable ts || someNullable us)
+some-append none us = refl
+some-append (t ▹ ts) us = by-test (treeNullable t) (λ e. rw e) (λ e. rw e (some-append ts us))
+
+all-append : (ts us : Members Spelling) → allNullable (ts ⧺ us) ≡ (allNullable ts && allNullable us)
+all-append none us = refl
+all-append (t ▹ ts) us = by-test (treeNullable t) (λ e. rw e (all-append ts us)) (λ e. rw e)
+
+some-group : (s : Sign) (ts : Members Spelling) → 0 < size ts → groupNullable ts s ≡ cond (isChoice s) (someNullable ts) (allNullable ts)
+some-group s none h = absurd (omega arith)
+some-group s (t ▹ ts) h = refl
+
+nullable-append : (s : Sign) (ts us : Members Spelling) → 0 < size ts → 0 < size us
+    → groupNullable (ts ⧺ us) s ≡ bothBy (signByte s) (groupNullable ts s) (groupNullable us s)
+nullable-append s ts us h k =
+    rw (choice-byte s, some-group s ts h, some-group s us k, some-group s (ts ⧺ us) (omega (arith, size-append ts us)), some-append ts us, all-append ts us)
+    (by-test (isChoice s) (λ e. rw e) (λ e. rw e))
+
+-- the members ws behind us, where n, k, b, p are kept of ws
+module _ {x : Text} (s : Sign) {us : Members Spelling} {v : Bool} {g : Gathered} (h : KeepsAll x s us v g) (ws : Members Spelling) (n k p : ℕ) (b : Bool)
+    (w : Bool) (last : Tidied) (top : ℕ) where
+  abbrev more : Gathered
+  more =
+      record {
+        last = last;
+        given = w;
+        members = g .members + n;
+        nullable = cond (eqb (g .members) 0) b (bothBy (signByte s) (g .nullable) b);
+        size = g .size + k;
+        least = cond (eqb (g .members) 0) p (lesserBy x (g .least) p);
+        top = top;
+      }
+
+  module _ (some : 0 < size ws) where
+    -- the first members, or more behind others
+    first : (us ≡ none) → eqb (g .members) 0 ≡ true
+    first e = eq-eqb (g .members) 0 (h .members-are ∙ ap size e)
+
+    later : 0 < size us → eqb (g .members) 0 ≡ false
+    later i = ne-eqb (g .members) 0 (λ e. omega (arith, h .members-are))
+
+    none-or : (ts : Members Spelling) → (ts ≡ none) ⊎ (0 < size ts)
+    none-or none = inl refl
+    none-or (t ▹ ts) = inr (omega arith)
+
+    nullable-both : b ≡ groupNullable ws s → more .nullable ≡ groupNullable (us ⧺ ws) s
+    nullable-both e =
+        ⊎-elim
+        (λ i. rw (first i, i) e)
+        (λ i. rw (later i, e, h .all-nullable i) (sym (nullable-append s us ws i some)))
+        (none-or us)
+
+    least-both : Least x p (map (λ a. a .name) (membersLeaves ws)) → Least x (more .least) (map (λ a. a .name) (membersLeaves (us ⧺ ws)))
+    least-both e =
+        ⊎-elim
+        (λ i. rw (first i, i) e)
+        (λ i. rw (later i, append-leaves us ws, map-append)
+        (least-append x (map (λ a. a .name) (membersLeaves us)) (map (λ a. a .name) (membersLeaves ws)) (g .least) p (h .all-least i) e))
+        (none-or us)
+
+    lesser-inside : (b : Bool) (q : ℕ) → q ≤ length x → p ≤ length x → cond b q p ≤ length x
+    lesser-inside true q i j = i
+    lesser-inside false q i j = j
+
+    least-inside : p ≤ length x → more .least ≤ length x
+    least-inside e =
+        lesser-inside′ (eqb (g .members) 0) (lesserBy x (g .least) p) (lesser-inside (notAfter (nameFrom x (g .least)) (nameFrom x p)) (g .least) (h .within) e) e
+      where
+        lesser-inside′ : (c : Bool) (q : ℕ) → q ≤ length x → p ≤ length x → cond c p q ≤ length x
+        lesser-inside′ true q i j = j
+        lesser-inside′ false q i j = i
+
+    keeps-more : n ≡ size ws → k ≡ membersWeight 1 1 ws → b ≡ groupNullable ws s → p ≤ length x
+        → Least x p (map (λ a. a .name) (membersLeaves ws)) → ((u : Syntax) → us ⧺ ws ≡ u ▹ none → Keeps x u last) → KeepsAll x s (us ⧺ ws) w more
+    keeps-more n-is k-is b-is inside least-is last-is =
+        record {
+          given-is = refl;
+          members-are = omega (arith, h .members-are, n-is, size-append us ws);
+          nodes-are = omega (arith, h .nodes-are, k-is, weight-append us ws);
+          within = least-inside inside;
+          all-nullable = λ i. nullable-both b-is;
+          all-least = λ i. least-both least-is;
+          last-is = last-is;
+        }
+
+-- What becomes of a member without the mark that a choice takes.
+kept-mark : (c : Bool) (m : Mark) → isPlain (cond c Plain m) ≡ not (not (isPlain m) && not c)
+kept-mark true Plain = refl
+kept-mark true Optional = refl
+kept-mark false Plain = refl
+kept-mark false Optional = refl
+
+kept-nullable : (c : Bool) (m : Mark) (b : Bool) → (b || (not (isPlain m) && not c)) ≡ (not (isPlain (cond c Plain m)) || b)
+kept-nullable true Plain true = refl
+kept-nullable true Plain false = refl
+kept-nullable true Optional true = refl
+kept-nullable true Optional false = refl
+kept-nullable false Plain true = refl
+kept-nullable false Plain false = refl
+kept-nullable false Optional true = refl
+kept-nullable false Optional false = refl
+
+pub kept-marked : (c : Bool) (m : Mark) → (not (isPlain m) && not c) ≡ not (isPlain (cond c Plain m))
+kept-marked true Plain = refl
+kept-marked true Optional = refl
+kept-marked false Plain = refl
+kept-marked false Optional = refl
+
+kept-plain : (c : Bool) (m : Mark) → m ≡ Plain → cond c Plain m ≡ Plain
+kept-plain true m e = refl
+kept-plain false m e = e
+
+abbrev markIn : Syntax → Mark
+markIn (marked m n) = m
+
+module _ {x : Text} (s : Sign) {t : Tidied} where
+  pub stripped-some : (u : Syntax) → Keeps x u t → Proper x u (t .least) → isNil (stripped s u) ≡ false
+  stripped-some (marked m (leaf a)) k p = refl
+  stripped-some (marked m (group r none)) k p = absurd (omega (arith, p .0))
+  stripped-some (marked m (group r (w ▹ ws))) k p = refl
+
+  pub signed : (u : Syntax) → Keeps x u t → Proper x u (t .least) → eqb (t .sign) 0 ≡ false
+  signed (marked m (leaf a)) k p = ne-eqb (t .sign) 0 (λ e. omega (arith, k .sign-is))
+  signed (marked m (group r ts)) k p = ne-eqb (t .sign) 0 (λ e. omega (arith, k .sign-is, p .1))
+
+  pub joins-merges : (u : Syntax) → Keeps x u t → joins (signByte s) t ≡ merges s (stripped s u)
+  joins-merges (marked m (leaf a)) k = rw (k .sign-is, no-atom s)
+  joins-merges (marked m (group r ts)) k = rw (k .sign-is, k .marked-is, same-byte r s, choice-byte s, kept-mark (isChoice s) m)
+
+  nullable-kept : (u : Syntax) → Keeps x u t → (t .nullable || keeps (signByte s) t) ≡ treeNullable (stripped s u)
+  nullable-kept (marked m n) k = rw (k .nullable-is, k .marked-is, choice-byte s) (kept-nullable (isChoice s) m (nodeNullable n))
+
+  stripped-keeps : (u : Syntax) → Keeps x u t → Keeps x (stripped s u) (remarkedBy (keeps (signByte s) t) t)
+  stripped-keeps (marked m n) k =
+      keeps-marked (cond (isChoice s) Plain m) (keeps (signByte s) t)
+      (rw (k .marked-is, choice-byte s) (kept-marked (isChoice s) m)) (marked m n) (λ e. kept-plain (isChoice s) m (ap markIn e)) k
+
+abbrev firstOf : Members Spelling → Syntax → Syntax
+firstOf none u = u
+firstOf (t ▹ ts) u = t
+
+-- A member that is dropped.
+pub stripped-nil : (s : Sign) → stripped s nil ≡ nil
+stripped-nil s = by-test (isChoice s) (λ e. rw e) (λ e. rw e)
+
+proper-some : (x : Text) (u : Syntax) (p : ℕ) → Proper x u p → isNil u ≡ false
+proper-some x (marked m (leaf a)) p i = refl
+proper-some x (marked m (group r none)) p i = absurd (omega (arith, i .0))
+proper-some x (marked m (group r (w ▹ ws))) p i = refl
+
+stripped-leaves : (s : Sign) (u : Syntax) → leaves (stripped s u) ≡ leaves u
+stripped-leaves s (marked m n) = refl
+
+pub stripped-members : (s : Sign) (u : Syntax) → membersOf (stripped s u) ≡ membersOf u
+stripped-members s (marked m (leaf a)) = refl
+stripped-members s (marked m (group r ts)) = refl
+
+merged-two : (x : Text) (s : Sign) (u : Syntax) (p : ℕ) → Proper x u p → merges s (stripped s u) ≡ true → 2 ≤ size (membersOf u)
+merged-two x s (marked m (leaf a)) p i e = absurd (false≢true e)
+merged-two x s (marked m (group r ts)) p i e = i .0
+
+pub merged-nodes : (s : Sign) (u : Syntax) → merges s (stripped s u) ≡ true → nodes u ≡ suc (membersWeight 1 1 (membersOf u))
+merged-nodes s (marked m (leaf a)) e = absurd (false≢true e)
+merged-nodes s (marked m (group r ts)) e = omega arith
+
+pub stripped-nodes : (s : Sign) (u : Syntax) → nodes (stripped s u) ≡ nodes u
+stripped-nodes s (marked m n) = refl
+
+one-nullable : (s : Sign) (w : Syntax) → groupNullable (w ▹ none) s ≡ treeNullable w
+one-nullable s w = by-test (isChoice s) (λ e. rw (e, or-false)) (λ e. rw (e, and-true))
+
+module _ {x : Text} (s : Sign) {us : Members Spelling} {v : Bool} {g : Gathered} (h : KeepsAll x s us v g) (t : Tidied) where
+  abbrev Added : Syntax → Type 0
+  Added u = KeepsAll x s (us ⧺ gathered s (stripped s u ∷ [])) (v || gives u) (withMemberBy x g (signByte s) t)
+
+  dropped : (u : Syntax) → Keeps x u t → u ≡ nil → Added u
+  dropped u k e =
+      let z : eqb (t .sign) 0 ≡ true = eq-eqb (t .sign) 0 (k .sign-is ∙ ap signCode e) in
+      let w : gathered s (stripped s u ∷ []) ≡ none = ap (λ (y : Syntax). gathered s (y ∷ [])) (ap (stripped s) e ∙ stripped-nil s) in
+      let i : gives u ≡ true = ap gives e in
+      rw (w, append-none us, i, or-true, z)
+      record {
+        given-is = refl;
+        members-are = h .members-are;
+        nodes-are = h .nodes-are;
+        within = h .within;
+        all-nullable = h .all-nullable;
+        all-least = h .all-least;
+        last-is = h .last-is;
+      }
+
+  given-kept : (u : Syntax) → Keeps x u t → isNil u ≡ false → (g .given || t .marked) ≡ (v || gives u)
+  given-kept (marked m n) k e = rw (h .given-is, k .marked-is, e)
+
+  only-one : (w u : Syntax) → us ⧺ (w ▹ none) ≡ u ▹ none → w ≡ u
+  only-one w u e = go us e
+    where
+      go : (ts : Members Spelling) → ts ⧺ (w ▹ none) ≡ u ▹ none → w ≡ u
+      go none e = ap (λ (ts : Members Spelling). firstOf ts w) e
+      go (t ▹ ts) e = absurd (omega (arith, ap size e, size-append ts (w ▹ none)))
+
+  -- a member that stays
+  stays : (u : Syntax) → Keeps x u t → Proper x u (t .least) → Least x (t .least) (writtenNames u) → merges s (stripped s u) ≡ false → Added u
+  stays u k p l e =
+      let z = signed s u k p in
+      let n = stripped-some s u k p in
+      let j = joins-merges s u k ∙ e in
+      rw (n, e, z, j, ← given-kept u k (proper-some x u (t .least) p))
+      (keeps-more s h (stripped s u ▹ none) 1 (t .size) (t .least) (t .nullable || keeps (signByte s) t) (g .given || t .marked)
+      (remarkedBy (keeps (signByte s) t) t) (t .top - 1) (omega arith)
+      refl (omega (arith, k .size-is, stripped-nodes s u)) (nullable-kept s u k ∙ sym (one-nullable s (stripped s u))) (k .least-inside)
+      (rw (append-nil, stripped-leaves s u) l)
+      (λ w i. subst (λ (y : Syntax). Keeps x y (remarkedBy (keeps (signByte s) t) t)) (only-one (stripped s u) w i) (stripped-keeps s u k)))
+
+  -- a group that joins
+  merges-in : (u : Syntax) → Keeps x u t → Proper x u (t .least) → Least x (t .least) (writtenNames u) → merges s (stripped s u) ≡ true → Added u
+  merges-in u k p l e =
+      let w = stripped s u in
+      let z = signed s u k p in
+      let n = stripped-some s u k p in
+      let j = joins-merges s u k ∙ e in
+      let c = merged-two x s u (t .least) p e in
+      rw (n, e, z, j, append-none (membersOf (stripped s u)), stripped-members s u, ← given-kept u k (proper-some x u (t .least) p))
+      (keeps-more s h (membersOf u) (t .members) (t .size - 1) (t .least) (t .nullable || keeps (signByte s) t) (g .given || t .marked)
+      (remarkedBy (keeps (signByte s) t) t) (t .top) (omega (arith, c))
+      (k .members-is) (omega (arith, k .size-is, merged-nodes s u e))
+      (nullable-kept s u k ∙ ap treeNullable (merged s w e) ∙ ap (λ (ts : Members Spelling). groupNullable ts s) (stripped-members s u))
+      (k .least-inside)
+      (rw (← stripped-members s u, merged-leaves s w e, stripped-leaves s u) l)
+      (λ y i. absurd (omega (arith, c, ap size i, size-append us (membersOf u)))))
+
+  pub keeps-member : (u : Syntax) → Keeps x u t → Added u
+  keeps-member u k =
+      ⊎-elim (dropped u k) (λ (p, l). by-test (merges s (stripped s u)) (merges-in u k p l) (stays u k p l)) (k .kind-is)

@@ -1,0 +1,144 @@
+-- One member more on the stack.
+use mathlib.Core.{Path._≡_, Path.refl, Path.sym, Path.ap, Path.ap₂, Path._∙_, Path.subst, Logic._⊎_, Logic.inl, Logic.inr, Logic.⊎-elim}
+use mathlib.Core.{Bool.Bool, Bool.true, Bool.false, Bool.cond, Bool.not, Bool._&&_, Bool._||_, Bool.true≢false, Bool.false≢true, List.List, List.[], List._∷_, List._++_, List.map, List.map-append}
+use Prim.Native.{Nat.ℕ, Nat.zero, Nat.suc, Nat._+_, Nat._-_, Nat._≤_, Nat._<_, Char.code}
+use native.Mathlib.Omega.{arith}
+use lib.{Dec.eqb, ListN.length, ListN.drop, ListN.set, ListN.getD, ListN.length-set}
+use lib.Seq.{drop-cons, getD-set-same, drop-set-lt}
+use borrow.Author.Tests.{eq-eqb, ne-eqb}
+use Rattle.fields.specs.{Bytes.Text, Tests.by-test}
+use Rattle.model.specs.{declared.rule.Sign.Sign, declared.rule.Mark.Mark}
+use Rattle.model.specs.declared.rule.Mark.the-variants.{Plain, Optional}
+use Rattle.model.specs.Tree.{leaf, group, marked, Members, none, _▹_, size, nodes, membersWeight, isPlain}
+use Rattle.model.specs.Flatten.{_⧺_, nil, isNil, isChoice, merges, membersOf, withMember, gathered}
+use Rattle.model.specs.Syntax.{Spelling, Syntax, writtenNames}
+use Rattle.canonical.specs.{declared.tidy.Tidied.Tidied, declared.tidy.Gathered.Gathered, Writer.Head.headIn}
+use Rattle.canonical.specs.Tidy.{stripped, gives, someGives, tidy, tidyAll}
+use Rattle.canonical.specs.Writer.Tidied.{withMemberBy, keeps, joins, StackedBy}
+use Rattle.canonical.specs.Writer.Keeps.{signByte, signCode, Proper, Least, Keeps}
+use Rattle.canonical.specs.Writer.Keeps.Laws.{withMark, choice-byte}
+use Rattle.canonical.specs.Writer.Keeps.Member.{stripped-nil, stripped-some, stripped-members, stripped-nodes, signed, joins-merges, merged-nodes, weight-append, kept-marked}
+use Rattle.canonical.specs.Writer.Stack.{stacked, markIf, treesOn, Heads}
+use Rattle.canonical.specs.Writer.Stack.Laws.{append-none, stacked-append}
+use Rattle.canonical.specs.Writer.Stack.Push.{push}
+use Rattle.canonical.specs.Writer.Recursion.{OnStack, gatheredOf}
+
+-- Members one behind the other.
+pub append-assoc : (ts us ws : Members Spelling) → (ts ⧺ us) ⧺ ws ≡ ts ⧺ (us ⧺ ws)
+append-assoc none us ws = refl
+append-assoc (t ▹ ts) us ws = ap (λ (l : Members Spelling). t ▹ l) (append-assoc ts us ws)
+
+with-append : (s : Sign) (t : Syntax) (us ws : Members Spelling) → withMember s t (us ⧺ ws) ≡ withMember s t us ⧺ ws
+with-append s t us ws = by-test (merges s t) (λ e. rw e (sym (append-assoc (membersOf t) us ws))) (λ e. rw e)
+
+gathered-append : (s : Sign) (l m : List Syntax) → gathered s (l ++ m) ≡ gathered s l ⧺ gathered s m
+gathered-append s [] m = refl
+gathered-append s (t ∷ l) m =
+    by-test (isNil t)
+    (λ e. rw e (gathered-append s l m))
+    (λ e. rw (e, gathered-append s l m) (with-append s t (gathered s l) (gathered s m)))
+
+tidy-append : (ts us : Members Spelling) → tidyAll (ts ⧺ us) ≡ tidyAll ts ++ tidyAll us
+tidy-append none us = refl
+tidy-append (t ▹ ts) us = ap (λ (l : List Syntax). tidy t ∷ l) (tidy-append ts us)
+
+pub gathered-more : (s : Sign) (ts : Members Spelling) (u : Syntax)
+    → gatheredOf s (ts ⧺ (u ▹ none)) ≡ gatheredOf s ts ⧺ gathered s (stripped s (tidy u) ∷ [])
+gathered-more s ts u = rw (tidy-append ts (u ▹ none), map-append) (gathered-append s (map (stripped s) (tidyAll ts)) (stripped s (tidy u) ∷ []))
+
+gives-append : (l : List Syntax) (t : Syntax) → someGives (l ++ (t ∷ [])) ≡ (someGives l || gives t)
+gives-append [] t = by-test (gives t) (λ e. rw e) (λ e. rw e)
+gives-append (u ∷ l) t = by-test (gives u) (λ e. rw e) (λ e. rw e (gives-append l t))
+
+pub given-more : (ts : Members Spelling) (u : Syntax) → someGives (tidyAll (ts ⧺ (u ▹ none))) ≡ (someGives (tidyAll ts) || gives (tidy u))
+given-more ts u = ap someGives (tidy-append ts (u ▹ none)) ∙ gives-append (tidyAll ts) (tidy u)
+
+-- a number on top of a stack that grows down
+pub on-top : (stack : List ℕ) (top w : ℕ) → 0 < top → top ≤ length stack → drop (top - 1) (set stack (top - 1) w) ≡ w ∷ drop top stack
+on-top stack top w h k =
+    let e : suc (top - 1) ≡ top = omega arith in
+    drop-cons (set stack (top - 1) w) (top - 1) w (rw length-set (omega arith))
+    ∙ rw (getD-set-same stack (top - 1) w w (omega arith), drop-set-lt (suc (top - 1)) stack (top - 1) w (omega arith), e)
+
+-- The stack, where the trees behind the members us are l.
+pub record Stepped (x : Text) (us : Members Spelling) (l : List Syntax) (old new : List ℕ) (top end : ℕ) : Type 0 where
+  pub entries : length new ≡ length old
+  pub top-is : end + membersWeight 1 1 us ≡ top
+  pub trees-are : treesOn x (drop end new) ≡ stacked us l
+  pub heads : Heads x (drop end new)
+
+abbrev markIn : Syntax → Mark
+markIn (marked m n) = m
+
+pub mark-kept : (b : Bool) (m : Mark) → b ≡ not (isPlain m) → markIf b ≡ m
+mark-kept true Plain e = absurd (true≢false e)
+mark-kept true Optional e = refl
+mark-kept false Plain e = refl
+mark-kept false Optional e = absurd (false≢true e)
+
+-- a head keeps the mark but in a choice
+head-tree : {x : Text} (s : Sign) (u : Syntax) {t : Tidied} → Keeps x u t → withMark (markIf (keeps (signByte s) t)) u ≡ stripped s u
+head-tree s (marked m n) {t} k =
+    ap (λ (j : Mark). marked j n)
+    (mark-kept (keeps (signByte s) t) (cond (isChoice s) Plain m) (rw (k .marked-is, choice-byte s) (kept-marked (isChoice s) m)))
+
+-- the members of u stand on those of the group, which are us
+pub record Beside (x : Text) (us : Members Spelling) (l : List Syntax) (stack : List ℕ) (u : Syntax) (top end : ℕ) : Type 0 where
+  pub below : end + nodes u ≡ top + 1
+  pub trees : treesOn x (drop end stack) ≡ stacked (membersOf u) (stacked us l)
+  pub known : Heads x (drop end stack)
+
+module _ (x : Text) (s : Sign) (us : Members Spelling) (g : Gathered) (t : Tidied) (l : List Syntax) (mid new : List ℕ) where
+  abbrev pub After : Syntax → Type 0
+  After u = Stepped x (us ⧺ gathered s (stripped s u ∷ [])) l mid new (g .top + membersWeight 1 1 us) (withMemberBy x g (signByte s) t .top)
+
+  nil-stepped : (u : Syntax) → Keeps x u t → u ≡ nil → Beside x us l mid u (g .top) (t .top) → StackedBy mid new (signByte s) t → After u
+  nil-stepped u k e h st =
+      let z : eqb (t .sign) 0 ≡ true = eq-eqb (t .sign) 0 (k .sign-is ∙ ap signCode e) in
+      let w : gathered s (stripped s u ∷ []) ≡ none = ap (λ (y : Syntax). gathered s (y ∷ [])) (ap (stripped s) e ∙ stripped-nil s) in
+      let n : new ≡ mid = rw z at st in
+      let q : t .top ≡ g .top = omega (arith, h .below, ap nodes e) in
+      rw (w, append-none us, z)
+      record {
+        entries = ap length n;
+        top-is = refl;
+        trees-are = rw (n, ← q) (h .trees ∙ ap (λ (ts : Members Spelling). stacked ts (stacked us l)) (ap membersOf e));
+        heads = rw (n, ← q) (h .known);
+      }
+
+  joined-stepped : (u : Syntax) → Keeps x u t → Proper x u (t .least) → merges s (stripped s u) ≡ true → Beside x us l mid u (g .top) (t .top) → StackedBy mid new (signByte s) t → After u
+  joined-stepped u k p e h st =
+      let z = signed s u k p in
+      let j = joins-merges s u k ∙ e in
+      let n : new ≡ mid = rw (z, j) at st in
+      rw (stripped-some s u k p, e, append-none (membersOf (stripped s u)), stripped-members s u, z, j)
+      record {
+        entries = ap length n;
+        top-is = omega (arith, h .below, merged-nodes s u e, weight-append us (membersOf u));
+        trees-are = rw n (h .trees ∙ sym (stacked-append us (membersOf u) l));
+        heads = rw n (h .known);
+      }
+
+  stays-stepped : (u : Syntax) → Keeps x u t → Proper x u (t .least) → Least x (t .least) (writtenNames u) → merges s (stripped s u) ≡ false
+      → 0 < t .top → t .top ≤ length mid → Beside x us l mid u (g .top) (t .top) → StackedBy mid new (signByte s) t → After u
+  stays-stepped u k p n e i r h st =
+      let z = signed s u k p in
+      let j = joins-merges s u k ∙ e in
+      let (w, head, new-is) = rw (z, j) at st in
+      let d = ap (drop (t .top - 1)) new-is ∙ on-top mid (t .top) w i r in
+      let q = push (keeps (signByte s) t) w head (drop (t .top) mid) (stacked us l) u k p n (h .trees) (h .known) in
+      rw (stripped-some s u k p, e, z, j)
+      record {
+        entries = ap length new-is ∙ length-set mid (t .top - 1) w;
+        top-is = omega (arith, h .below, stripped-nodes s u, weight-append us (stripped s u ▹ none));
+        trees-are =
+            ap (treesOn x) d ∙ q .0 ∙ ap (λ (y : Syntax). y ∷ stacked us l) (head-tree s u k) ∙ sym (stacked-append us (stripped s u ▹ none) l);
+        heads = subst (Heads x) (sym d) (q .1);
+      }
+
+  pub stepped : (u : Syntax) → Keeps x u t → 0 < t .top → t .top ≤ length mid → Beside x us l mid u (g .top) (t .top) → StackedBy mid new (signByte s) t → After u
+  stepped u k i r h st =
+      ⊎-elim
+      (λ e. nil-stepped u k e h st)
+      (λ (p, n). by-test (merges s (stripped s u)) (λ e. joined-stepped u k p e h st) (λ e. stays-stepped u k p n e i r h st))
+      (k .kind-is)

@@ -1,0 +1,199 @@
+-- A turn of the loop keeps what is known.
+use mathlib.Core.{Path._≡_, Path.refl, Path.sym, Path.ap, Path._∙_, Path.subst, Logic._⊎_, Logic.inl, Logic.inr, Logic.⊎-elim}
+use mathlib.Core.{Bool.Bool, Bool.true, Bool.false, Bool._||_, Bool.false≢true, List.List, List.[], List._∷_, List._++_}
+use Prim.Native.{Nat.ℕ, Nat.zero, Nat.suc, Nat._+_, Nat._-_, Nat._≤_, Nat._<_, Char.code}
+use native.Mathlib.Omega.{arith}
+use lib.ListN.{length, drop, getD}
+use Rattle.fields.specs.{Bytes.Text, Tests.by-test}
+use Rattle.model.specs.declared.rule.Sign.{Sign}
+use Rattle.model.specs.declared.rule.Sign.the-variants.{None, Sequence, Choice, Interleaving}
+use Rattle.model.specs.Tree.{leaf, group, marked, Members, none, _▹_, size, nodes, membersWeight, SignFits}
+use Rattle.model.specs.Flatten.{_⧺_, isNil, merges, membersOf, gathered}
+use Rattle.model.specs.Flatten.Merges.{merged}
+use Rattle.model.specs.Syntax.{Spelling, Syntax, text}
+use Rattle.canonical.specs.{declared.tidy.Tidied.Tidied, declared.tidy.Gathered.Gathered, Tidy.stripped, Tidy.gives, Tidy.someGives, Tidy.tidy, Tidy.tidyAll}
+use Rattle.canonical.specs.Writer.Tidied.{FitsOn, withMemberBy, StackedBy, signAfter, memberAfter}
+use Rattle.canonical.specs.Writer.Keeps.{signByte, signCode, Proper, Keeps, KeepsAll}
+use Rattle.canonical.specs.Writer.Keeps.Member.{size-append, weight-append, stripped-nil, stripped-some, stripped-nodes, keeps-member}
+use Rattle.canonical.specs.Writer.Stack.{stacked, treesOn}
+use Rattle.canonical.specs.Writer.Stack.Laws.{append-none}
+use Rattle.canonical.specs.Writer.Recursion.{TidiedAt, Walking, Looping, gatheredOf}
+use Rattle.canonical.specs.Writer.Recursion.Place.{drop-behind}
+use Rattle.canonical.specs.Writer.Recursion.Stepped.{append-assoc, gathered-more, given-more, Stepped, stepped}
+use Rattle.canonical.specs.Writer.Recursion.Group.{Turn, Behind, behind-member, behindGroup, size-parts, weight-parts, more-signed, last-signed, splits-here, sign-some, tree-begins, member-stands, formed-others}
+
+-- nodes are no fewer than members
+size-weight : (ts : Members Spelling) → size ts ≤ membersWeight 1 1 ts
+size-weight none = omega arith
+size-weight (marked m (leaf a) ▹ ts) = omega (arith, size-weight ts)
+size-weight (marked m (group s us) ▹ ts) = omega (arith, size-weight ts)
+
+members-nodes : (u : Syntax) → size (membersOf u) < nodes u
+members-nodes (marked m (leaf a)) = omega arith
+members-nodes (marked m (group s ts)) = omega (arith, size-weight ts)
+
+members-weight : (u : Syntax) → membersWeight 1 1 (membersOf u) ≤ nodes u
+members-weight (marked m (leaf a)) = omega arith
+members-weight (marked m (group s ts)) = omega arith
+
+one-weight : (s : Sign) (w : Syntax) → membersWeight 1 1 (gathered s (w ∷ [])) ≤ nodes w
+one-weight s w =
+    by-test (isNil w) (λ e. rw e (omega arith)) (λ e. by-test (merges s w)
+    (λ j. rw (e, j, append-none (membersOf w)) (members-weight w))
+    (λ j. rw (e, j) (omega arith)))
+
+pub sign-small : (u : Syntax) → signCode u < 128
+sign-small (marked m (leaf a)) = omega arith
+sign-small (marked m (group None ts)) = omega arith
+sign-small (marked m (group Sequence ts)) = omega arith
+sign-small (marked m (group Choice ts)) = omega arith
+sign-small (marked m (group Interleaving ts)) = omega arith
+
+-- one member is several only where it joins a group that has a sign
+joined-signed : (x : Text) (s : Sign) (u : Syntax) (p : ℕ) → Proper x u p → merges s (stripped s u) ≡ true → 0 < signByte s
+joined-signed x s (marked m (leaf a)) p h e = absurd (false≢true e)
+joined-signed x s (marked m (group r ts)) p h e = subst (λ (q : Sign). 0 < signByte q) (ap groupSign (merged s (stripped s (marked m (group r ts))) e)) (h .1)
+  where
+    groupSign : Syntax → Sign
+    groupSign (marked k (leaf a)) = None
+    groupSign (marked k (group q us)) = q
+
+one-signed : {x : Text} (s : Sign) (u : Syntax) {t : Tidied} → Keeps x u t → 2 ≤ size (gathered s (stripped s u ∷ [])) → 0 < signByte s
+one-signed {x} s u {t} k h =
+    ⊎-elim
+    (λ e. absurd (omega (arith, h, ap (λ (y : Syntax). size (gathered s (y ∷ []))) (ap (stripped s) e ∙ stripped-nil s))))
+    (λ (p, n). by-test (merges s (stripped s u))
+    (joined-signed x s u (t .least) p)
+    (λ j. absurd (omega (arith, rw (stripped-some s u k p, j) at h))))
+    (k .kind-is)
+
+module _ {x : Text} {old new : List ℕ} {p top place sign : ℕ} {g : Gathered} (h : Looping x old new p top place sign g) (t : Turn h)
+    (mid : List ℕ) (r : Tidied) (k : TidiedAt x new mid place (g .top) r (t .member)) where
+  abbrev s : Sign
+  s = h .group-sign
+
+  abbrev done : Members Spelling
+  done = h .walking .done
+
+  behind : Behind x s (behindGroup h) (t .others) (r .next) sign
+  behind =
+      behind-member x s (behindGroup h) (t .others) (r .next) sign
+      (ap (λ n. drop n x) (k .next-is) ∙ drop-behind x (text (t .member)) _ place (splits-here h t)) (more-signed h t) (last-signed h t)
+
+  pub next-inside : r .next < length x
+  next-inside = behind .inside
+
+  -- on the stack there is room for the member's head
+  room-left : (2 ≤ r .top) × (r .top ≤ g .top)
+  room-left =
+      let w = h .walking in
+      let n : 1 ≤ nodes (tidy (t .member)) = omega (arith, members-nodes (tidy (t .member))) in (
+        omega (arith, h .room, weight-parts h t, w .few, w .top-is, k .few, k .on-stack .top-is),
+        omega (arith, n, k .on-stack .top-is),
+      )
+
+  pub member-fits : FitsOn x mid g r
+  member-fits =
+      let w = h .walking in
+      let u = tidy (t .member) in
+      record {
+        entries = k .on-stack .entries ∙ w .entries ∙ h .stack-length;
+        room = (omega (arith, room-left .0), omega (arith, room-left .1, w .top-is, h .inside));
+        few = (
+          omega (arith, w .keeps .nodes-are, k .keeps .size-is, w .few, k .few, weight-parts h t, h .room, h .inside),
+          omega (
+            arith,
+            w .keeps .members-are,
+            k .keeps .members-is,
+            size-weight (gatheredOf s done),
+            members-nodes u,
+            w .few,
+            k .few,
+            weight-parts h t,
+            h .room,
+            h .inside,
+          ),
+        );
+        some = omega (arith, k .keeps .size-is, members-nodes u);
+        inside = (w .keeps .within, k .keeps .least-inside);
+        small = omega (arith, k .keeps .sign-is, sign-small u);
+      }
+
+  -- with the sign and the place behind the member
+  abbrev sign′ : ℕ
+  sign′ = signAfter sign (getD x (r .next) 0)
+
+  abbrev place′ : ℕ
+  place′ = memberAfter (r .next) (getD x (r .next) 0)
+
+  pub further : place < place′
+  further =
+      let (b, ((y, e), z)) = tree-begins (t .member) (member-stands h t .formed) in
+      omega (arith, behind .from, k .next-is, ap length e)
+
+  several-more : 2 ≤ size (gatheredOf s (done ⧺ (t .member ▹ none))) → 0 < signByte s
+  several-more i = go done refl
+    where
+      go : (d : Members Spelling) → done ≡ d → 0 < signByte s
+      go none e =
+          one-signed s (tidy (t .member)) (k .keeps)
+          (subst (λ (d : Members Spelling). 2 ≤ size (gatheredOf s d)) (ap (λ (d : Members Spelling). d ⧺ (t .member ▹ none)) e) i)
+      go (d ▹ ds) e =
+          let n : size (h .members) ≡ suc (suc (size (h .members) - 2)) = omega (arith, size-parts h t, ap size e) in
+          sign-some s (size (h .members) - 2) (subst (SignFits s) n (h .stands .formed .0))
+
+  module _ (after : List ℕ) (st : StackedBy mid after sign′ r) where
+    on-stack : Stepped x (gatheredOf s done ⧺ gathered s (stripped s (tidy (t .member)) ∷ [])) (treesOn x (drop top old)) mid after
+        (g .top + membersWeight 1 1 (gatheredOf s done)) (withMemberBy x g (signByte s) r .top)
+    on-stack =
+        stepped x s (gatheredOf s done) g r (treesOn x (drop top old)) mid after (tidy (t .member)) (k .keeps) (member-fits .room .0)
+        (omega (arith, member-fits .room .1, member-fits .entries))
+        (record {
+          below = k .on-stack .top-is;
+          trees = k .on-stack .trees-are ∙ ap (stacked (membersOf (tidy (t .member)))) (h .walking .trees-are);
+          known = k .on-stack .heads;
+        })
+        (subst (λ n. StackedBy mid after n r) (behind .sign-is) st)
+
+    pub goes-on : Looping x old after p top place′ sign′ (withMemberBy x g sign′ r)
+    goes-on =
+        let w = h .walking in
+        let m = gathered-more s done (t .member) in
+        rw (behind .sign-is)
+        record {
+          mark = h .mark;
+          group-sign = s;
+          members = h .members;
+          stands = h .stands;
+          short = h .short;
+          stack-length = h .stack-length;
+          room = h .room;
+          inside = h .inside;
+          from = omega (arith, h .from, further);
+          walking =
+              record {
+                done = done ⧺ (t .member ▹ none);
+                left = t .others;
+                parts =
+                    w .parts ∙ ap (λ (l : Members Spelling). done ⧺ l) (t .left-is) ∙ sym (append-assoc done (t .member ▹ none) (t .others));
+                formed = formed-others h t;
+                ahead = behind .ahead;
+                sign-is = inr refl;
+                keeps = rw (m, given-more done (t .member)) (keeps-member s (w .keeps) r (tidy (t .member)) (k .keeps));
+                few =
+                    rw m (omega (
+                      arith,
+                      weight-append (gatheredOf s done) (gathered s (stripped s (tidy (t .member)) ∷ [])),
+                      weight-append done (t .member ▹ none),
+                      one-weight s (stripped s (tidy (t .member))),
+                      stripped-nodes s (tidy (t .member)),
+                      w .few,
+                      k .few,
+                    ));
+                several = several-more;
+                entries = on-stack .entries ∙ k .on-stack .entries ∙ w .entries;
+                top-is = rw m (on-stack .top-is ∙ w .top-is);
+                trees-are = rw m (on-stack .trees-are);
+                heads = on-stack .heads;
+              };
+        }

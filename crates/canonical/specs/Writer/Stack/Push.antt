@@ -1,0 +1,90 @@
+-- A tree whose members stand on the stack is put on top of them by its head.
+use mathlib.Core.{Path._≡_, Path.refl, Path.sym, Path.ap, Path.ap₂, Path._∙_, Path.subst, Bool.Bool, Bool.true, Bool.false, Bool.true≢false, Bool.false≢true, List.List, List._∷_, List.[]}
+use Prim.Native.Nat.{ℕ, _≤_, _<_}
+use native.Mathlib.Omega.{arith}
+use lib.{Dec.eqb, ListN.length, ListN.take, ListN.drop}
+use borrow.Author.Tests.{eq-eqb}
+use Rattle.fields.specs.Bytes.{Text}
+use Rattle.model.specs.{declared.rule.Sign.Sign, Fault.nameFrom}
+use Rattle.model.specs.declared.rule.Sign.the-variants.{None, Sequence, Choice, Interleaving}
+use Rattle.model.specs.Tree.{leaf, group, marked, Members, none, _▹_, size, nodes}
+use Rattle.model.specs.Flatten.{membersOf}
+use Rattle.model.specs.Syntax.{Spelling, Syntax, nodeText, signText, writtenNames}
+use Rattle.judge.specs.Packed.{signBy}
+use Rattle.canonical.specs.{declared.head.Head.Head, declared.tidy.Tidied.Tidied, Order.smallest, Order.smallestName, Writer.Head.headIn}
+use Rattle.canonical.specs.{Tidy.tidyAtom, Writer.Place.atomAt, Writer.Place.pieceAt}
+use Rattle.canonical.specs.Writer.Keeps.{signByte, Proper, Least, Keeps}
+use Rattle.canonical.specs.Writer.Keeps.Laws.{withMark}
+use Rattle.canonical.specs.Writer.Stack.{stacked, markIf, treeWith, treesOn, HeadFits, Heads}
+use Rattle.canonical.specs.Writer.Stack.Laws.{members-back, others-back, stacked-length}
+use Rattle.canonical.specs.Writer.Stack.Skip.{trees-more}
+
+sign-back : (s : Sign) → signBy (signByte s) ≡ s
+sign-back None = refl
+sign-back Sequence = refl
+sign-back Choice = refl
+sign-back Interleaving = refl
+
+group-byte : (s : Sign) → eqb (signByte s) 1 ≡ false
+group-byte None = refl
+group-byte Sequence = refl
+group-byte Choice = refl
+group-byte Interleaving = refl
+
+sign-bytes : (s : Sign) → 0 < signByte s → signText s ≡ signByte s ∷ []
+sign-bytes None h = absurd (omega arith)
+sign-bytes Sequence h = refl
+sign-bytes Choice h = refl
+sign-bytes Interleaving h = refl
+
+least-name : (x : Text) (p : ℕ) (l : List Text) → Least x p l → nameFrom x p ≡ smallest l
+least-name x p [] h = absurd h
+least-name x p (n ∷ l) h = h
+
+-- what a head holds of a tree, with another mark
+abbrev pub headOf : Bool → Tidied → Head
+headOf b r = record { sign = r .sign; marked = b; members = r .members; size = r .size; least = r .least }
+
+marked-nodes : (b : Bool) (u : Syntax) → nodes (withMark (markIf b) u) ≡ nodes u
+marked-nodes b (marked m n) = refl
+
+marked-names : (b : Bool) (u : Syntax) → smallestName (withMark (markIf b) u) ≡ smallestName u
+marked-names b (marked m n) = refl
+
+module _ {x : Text} {r : Tidied} (b : Bool) (f l : List Syntax) where
+  tree-pushed : (u : Syntax) → Keeps x u r → Proper x u (r .least) → l ≡ stacked (membersOf u) f → treeWith x (headOf b r) l ≡ withMark (markIf b) u
+  tree-pushed (marked m (leaf a)) k p e = rw (k .sign-is, p .0)
+  tree-pushed (marked m (group s ts)) k p e = rw (k .sign-is, group-byte s, sign-back s, e, k .members-is, members-back ts f)
+
+  head-pushed : (u : Syntax) → Keeps x u r → Proper x u (r .least) → Least x (r .least) (writtenNames u) → l ≡ stacked (membersOf u) f
+      → HeadFits x (headOf b r) l
+  head-pushed u k p n e =
+      let t = tree-pushed u k p e in
+      record {
+        enough = rw (e, stacked-length (membersOf u) f) (omega (arith, k .members-is));
+        size-is = k .size-is ∙ sym (ap nodes t ∙ marked-nodes b u);
+        least-is = least-name x (r .least) (writtenNames u) n ∙ sym (ap smallestName t ∙ marked-names b u);
+        least-inside = k .least-inside;
+        atom-is = atom u k p;
+        group-is = group-of u k p;
+      }
+    where
+      atom : (u : Syntax) → Keeps x u r → Proper x u (r .least) → eqb (r .sign) 1 ≡ true
+          → (r .members ≡ 0) × (pieceAt x (r .least) ≡ nodeText (leaf (tidyAtom (atomAt x (r .least)))))
+      atom (marked m (leaf a)) k p h = (k .members-is, p .1 ∙ ap (λ (a : Spelling). nodeText (leaf a)) (p .0))
+      atom (marked m (group s ts)) k p h = absurd (false≢true (sym (rw (k .sign-is) (group-byte s)) ∙ h))
+
+      group-of : (u : Syntax) → Keeps x u r → Proper x u (r .least) → eqb (r .sign) 1 ≡ false → (2 ≤ r .members) × (signText (signBy (r .sign)) ≡ r .sign ∷ [])
+      group-of (marked m (leaf a)) k p h = absurd (true≢false (sym (eq-eqb (r .sign) 1 (k .sign-is)) ∙ h))
+      group-of (marked m (group s ts)) k p h = (omega (arith, k .members-is, p .0), rw (k .sign-is, sign-back s) (sign-bytes s (p .1)))
+
+-- on the stack
+module _ {x : Text} {r : Tidied} (b : Bool) (w : ℕ) (h : headIn w ≡ headOf b r) (l : List ℕ) (f : List Syntax) where
+  pub push : (u : Syntax) → Keeps x u r → Proper x u (r .least) → Least x (r .least) (writtenNames u) → treesOn x l ≡ stacked (membersOf u) f → Heads x l
+      → (treesOn x (w ∷ l) ≡ withMark (markIf b) u ∷ f) × Heads x (w ∷ l)
+  push u k p n e i = (
+    trees-more x w l ∙ ap (λ (d : Head). treeWith x d (treesOn x l) ∷ drop (d .members) (treesOn x l)) h
+        ∙ ap₂ {C = List Syntax} (λ t r. t ∷ r) (tree-pushed b f (treesOn x l) u k p e)
+        (ap (drop (r .members)) e ∙ ap (λ n. drop n (stacked (membersOf u) f)) (k .members-is) ∙ others-back (membersOf u) f),
+    (subst (λ (d : Head). HeadFits x d (treesOn x l)) (sym h) (head-pushed b f (treesOn x l) u k p n e), i),
+  )

@@ -1,0 +1,153 @@
+-- What the code keeps of a tidied tree and of a group's members, step by step.
+use mathlib.Core.{Path._≡_, Bool.Bool, Bool.true, Bool.false, Bool.cond, Bool.not, Bool._&&_, Bool._||_, List.List}
+use Prim.Native.{Nat.ℕ, Nat._+_, Nat._-_, Nat._≤_, Nat._<_, Char.code}
+use lib.{Dec.eqb, Dec.ltb, ListN.length, ListN.set}
+use Rattle.fields.specs.Bytes.{Text}
+use Rattle.model.specs.Fault.{nameFrom, is}
+use Rattle.canonical.specs.{declared.tidy.Tidied.Tidied, declared.tidy.Gathered.Gathered, declared.head.Head.Head, Order.notAfter, Writer.Head.headIn}
+use Rattle.canonical.specs.Writer.Place.{behindAtom, zeroAt}
+
+abbrev pub remarkedBy : Bool → Tidied → Tidied
+remarkedBy m t =
+    record {
+      sign = t .sign;
+      marked = m;
+      nullable = t .nullable;
+      members = t .members;
+      size = t .size;
+      least = t .least;
+      top = t .top;
+      next = t .next;
+    }
+
+-- at another place of the stack and of the text
+abbrev pub placedAt : ℕ → ℕ → Tidied → Tidied
+placedAt top next t =
+    record {
+      sign = t .sign;
+      marked = t .marked;
+      nullable = t .nullable;
+      members = t .members;
+      size = t .size;
+      least = t .least;
+      top = top;
+      next = next;
+    }
+
+abbrev pub optionalBy : Tidied → Tidied
+optionalBy t = remarkedBy (not (t .nullable)) t
+
+-- the count from n to e begins with 0
+abbrev pub zeroBetween : Text → ℕ → ℕ → Bool
+zeroBetween x n e = ltb (n + 1) e && is x (code "0") (n + 1)
+
+abbrev pub atomBy : Text → ℕ → ℕ → Tidied
+atomBy x p top =
+    record {
+      sign = 1;
+      marked = zeroAt x p;
+      nullable = false;
+      members = 0;
+      size = 1;
+      least = p;
+      top = top;
+      next = behindAtom x p;
+    }
+
+abbrev pub nothingBy : ℕ → ℕ → Tidied
+nothingBy top next =
+    record { sign = 0; marked = false; nullable = true; members = 0; size = 1; least = 0; top = top; next = next }
+
+abbrev pub noMembers : ℕ → Gathered
+noMembers top =
+    record { last = nothingBy top 0; given = false; members = 0; nullable = true; size = 0; least = 0; top = top }
+
+abbrev pub withoutBy : Gathered → Gathered
+withoutBy g =
+    record {
+      last = g .last;
+      given = true;
+      members = g .members;
+      nullable = g .nullable;
+      size = g .size;
+      least = g .least;
+      top = g .top;
+    }
+
+abbrev pub lesserBy : Text → ℕ → ℕ → ℕ
+lesserBy x a b = cond (notAfter (nameFrom x a) (nameFrom x b)) a b
+
+-- a member keeps its mark but in a choice
+abbrev pub keeps : ℕ → Tidied → Bool
+keeps sign t = t .marked && not (eqb sign (code "|"))
+
+abbrev pub joins : ℕ → Tidied → Bool
+joins sign t = eqb (t .sign) sign && not (keeps sign t)
+
+abbrev pub headBy : ℕ → Tidied → Head
+headBy sign t = record { sign = t .sign; marked = keeps sign t; members = t .members; size = t .size; least = t .least }
+
+-- of a choice one member has to hold the empty row, of another group each
+abbrev pub bothBy : ℕ → Bool → Bool → Bool
+bothBy sign a b = cond (eqb sign (code "|")) (a || b) (a && b)
+
+abbrev pub nullableBy : ℕ → ℕ → Bool → Bool → Bool
+nullableBy members sign a b = cond (eqb members 0) b (bothBy sign a b)
+
+abbrev pub leastBy : Text → ℕ → ℕ → ℕ → ℕ
+leastBy x members p q = cond (eqb members 0) q (lesserBy x p q)
+
+abbrev pub withMemberBy : Text → Gathered → ℕ → Tidied → Gathered
+withMemberBy x g sign t =
+    cond (eqb (t .sign) 0) (withoutBy g)
+    (record {
+      last = remarkedBy (keeps sign t) t;
+      given = g .given || t .marked;
+      members = cond (joins sign t) (g .members + t .members) (g .members + 1);
+      nullable = nullableBy (g .members) sign (g .nullable) (t .nullable || keeps sign t);
+      size = cond (joins sign t) (g .size + (t .size - 1)) (g .size + t .size);
+      least = leastBy x (g .members) (g .least) (t .least);
+      top = cond (joins sign t) (t .top) (t .top - 1);
+    })
+
+-- the head of a member that stays stands on top of its members
+abbrev pub StackedBy : List ℕ → List ℕ → ℕ → Tidied → Type 0
+StackedBy old new sign t =
+    cond (eqb (t .sign) 0 || joins sign t) (new ≡ old) ((w : ℕ) × (headIn w ≡ headBy sign t) × (new ≡ set old (t .top - 1) w))
+
+-- what the step needs: room, and names inside the text
+pub record FitsOn (x : Text) (stack : List ℕ) (g : Gathered) (t : Tidied) : Type 0 where
+  pub entries : length stack ≡ 128
+  pub room : (0 < t .top) × (t .top ≤ 128)
+  pub few : (g .size + t .size ≤ 128) × (g .members + t .members < 128)
+  pub some : 0 < t .size
+  pub inside : (g .least ≤ length x) × (t .least ≤ length x)
+  pub small : t .sign < 128
+
+abbrev pub groupedBy : Gathered → ℕ → ℕ → Tidied
+groupedBy g sign next =
+    cond (eqb (g .members) 0) (nothingBy (g .top) next)
+    (cond (eqb (g .members) 1) (placedAt (g .top + 1) next (g .last))
+    (record {
+      sign = sign;
+      marked = false;
+      nullable = g .nullable;
+      members = g .members;
+      size = g .size + 1;
+      least = g .least;
+      top = g .top;
+      next = next;
+    }))
+
+abbrev pub closedBy : Gathered → ℕ → ℕ → Tidied
+closedBy g sign next = cond (eqb sign (code "|") && g .given) (optionalBy (groupedBy g sign next)) (groupedBy g sign next)
+
+abbrev pub markedBy : Text → Tidied → Tidied
+markedBy x t = cond (is x (code "?") (t .next)) (placedAt (t .top) (t .next + 1) (optionalBy t)) t
+
+-- by the byte behind a member, which is a sign or the group's end
+abbrev pub signAfter : ℕ → ℕ → ℕ
+signAfter sign b = cond (eqb b (code ")")) sign b
+
+abbrev pub memberAfter : ℕ → ℕ → ℕ
+memberAfter next b = cond (eqb b (code ")")) next (next + 1)

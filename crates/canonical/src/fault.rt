@@ -1,0 +1,22 @@
+// Why a model is not written.
+
+ghost use mathlib.Core.Path.{_≡_};
+ghost use Rattle.canonical.specs.Canonical.{writeNumber};
+use model::fault::ModelFault;
+use model::fault::model_number;
+
+// The model text's own refusal, or the text is longer than the buffer.
+pub enum WriteFault {
+    Model(ModelFault),
+    LongText,
+}
+
+// The number of a refusal: document 02's 51, and document 01's of the model text.
+pub fn write_number(fault: WriteFault) -> u32
+    ensures { λ r. ⌜ r ≡ writeNumber fault ⌝ }
+{
+    match fault {
+        WriteFault::Model(f) => model_number(f),
+        WriteFault::LongText => 51,
+    }
+}

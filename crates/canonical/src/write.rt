@@ -1,0 +1,158 @@
+// Writes a model in its one way.
+
+ghost use mathlib.Core.Path.{_≡_};
+ghost use Prim.Native.Nat.{_+_, _≤_};
+ghost use lib.ListN.{length, drop};
+ghost use Rattle.fields.specs.Put.{Put};
+ghost use Rattle.model.specs.{Answer.answer, Fault.accepted, Syntax.Syntax, Syntax.markText};
+ghost use Rattle.fields.specs.Bytes.{bytes};
+ghost use Rattle.canonical.specs.Canonical.{fitted, writeReply, writtenOf, bufferAfter};
+ghost use Rattle.canonical.specs.Writer.Accepted.{textAt, OneTree};
+ghost use Rattle.canonical.specs.Writer.{Stack.markIf, Stack.treesOn, Length.LengthReady, Length.signedLength, Lists.PutReady, Lists.TreePut};
+use crate::atom::kept_end;
+use crate::atom::put_atom;
+use crate::fault::WriteFault;
+use crate::head::Head;
+use crate::head::packed;
+use crate::head::unpacked;
+use crate::order::members;
+use crate::tidy::tidy;
+use judge::reading::Outcome;
+use judge::reading::read_model;
+use model::rule::MAX_NODES;
+
+pub enum Written {
+    Length(usize),
+    Refused(WriteFault, usize),
+}
+
+// How long the texts of the trees on the stack are, with one byte behind each.
+fn signed_length(text: &[u8], stack: &[u64; MAX_NODES], top: usize) -> usize
+    requires { ⌜ LengthReady (now text) (now stack) top ⌝ }
+    ensures { λ r. ⌜ r ≡ signedLength (treesOn (now (text .entry)) (drop top (now (stack .entry)))) ⌝ }
+{
+    let mut sum: usize = 0;
+    let mut i = top;
+    while i < MAX_NODES {
+        let head = unpacked(stack[i]);
+        let mut own: usize = 1;
+        if head.sign == 1 {
+            let at = head.least as usize;
+            own = kept_end(text, at) - at;
+        }
+        if head.marked {
+            own += 1;
+        }
+        sum += own + 1;
+        i += 1;
+    }
+    sum
+}
+
+fn put_mark(buffer: &mut [u8], to: usize, marked: bool) -> usize
+    requires { ⌜ to + length (markText (markIf marked)) ≤ length (now buffer) ⌝ }
+    ensures { λ r. ⌜ Put (now (buffer .entry)) (now (buffer .exit)) to (markText (markIf marked)) r ⌝ }
+{
+    if marked {
+        buffer[to] = b'?';
+        return to + 1;
+    }
+    to
+}
+
+// Writes the tree whose head stands at `at`. The list is free from `start` on.
+fn put_tree(
+    text: &[u8],
+    stack: &[u64; MAX_NODES],
+    list: &mut [u8; MAX_NODES],
+    buffer: &mut [u8],
+    at: usize,
+    start: usize,
+    to: usize,
+) -> usize
+    requires { ⌜ PutReady (now text) (now stack) (now list) (now buffer) at start to ⌝ }
+    ensures { λ r. ⌜ TreePut (now (text .entry)) (now (stack .entry)) (now (list .entry)) (now (list .exit)) (now (buffer .entry)) (now (buffer .exit)) at start to r ⌝ }
+{
+    let head = unpacked(stack[at]);
+    if head.sign == 1 {
+        let end = put_atom(text, buffer, head.least as usize, to);
+        return put_mark(buffer, end, head.marked);
+    }
+    let end = members(text, stack, list, at, start);
+    let mut before = b'(';
+    let mut p = to;
+    let mut k = end;
+    while start < k {
+        k -= 1;
+        let m = list[k] as usize;
+        buffer[p] = before;
+        before = head.sign;
+        p = put_tree(text, stack, list, buffer, m, end, p + 1);
+    }
+    buffer[p] = b')';
+    put_mark(buffer, p + 1, head.marked)
+}
+
+// `()`, if the buffer has room for it.
+fn write_nothing(buffer: &mut [u8]) -> Written
+    ensures { λ r. ⌜ r ≡ writtenOf (fitted (bytes "()") (length (now (buffer .entry)))) ⌝ }
+    ensures { λ r. ⌜ now (buffer .exit) ≡ bufferAfter (fitted (bytes "()") (length (now (buffer .entry)))) (now (buffer .entry)) ⌝ }
+{
+    if buffer.len() < 2 {
+        return Written::Refused(WriteFault::LongText, 0);
+    }
+    buffer[0] = b'(';
+    buffer[1] = b')';
+    Written::Length(2)
+}
+
+// The one tree on the stack, if the buffer has room for its text.
+fn write_tree(text: &[u8], stack: &[u64; MAX_NODES], top: usize, buffer: &mut [u8]) -> Written
+    requires { ⌜ OneTree (now text) (now stack) top ⌝ }
+    ensures { λ r. ⌜ r ≡ writtenOf (fitted (textAt (now (text .entry)) (now (stack .entry)) top) (length (now (buffer .entry)))) ⌝ }
+    ensures { λ r. ⌜ now (buffer .exit) ≡ bufferAfter (fitted (textAt (now (text .entry)) (now (stack .entry)) top) (length (now (buffer .entry)))) (now (buffer .entry)) ⌝ }
+{
+    let length = signed_length(text, stack, top) - 1;
+    if buffer.len() < length {
+        return Written::Refused(WriteFault::LongText, 0);
+    }
+    let mut list = [0u8; MAX_NODES];
+    put_tree(text, stack, &mut list, buffer, top, 0, 0);
+    Written::Length(length)
+}
+
+// The text of an accepted model, if the buffer has room for it.
+fn write_accepted(text: &[u8], buffer: &mut [u8]) -> Written
+    requires { ⌜ ((t : Syntax) × (answer (now text) ≡ accepted t)) ⌝ }
+    ensures { λ r. ⌜ r ≡ writtenOf (writeReply (now (text .entry)) (length (now (buffer .entry)))) ⌝ }
+    ensures { λ r. ⌜ now (buffer .exit) ≡ bufferAfter (writeReply (now (text .entry)) (length (now (buffer .entry)))) (now (buffer .entry)) ⌝ }
+{
+    let mut stack = [0u64; MAX_NODES];
+    let t = tidy(text, &mut stack, 0, MAX_NODES);
+    if t.sign == 0 {
+        return write_nothing(buffer);
+    }
+    let top = t.top - 1;
+    stack[top] = packed(Head {
+        sign: t.sign,
+        marked: t.marked,
+        members: t.members,
+        size: t.size,
+        least: t.least,
+    });
+    write_tree(text, &stack, top, buffer)
+}
+
+// Writes the model's text into the buffer and hands back its length. Or the refusal of the model text with its place, or 51: the text is longer than the
+// buffer. Bytes behind the text, and all of them on a refusal, stay as they were.
+pub fn write_model(text: &[u8], buffer: &mut [u8]) -> Written
+    ensures { λ r. ⌜ r ≡ writtenOf (writeReply (now (text .entry)) (length (now (buffer .entry)))) ⌝ }
+    ensures { λ r. ⌜ now (buffer .exit) ≡ bufferAfter (writeReply (now (text .entry)) (length (now (buffer .entry)))) (now (buffer .entry)) ⌝ }
+{
+    let reading = read_model(text);
+    let outcome = reading.outcome;
+    match outcome {
+        Outcome::Refused(f, p) => Written::Refused(WriteFault::Model(f), p),
+        Outcome::Read => write_accepted(text, buffer),
+    }
+}
