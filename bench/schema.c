@@ -7,12 +7,6 @@ enum { MOST_COPIES = 100, MOST_BYTES = TEXT_ROOM / 2 };
 
 /* ---- tags ---- */
 
-static void put_bytes(struct text *to, struct bytes b)
-{
-    for (size_t i = 0; i < b.len; i++)
-        put(to, (char[]){(char)b.at[i], 0});
-}
-
 static void open_tag(struct text *to, const char *tag, const char *attributes)
 {
     put(to, "<");

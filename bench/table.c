@@ -1,23 +1,43 @@
-/* Prints the table of desk_judge against its twin and those of desk_next and of desk_first_fault
-   against desk_judge, in Markdown. Each argument is a file with what bench.c printed at one
+/* Prints tables in Markdown: `table rows` those of desk_judge against its twin and of desk_next and
+   desk_first_fault against desk_judge, `table models` those of desk_canonical against its twin and
+   against reading. Each further argument is a file with what bench.c or canonical.c printed at one
    placement of the code; a row's figures are medians over the placements. */
 #include "measure.h"
-#include "rows.h"
+#include "rules.h"
 
 #include <stdio.h>
 #include <stdlib.h>
+#include <string.h>
 
-enum { TABLES = 3, MOST_PLACEMENTS = 64 };
+enum { MOST_TABLES = 3, MOST_ROWS = 32, MOST_PLACEMENTS = 64 };
 
-/* The heads of two columns and the ratios to reach; 0 where no other one is set for names of one
-   slot, or none for the median. */
-static const struct table {
+/* The heads of two columns and the ratios to reach; 0 where none is set, or no other one for names
+   of one slot. */
+struct table {
     const char *ns, *against;
     double limit, limit_of_one_slot, limit_of_median;
-} TABLE[TABLES] = {
+};
+
+static const struct table OF_ROWS[] = {
     {"desk ns", "twin ns", 1.3, 4, 1.1},
     {"next ns", "judge ns", 1.5, 0, 0},
     {"fault ns", "judge ns", 1.1, 0, 0},
+};
+
+static const struct table OF_MODELS[] = {
+    {"desk ns", "twin ns", 0, 0, 0},
+    {"desk ns", "read ns", 0, 0, 0},
+};
+
+/* What one program measures. */
+static const struct bench {
+    const char *name;
+    int rows, tables;
+    void (*make)(struct row *row, int i);
+    const struct table *table;
+} BENCHES[] = {
+    {"rows", ROWS, LENGTH(OF_ROWS), make_row, OF_ROWS},
+    {"models", RULES, LENGTH(OF_MODELS), make_rule, OF_MODELS},
 };
 
 /* What a row took, at each placement, and what it is measured against. */
@@ -26,7 +46,7 @@ struct record {
     double ratio[MOST_PLACEMENTS], noise[MOST_PLACEMENTS];
 };
 
-static struct record record[TABLES][ROWS];
+static struct record record[MOST_TABLES][MOST_ROWS];
 
 static void read_record(FILE *file, struct record *r, int p)
 {
@@ -34,13 +54,13 @@ static void read_record(FILE *file, struct record *r, int p)
         abort();
 }
 
-static void read_placement(const char *path, int p)
+static void read_placement(const struct bench *bench, const char *path, int p)
 {
     FILE *file = fopen(path, "r");
     if (file == NULL)
         abort();
-    for (int i = 0; i < ROWS; i++)
-        for (int t = 0; t < TABLES; t++)
+    for (int i = 0; i < bench->rows; i++)
+        for (int t = 0; t < bench->tables; t++)
             read_record(file, &record[t][i], p);
     fclose(file);
 }
@@ -56,6 +76,15 @@ static void print_ns(double ns)
     printf(" |");
 }
 
+/* Blank where none is set. */
+static void print_limit(double limit)
+{
+    if (limit == 0)
+        printf(" %7s |", "");
+    else
+        printf(" %7.1f |", limit);
+}
+
 /* Gives the ratio. */
 static double print_row(const char *title, struct record *r, int placements, double limit)
 {
@@ -63,15 +92,18 @@ static double print_row(const char *title, struct record *r, int placements, dou
     printf("| %-39s |", title);
     print_ns(median(r->ns, placements));
     print_ns(median(r->against, placements));
-    printf(" %5.2f | %7.1f | %5.2f | %8.2f | %5.1f %% |\n", ratio, limit, r->ratio[0],
-           r->ratio[placements - 1], 100 * median(r->noise, placements));
+    printf(" %5.2f |", ratio);
+    print_limit(limit);
+    printf(" %5.2f | %8.2f | %5.1f %% |\n", r->ratio[0], r->ratio[placements - 1],
+           100 * median(r->noise, placements));
     return ratio;
 }
 
 static void print_last(const char *title, double ratio, double limit)
 {
-    printf("| %-39s | %9s | %9s | %5.2f | %7.1f | %5s | %8s | %7s |\n", title, "", "", ratio, limit,
-           "", "", "");
+    printf("| %-39s | %9s | %9s | %5.2f |", title, "", "", ratio);
+    print_limit(limit);
+    printf(" %5s | %8s | %7s |\n", "", "", "");
 }
 
 static double greatest(const double *values, int n)
@@ -89,36 +121,45 @@ static void print_head(const char *ns, const char *against)
     puts("|---|---|---|---|---|---|---|---|");
 }
 
-static void print_table(const struct table *t, struct record *r, int placements)
+static void print_table(const struct bench *bench, const struct table *t, struct record *r,
+                        int placements)
 {
     static struct row row;
-    double ratios[ROWS];
-    int apart = t->limit_of_one_slot != 0 ? FIRST_OF_ONE_SLOT : ROWS; /* rows with another limit */
+    double ratios[MOST_ROWS];
+    int rows = bench->rows;
+    int apart = t->limit_of_one_slot != 0 ? FIRST_OF_ONE_SLOT : rows; /* rows with another limit */
     print_head(t->ns, t->against);
-    for (int i = 0; i < ROWS; i++) {
-        make_row(&row, i);
+    for (int i = 0; i < rows; i++) {
+        bench->make(&row, i);
         ratios[i] = print_row(row.title, &r[i], placements,
                               i < apart ? t->limit : t->limit_of_one_slot);
     }
     print_last("worst", greatest(ratios, apart), t->limit);
-    if (apart < ROWS)
-        print_last("worst, names of one slot", greatest(ratios + apart, ROWS - apart),
+    if (apart < rows)
+        print_last("worst, names of one slot", greatest(ratios + apart, rows - apart),
                    t->limit_of_one_slot);
     if (t->limit_of_median != 0)
-        print_last("median", median(ratios, ROWS), t->limit_of_median);
+        print_last("median", median(ratios, rows), t->limit_of_median);
 }
 
-int main(int count, char **path)
+static int print_bench(const struct bench *bench, char **path, int placements)
 {
-    int placements = count - 1;
     if (placements < 1 || placements > MOST_PLACEMENTS)
         return 2;
     for (int p = 0; p < placements; p++)
-        read_placement(path[p + 1], p);
-    for (int t = 0; t < TABLES; t++) {
+        read_placement(bench, path[p], p);
+    for (int t = 0; t < bench->tables; t++) {
         if (t > 0)
             putchar('\n');
-        print_table(&TABLE[t], record[t], placements);
+        print_table(bench, &bench->table[t], record[t], placements);
     }
     return 0;
+}
+
+int main(int count, char **word)
+{
+    for (size_t i = 0; count > 1 && i < LENGTH(BENCHES); i++)
+        if (strcmp(word[1], BENCHES[i].name) == 0)
+            return print_bench(&BENCHES[i], word + 2, count - 2);
+    return 2;
 }

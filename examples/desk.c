@@ -1,6 +1,7 @@
 /* A client of the desk: judges the children named on the command line by the model of the example,
-   says the verdict in words, the first child that is foreign or one too many, if any, and which
-   names may come next. Without names it judges a cue that is still open. */
+   says the verdict in words, the first child that is foreign or one too many, if any, which names
+   may come next, and the model's canonical text. Without names it judges a cue that is still
+   open. */
 #include "desk.h"
 
 #include <stdio.h>
@@ -12,8 +13,9 @@ static const char LETTERS[] = "abcdefghijklmnopqrstuvwxyz";
 static const char NAME_BYTES[] = "abcdefghijklmnopqrstuvwxyz0123456789-";
 
 enum {
-    ROOM = 65536, /* one byte more than a children text may have */
-    NAMES = 64    /* a model has no more */
+    ROOM = 65536,     /* one byte more than a children text may have */
+    NAMES = 64,       /* a model has no more */
+    MODEL_ROOM = 4096 /* a model text has no more bytes */
 };
 
 static const char *in_words(uint32_t answer)
@@ -90,6 +92,15 @@ static void print_next(const char *children, size_t len)
     puts(count == 0 ? " none" : "");
 }
 
+/* Where there is a verdict and room for every model text, desk_canonical refuses nothing. */
+static void print_model(void)
+{
+    uint8_t text[MODEL_ROOM];
+    uint32_t len = desk_canonical((const uint8_t *)MODEL, strlen(MODEL), text, MODEL_ROOM);
+    if (len < DESK_REFUSED)
+        printf("model: %.*s\n", (int)len, (const char *)text);
+}
+
 int main(int argc, char **argv)
 {
     static char children[ROOM];
@@ -103,5 +114,6 @@ int main(int argc, char **argv)
         return 1;
     print_fault(children, len);
     print_next(children, len);
+    print_model();
     return 0;
 }

@@ -1,5 +1,6 @@
-/* The desk: judges a row of children by a model, lists the names that may come next, and finds the
-   first child that is foreign or one too many. Link with libdesk.a (rt staticlib desk).
+/* The desk: judges a row of children by a model, lists the names that may come next, finds the
+   first child that is foreign or one too many, and writes a model in the one way that there is for
+   it. Link with libdesk.a (rt staticlib desk).
 
    A model text is one member: `(axis,target,(crawl&gather)?,hold[0..2])`. A children text is names
    parted by tabs; no bytes mean no children, and then the pointer may be null. Texts are bytes with
@@ -56,7 +57,24 @@
    Answer             When
    0 to 4,095         the place of that child; the first child is at place 0
    DESK_NO_FAULT      there is none
-   DESK_REFUSED + n   n is a refusal from 10 to 36 above, wherever such a child is */
+   DESK_REFUSED + n   n is a refusal from 10 to 36 above, wherever such a child is
+
+   desk_canonical writes the model's canonical text into the buffer that it is lent. It is a model
+   text with the same names and the same rows, and is its own canonical text. Bytes behind it stay
+   as they were. 4,096 bytes are always enough, and where buffer_len is 0 the pointer may be null.
+   The buffer must not overlap the model text.
+
+   Answer             When
+   below DESK_REFUSED how long the text is, at least 1
+   DESK_REFUSED + n   nothing is written: n is a refusal from 10 to 19 above, else
+                  51  the text is longer than the buffer
+
+   The model is flattened as above, and in the same course, from the inside out: `[1..1]` is left
+   out, `[0..1]` is written `?`, and `[0..n]` is written `[1..n]?`; a `?` on a member of a choice
+   moves to the choice; and a group that holds the empty row without its `?` loses it, before it is
+   asked whether the group joins another. Then the members of every `|` and `&` are put in the order
+   of their smallest names: byte order, a name before one that it begins. A model without names is
+   `()`. So `((a?,b?)?,c)` is written `(a?,b?,c)`, and `((c[0..1]|b)|a)` is written `(a|b|c)?`. */
 #ifndef DESK_H
 #define DESK_H
 
@@ -78,6 +96,9 @@ uint32_t desk_next(const uint8_t *model, size_t model_len,
 
 uint32_t desk_first_fault(const uint8_t *model, size_t model_len,
                           const uint8_t *children, size_t children_len);
+
+uint32_t desk_canonical(const uint8_t *model, size_t model_len,
+                        uint8_t *buffer, size_t buffer_len);
 
 #ifdef __cplusplus
 }

@@ -5,8 +5,11 @@
 #include <stddef.h>
 #include <stdint.h>
 
-/* The oracle's own ways to a verdict disagree. */
+/* The oracle's own ways to an answer disagree. */
 enum { BRUTE_SPLIT = 99 };
+
+/* No canonical text is longer. */
+enum { BRUTE_ROOM = 4096 };
 
 /* 0 for a model text, or its refusal, 10 to 17 or 19, with its place in *place. */
 uint32_t brute_model(const uint8_t *text, size_t len, size_t *place);
@@ -22,5 +25,13 @@ uint32_t brute_next(const uint8_t *model, size_t model_len, const uint8_t *child
 /* The answer that desk_first_fault has to give. */
 uint32_t brute_first_fault(const uint8_t *model, size_t model_len,
                            const uint8_t *children, size_t children_len);
+
+/* The canonical text of a good model text, into BRUTE_ROOM bytes: its length, or BRUTE_SPLIT as a
+   refusal. */
+uint32_t brute_rewrite(const uint8_t *model, size_t model_len, uint8_t *to);
+
+/* The answer that desk_canonical has to give, with its text, or BRUTE_SPLIT as a refusal. */
+uint32_t brute_canonical(const uint8_t *model, size_t model_len, uint8_t *buffer,
+                         size_t buffer_len);
 
 #endif

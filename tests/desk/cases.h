@@ -21,6 +21,9 @@ void check_known_lists(next_names *next, struct report *report);
 /* First faults that follow from document 02. */
 void check_known_faults(find_fault *find, struct report *report);
 
+/* Canonical texts that stand in document 02 or follow from it. */
+void check_known_canonical(write_canonical *write, struct report *report);
+
 /* The texts of all these. */
 void try_known(try_call *f, struct report *to);
 
@@ -32,6 +35,7 @@ struct amounts {
     unsigned damaged; /* the same, some bytes of one text changed, lost, added or cut off */
     unsigned large;   /* models of up to 64 names, rows of up to 4,096 children and a few more */
     unsigned deep;    /* models with 17 to 70 brackets open at once, some of them damaged */
+    unsigned loose;   /* models with `()`, groups of one, marks and counts in plenty */
 };
 
 /* So many random ones of each; the seed fixes them. */

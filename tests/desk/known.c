@@ -1,8 +1,11 @@
 /* Rows and texts whose answers stand in documents 01 and 02 or follow from them. */
+#include "canonical.h"
 #include "cases.h"
 #include "chain.h"
 #include "desk.h"
 #include "lists.h"
+
+#include <string.h>
 
 /* Children are parted by spaces here. */
 static const struct {
@@ -300,6 +303,73 @@ static const struct {
     {"a", "x", 32767, "A", REFUSAL(30)},
 };
 
+/* Canonical texts. */
+static const struct {
+    const char *model, *text;
+} CANONICAL[] = {
+    {EXAMPLE, "(axis,target,(crawl&gather)?,hold[1..2]?)"},
+    /* counts */
+    {"a", "a"},
+    {"a[1..1]", "a"},
+    {"a[1..1]?", "a?"},
+    {"a[0..1]", "a?"},
+    {"a[0..1]?", "a?"},
+    {"a[0..2]", "a[1..2]?"},
+    {"a[0..10]?", "a[1..10]?"},
+    {"a[0..*]", "a[1..*]?"},
+    {"a[1..*]", "a[1..*]"},
+    {"a[1..10]", "a[1..10]"},
+    {"a[1..11]", "a[1..11]"},
+    {"a[10..11]", "a[10..11]"},
+    {"a[60000..60000]", "a[60000..60000]"},
+    {"(b[1..1]&a[2..3])", "(a[2..3]&b)"},
+    /* no atoms */
+    {"()", "()"},
+    {"()?", "()"},
+    {"((),(()?)?)?", "()"},
+    {"(()|(()&()))", "()"},
+    /* groups of one */
+    {"((((a))))", "a"},
+    {"((a?))?", "a?"},
+    {"((a[0..2])?)", "a[1..2]?"},
+    {"((a,b)?)", "(a,b)?"},
+    {"((),a,())", "a"},
+    {"(()|a)", "a?"},
+    {"(()|(a,b))", "(a,b)?"},
+    {"((a|())&b)", "(a?&b)"},
+    /* groups that join, and that a mark keeps apart */
+    {"((a,b),c)", "(a,b,c)"},
+    {"((a,b)?,c)", "((a,b)?,c)"},
+    {"((a,b?)?,c?)", "((a,b?)?,c?)"},
+    {"(c|(b|a))", "(a|b|c)"},
+    {"((b&(d|c))&a)", "(a&b&(c|d))"},
+    {"((b,(d,c)),a)", "(b,d,c,a)"},
+    /* marks on members of a choice */
+    {"(a?|b)", "(a|b)?"},
+    {"(a[0..1]|b)", "(a|b)?"},
+    {"(a[0..2]|b?)?", "(a[1..2]|b)?"},
+    {"((a|b)?|c)", "(a|b|c)?"},
+    {"((a|b|())|c)", "(a|b|c)?"},
+    {"((a,b)?|c)", "((a,b)|c)?"},
+    {"((a?|b)?,c)", "((a|b)?,c)"},
+    /* marks that change nothing */
+    {"(a?,b?)?", "(a?,b?)"},
+    {"((a?,b?)?,c)", "(a?,b?,c)"},
+    {"((a?,b?)|())", "(a?,b?)"},
+    {"((a[0..2]&b?)?&c)", "(a[1..2]?&b?&c)"},
+    {"((a?,b?)?|c)", "((a?,b?)|c)"},
+    {"((a?,b?)|c)?", "((a?,b?)|c)"},
+    {"(((a?,b?)|c)?|d)", "((a?,b?)|c|d)"},
+    {"((a?,b?)|(c|d)?)", "((a?,b?)|c|d)"},
+    {"((a?,((b?&c?)|())),d)", "(a?,(b?&c?),d)"},
+    /* order, of bytes; a name comes before one that it begins */
+    {"(b,a)", "(b,a)"},
+    {"(ab|b|a1|a|a-)", "(a|a-|a1|ab|b)"},
+    {"(name10&name2&name1&name)", "(name&name1&name10&name2)"},
+    {"(c|(d,b)|a)", "(a|(d,b)|c)"},
+    {"(d|(c&(b,(f|a)))|e)", "(((b,(a|f))&c)|d|e)"},
+};
+
 /* 01, the last of the rows to try: 4,096 of a in a[60000..60000] are open. */
 static void check_long_row(judge_texts *judge, struct report *report)
 {
@@ -425,6 +495,28 @@ void check_known_faults(find_fault *find, struct report *report)
     }
 }
 
+/* A canonical text is its own. */
+static void check_text(write_canonical *write, struct report *report, size_t i)
+{
+    struct bytes text = bytes_of(CANONICAL[i].text);
+    struct canonical right = {.answer = (uint32_t)text.len};
+    memcpy(right.byte, text.at, text.len);
+    check_buffers(report, write, bytes_of(CANONICAL[i].model), &right);
+    check_buffers(report, write, text, &right);
+}
+
+void check_known_canonical(write_canonical *write, struct report *report)
+{
+    for (size_t i = 0; i < LENGTH(CANONICAL); i++)
+        check_text(write, report, i);
+    for (size_t i = 0; i < KNOWN_TEXTS; i++) {
+        struct known text = known_text(i);
+        struct canonical right = {.answer = REFUSAL(text.answer)};
+        if (text.answer != 0)
+            check_buffers(report, write, text.call.model, &right);
+    }
+}
+
 void try_known(try_call *f, struct report *to)
 {
     for (size_t i = 0; i < LENGTH(ROWS); i++)
@@ -437,4 +529,6 @@ void try_known(try_call *f, struct report *to)
         f(to, call_of(FAULTS[i].model, FAULTS[i].children));
     for (size_t i = 0; i < LENGTH(LONG_FAULTS); i++)
         f(to, long_call(i));
+    for (size_t i = 0; i < LENGTH(CANONICAL); i++)
+        f(to, (struct call){bytes_of(CANONICAL[i].model), NO_BYTES});
 }

@@ -1,30 +1,13 @@
 /* Random models with rows of them or near them, and damaged texts; the seed fixes everything. */
 #include "cases.h"
+#include "dice.h"
 
 #include <stdbool.h>
 #include <stdio.h>
 #include <stdlib.h>
 #include <string.h>
 
-enum { MEMBERS = 4000, NAMES = 64, ROW = 4200, NAME_ROOM = 36 };
-
-/* ---- numbers ---- */
-
-struct dice {
-    uint64_t state;
-};
-
-/* splitmix64 */
-static uint64_t roll(struct dice *d)
-{
-    uint64_t z = d->state += 0x9e3779b97f4a7c15u;
-    z = (z ^ z >> 30) * 0xbf58476d1ce4e5b9u;
-    z = (z ^ z >> 27) * 0x94d049bb133111ebu;
-    return z ^ z >> 31;
-}
-
-static size_t below(struct dice *d, size_t n) { return (size_t)(roll(d) % n); }
-static bool one_in(struct dice *d, size_t n) { return below(d, n) == 0; }
+enum { MEMBERS = 4000, NAMES = 64, FEW = 10, ROW = 4200, NAME_ROOM = 36 };
 
 /* ---- a model as a tree ---- */
 
@@ -68,6 +51,16 @@ static size_t grow_atom(struct sketch *s)
     return me;
 }
 
+/* A member more, behind the last one; gives the new last one. */
+static size_t add_member(struct sketch *s, size_t group, size_t last, size_t member)
+{
+    if (last == 0)
+        s->member[group].first = member;
+    else
+        s->member[last].next = member;
+    return member;
+}
+
 /* A member with this many names below it; `depth` brackets may still be opened. */
 static size_t grow(struct sketch *s, size_t names, size_t depth)
 {
@@ -81,13 +74,8 @@ static size_t grow(struct sketch *s, size_t names, size_t depth)
         if (part > names - placed)
             part = names - placed;
         bool empty = depth > 1 && one_in(d, 20);
-        size_t child = grow(s, empty ? 0 : part, depth - 1);
+        last = add_member(s, me, last, grow(s, empty ? 0 : part, depth - 1));
         placed += empty ? 0 : part;
-        if (last == 0)
-            s->member[me].first = child;
-        else
-            s->member[last].next = child;
-        last = child;
     }
     return me;
 }
@@ -99,9 +87,8 @@ struct habit {
     size_t alone;  /* the next group is its only member */
     size_t turned; /* the next group has a sign of its own choice */
     size_t marked;
+    size_t empty; /* `()`, or what is none but for its brackets, stands beside it */
 };
-
-static bool chance(struct dice *d, size_t percent) { return below(d, 100) < percent; }
 
 /* A name, `()` or a small group. */
 static size_t grow_small(struct sketch *s)
@@ -131,6 +118,59 @@ static size_t grow_deep(struct sketch *s, const struct habit *h, char sign, size
         }
     }
     s->member[me].first = first;
+    return me;
+}
+
+/* ---- models with much to tidy ---- */
+
+/* Every other one with a count; some of these are left out or written otherwise. */
+static size_t grow_counted(struct sketch *s, const struct habit *h)
+{
+    static const struct {
+        unsigned min, max;
+    } COUNTS[] = {
+        {1, 1}, {0, 1}, {0, 0}, {0, 2}, {1, 0}, {1, 2}, {2, 2}, {0, 10}, {1, 11}, {10, 21}, {11, 0},
+    };
+    size_t me = new_member(s, 'a'), kind = below(&s->dice, 2 * LENGTH(COUNTS));
+    struct member *m = &s->member[me];
+    m->name = s->atoms++;
+    m->counted = kind < LENGTH(COUNTS);
+    if (m->counted) {
+        m->min = COUNTS[kind].min;
+        m->max = COUNTS[kind].max;
+    }
+    m->optional = chance(&s->dice, h->marked);
+    return me;
+}
+
+/* How many of these names go into the next member. */
+static size_t share(struct sketch *s, const struct habit *h, size_t names, size_t depth)
+{
+    if (depth <= 1)
+        return 1;
+    return chance(&s->dice, h->alone) ? names : 1 + below(&s->dice, (names + 1) / 2);
+}
+
+/* A member with this many names below it, in a group of the sign; `depth` brackets may still be
+   opened. */
+static size_t grow_loose(struct sketch *s, const struct habit *h, char around, size_t names,
+                         size_t depth)
+{
+    struct dice *d = &s->dice;
+    if (names == 1 && (depth == 0 || !chance(d, h->alone)))
+        return grow_counted(s, h);
+    char sign = chance(d, h->turned) ? ",|&"[below(d, 3)] : around;
+    size_t me = new_member(s, sign), last = 0;
+    s->member[me].optional = chance(d, h->marked);
+    while (depth > 0) {
+        if (chance(d, h->empty))
+            last = add_member(s, me, last, grow_loose(s, h, sign, 0, depth / 3));
+        if (names == 0)
+            break;
+        size_t part = share(s, h, names, depth);
+        names -= part;
+        last = add_member(s, me, last, grow_loose(s, h, sign, part, depth - 1));
+    }
     return me;
 }
 
@@ -337,10 +377,12 @@ static void write_row(struct sketch *s, const struct row *row, struct text *t)
 /* Short names that begin one another, in disorder, seldom one of them twice. */
 static void short_names(struct sketch *s)
 {
-    static const char *const SHORT[] = {"a", "b", "c", "ab", "a-", "a1", "ba", "b-2", "abc", "z9"};
-    size_t start = below(&s->dice, LENGTH(SHORT)), step = one_in(&s->dice, 2) ? 3 : 7;
+    static const char *const SHORT[FEW] = {
+        "a", "b", "c", "ab", "a-", "a1", "ba", "b-2", "abc", "z9",
+    };
+    size_t start = below(&s->dice, FEW), step = one_in(&s->dice, 2) ? 3 : 7;
     for (size_t k = 0; k < NAMES; k++)
-        strcpy(s->name[k], SHORT[(start + k * step) % LENGTH(SHORT)]);
+        strcpy(s->name[k], SHORT[(start + k * step) % FEW]);
     if (one_in(&s->dice, 40))
         strcpy(s->name[1 + below(&s->dice, 5)], s->name[0]);
 }
@@ -364,6 +406,46 @@ static void alike_names(struct sketch *s)
     for (size_t k = 0; k < NAMES; k++)
         for (size_t i = 0, rest = 3 * k; i < 6; i++, rest /= 3)
             s->name[k][i] = i == 5 ? '\0' : "abc"[(rest + i) % 3];
+}
+
+/* Names of which each begins all longer ones, of two such kinds. */
+static void nested_names(struct sketch *s)
+{
+    char longest[2][NAME_ROOM];
+    for (size_t k = 0; k < 2; k++)
+        for (size_t i = 0; i < 32; i++)
+            longest[k][i] = i == 0 ? "ma"[k] : "amz09-"[below(&s->dice, 6)];
+    for (size_t k = 0; k < NAMES; k++) {
+        size_t len = k / 2 + 1;
+        memcpy(s->name[k], longest[k % 2], len);
+        s->name[k][len] = '\0';
+    }
+}
+
+/* Names with one beginning, of any length, that differ in the two bytes behind it. */
+static void common_names(struct sketch *s)
+{
+    char beginning[NAME_ROOM] = "c";
+    size_t len = below(&s->dice, 31);
+    for (size_t i = 1; i < len; i++)
+        beginning[i] = "amz09-"[below(&s->dice, 6)];
+    for (size_t k = 0; k < NAMES; k++) {
+        memcpy(s->name[k], beginning, len);
+        s->name[k][len] = "abcdwxyz"[k / 8];
+        s->name[k][len + 1] = "-059amyz"[k % 8];
+        s->name[k][len + 2] = '\0';
+    }
+}
+
+static void shuffle_names(struct sketch *s, size_t names)
+{
+    for (size_t k = names; k > 1; k--) {
+        char old[NAME_ROOM];
+        size_t other = below(&s->dice, k);
+        memcpy(old, s->name[k - 1], NAME_ROOM);
+        memmove(s->name[k - 1], s->name[other], NAME_ROOM);
+        memcpy(s->name[other], old, NAME_ROOM);
+    }
 }
 
 /* The model's text, and a row that mostly is of it or near it. */
@@ -443,6 +525,24 @@ static void make_large(struct sketch *s, struct text *model, struct text *childr
     make_case(s, 7 + below(&s->dice, NAMES - 6), depth, model, children);
 }
 
+/* Mostly with few names, which are in disorder. */
+static void make_loose(struct sketch *s, struct text *model, struct text *children)
+{
+    static void (*const MAKE_NAMES[])(struct sketch *) = {
+        nested_names, common_names, alike_names, long_names, short_names,
+    };
+    struct dice *d = &s->dice;
+    struct habit h = {.alone = below(d, 40), .turned = below(d, 100), .marked = below(d, 60)};
+    size_t names = one_in(d, 4) ? below(d, NAMES + 1) : below(d, FEW);
+    h.empty = below(d, names > 30 ? 15 : 40);
+    s->stretch = 2;
+    MAKE_NAMES[below(d, names < FEW ? 5 : 4)](s);
+    shuffle_names(s, names < FEW ? FEW : NAMES);
+    s->members = s->atoms = 0;
+    char sign = ",|&"[below(d, 3)];
+    write_case(s, grow_loose(s, &h, sign, names, 1 + below(d, 20)), model, children);
+}
+
 typedef void make_texts(struct sketch *s, struct text *model, struct text *children);
 
 static void try_made(make_texts *make, uint64_t seed, unsigned how_many, try_call *f,
@@ -463,4 +563,5 @@ void try_random(uint64_t seed, struct amounts how_many, try_call *f, struct repo
     try_made(make_damaged, seed + 1, how_many.damaged, f, to);
     try_made(make_large, seed + 2, how_many.large, f, to);
     try_made(make_deep, seed + 3, how_many.deep, f, to);
+    try_made(make_loose, seed + 4, how_many.loose, f, to);
 }

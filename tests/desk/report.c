@@ -6,13 +6,17 @@
 enum { SHOWN = 20, SHOWN_BYTES = 200 };
 
 /* Every answer of include/desk.h; a list of no names and no fault stand as 0 here, a list of some
-   names and a fault as 1. */
+   names, a fault and a written text as 1. */
 static const uint32_t OF_JUDGE[] = {0, 1, 2, 10, 11, 12, 13, 14, 15, 16, 17, 19, 30, 35, 36};
 static const uint32_t OF_NEXT[] = {0, 1, 10, 11, 12, 13, 14, 15, 16, 17, 19, 30, 35, 36, 46};
 static const uint32_t OF_FAULT[] = {0, 1, 10, 11, 12, 13, 14, 15, 16, 17, 19, 30, 35, 36};
+static const uint32_t OF_CANONICAL[] = {1, 10, 11, 12, 13, 14, 15, 16, 17, 19, 51};
+static const uint32_t OF_ROWS[] = {0, 1, 2, 30, 35, 36};
 const struct answers ANSWERS_OF_JUDGE = {OF_JUDGE, LENGTH(OF_JUDGE)};
 const struct answers ANSWERS_OF_NEXT = {OF_NEXT, LENGTH(OF_NEXT)};
 const struct answers ANSWERS_OF_FAULT = {OF_FAULT, LENGTH(OF_FAULT)};
+const struct answers ANSWERS_OF_CANONICAL = {OF_CANONICAL, LENGTH(OF_CANONICAL)};
+const struct answers ANSWERS_OF_ROWS = {OF_ROWS, LENGTH(OF_ROWS)};
 
 static void print_text(const char *title, struct bytes b)
 {
@@ -58,6 +62,12 @@ void report_fault(struct report *report, struct call c, uint32_t got, uint32_t r
 {
     count(report, right < DESK_REFUSED ? right != DESK_NO_FAULT : right - DESK_REFUSED);
     report_value(report, c, "answer of the first fault", got, right);
+}
+
+void report_text(struct report *report, struct bytes model, uint32_t got, uint32_t right)
+{
+    count(report, right < DESK_REFUSED ? 1 : right - DESK_REFUSED);
+    report_value(report, (struct call){model, NO_BYTES}, "answer of the text", got, right);
 }
 
 int report_end(const struct report *report, const char *title, struct answers to_meet)

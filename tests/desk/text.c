@@ -14,13 +14,15 @@ void begin(struct text *t, const char *string)
     put(t, string);
 }
 
-void put(struct text *t, const char *string)
+void put(struct text *t, const char *string) { put_bytes(t, bytes_of(string)); }
+
+void put_bytes(struct text *t, struct bytes bytes)
 {
-    size_t len = strlen(string);
-    if (len > TEXT_ROOM - t->len)
+    if (bytes.len > TEXT_ROOM - t->len)
         abort();
-    memcpy(t->byte + t->len, string, len);
-    t->len += len;
+    if (bytes.len > 0)
+        memcpy(t->byte + t->len, bytes.at, bytes.len);
+    t->len += bytes.len;
 }
 
 void put_times(struct text *t, const char *string, size_t times)

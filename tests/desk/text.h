@@ -29,6 +29,7 @@ void begin(struct text *t, const char *string);
 
 /* Adds these bytes; the program stops where they have no room. */
 void put(struct text *t, const char *string);
+void put_bytes(struct text *t, struct bytes bytes);
 void put_times(struct text *t, const char *string, size_t times);
 
 struct bytes written(const struct text *t);

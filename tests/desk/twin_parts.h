@@ -46,7 +46,8 @@ enum answer {
     CHILDREN_SIZE = 30,
     NO_NAME = 35,
     MANY_CHILDREN = 36,
-    SHORT_ROW = 46
+    SHORT_ROW = 46,
+    LONG_TEXT = 51
 };
 
 static const uint32_t REFUSED = 1u << 31;     /* is added to a refusal, save the judge's */

@@ -38,12 +38,12 @@ pub data WriteReply : Type 0 where
   wrote : Text → WriteReply
   refusedWrite : WriteFault → ℕ → WriteReply
 
-abbrev pub fitted : Text → ℕ → WriteReply
-fitted y k = cond (leb (length y) k) (wrote y) (refusedWrite LongText 0)
+abbrev pub writeFitting : Text → ℕ → WriteReply
+writeFitting y k = cond (leb (length y) k) (wrote y) (refusedWrite LongText 0)
 
 abbrev pub writeBy : Answer → ℕ → WriteReply
 writeBy (refused f p) k = refusedWrite (Model f) p
-writeBy (accepted t) k = fitted (canonicalText t) k
+writeBy (accepted t) k = writeFitting (canonicalText t) k
 
 abbrev pub writeReply : Text → ℕ → WriteReply
 writeReply x k = writeBy (answer x) k
@@ -54,9 +54,9 @@ writtenOf (wrote y) = Length (length y)
 writtenOf (refusedWrite f p) = Refused f p
 
 -- the buffer at exit: the text, then the bytes as they were; or all as they were
-abbrev pub bufferAfter : WriteReply → Text → Text
-bufferAfter (wrote y) b = y ++ drop (length y) b
-bufferAfter (refusedWrite f p) b = b
+abbrev pub bufferWritten : WriteReply → Text → Text
+bufferWritten (wrote y) b = y ++ drop (length y) b
+bufferWritten (refusedWrite f p) b = b
 
 -- the same, by the table: the reply to x for a buffer of k bytes (`Canonical.Reply.writes-is`)
 abbrev pub Writes : Text → ℕ → WriteReply → Type 0

@@ -25,12 +25,12 @@ same-words = canonical-rows
 pub written-twice : (t : Syntax) → canonical (canonical t) ≡ canonical t
 written-twice = canonical-twice
 
-pub no-deeper : (t : Syntax) → depth (canonical t) ≤ depth t
-no-deeper = canonical-depth
+pub never-deeper : (t : Syntax) → depth (canonical t) ≤ depth t
+never-deeper = canonical-depth
 
--- What the definitions mean: `()` or a neat tree is left; to flatten first is no stage of its own; a tree is nullable just where it holds the empty row.
-pub left : (t : Syntax) → (canonical t ≡ nil) ⊎ Neat (canonical t)
-left = canonical-neat
+-- What the definitions mean: `()` or a neat tree is neat-or-nil; to flatten first is no stage of its own; a tree is nullable just where it holds the empty row.
+pub neat-or-nil : (t : Syntax) → (canonical t ≡ nil) ⊎ Neat (canonical t)
+neat-or-nil = canonical-neat
 
 pub flattened-first : (t : Syntax) → tidy (flatten t) ≡ tidy t
 flattened-first = tidy-flatten

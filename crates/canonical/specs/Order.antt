@@ -17,14 +17,14 @@ notAfter [] y = true
 notAfter (c ∷ x) [] = false
 notAfter (c ∷ x) (d ∷ y) = ltb c d || (eqb c d && notAfter x y)
 
-abbrev pub lesser : Text → Text → Text
-lesser x y = cond (notAfter x y) x y
+abbrev pub smaller : Text → Text → Text
+smaller x y = cond (notAfter x y) x y
 
 -- of no name, the empty text
 abbrev pub smallest : List Text → Text
 smallest [] = []
 smallest (x ∷ []) = x
-smallest (x ∷ y ∷ l) = lesser x (smallest (y ∷ l))
+smallest (x ∷ y ∷ l) = smaller x (smallest (y ∷ l))
 
 abbrev pub smallestName : Syntax → Text
 smallestName t = smallest (writtenNames t)

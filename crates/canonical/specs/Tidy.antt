@@ -75,13 +75,13 @@ someGives [] = false
 someGives (t ∷ l) = gives t || someGives l
 
 -- a group of tidied members
-abbrev pub settled : Sign → List Syntax → Syntax
-settled s l = marking (droppedMark s (someGives l)) (grouped s (gathered s (map (stripped s) l)))
+abbrev pub settledGroup : Sign → List Syntax → Syntax
+settledGroup s l = marking (droppedMark s (someGives l)) (grouped s (gathered s (map (stripped s) l)))
 
 abbrev mutual
   pub tidyNode : Node Spelling → Syntax
   tidyNode (leaf a) = marked (cond (fromZero (a .count)) Optional Plain) (leaf (tidyAtom a))
-  tidyNode (group s ts) = settled s (tidyAll ts)
+  tidyNode (group s ts) = settledGroup s (tidyAll ts)
 
   pub tidy : Syntax → Syntax
   tidy (marked m n) = marking m (tidyNode n)

@@ -3,7 +3,7 @@
 --   Head       what is kept of a tree as one number
 --   Put        a byte of what was put is put anew
 --   Tidied     what the code makes of a tidied tree and of a group's members, step by step
---   Keeps      what it knows of them
+--   Keeps          what it knows of them
 --   Stack      the trees on the stack
 --   Recursion  what the recursion over a model text keeps
 --   Lists      members as lists of places on the stack, and what is written of them

@@ -6,8 +6,8 @@ ghost use lib.ListN.{length};
 ghost use Rattle.model.specs.Syntax.{Spelling};
 ghost use Rattle.canonical.specs.Writer.Place.{AtomAt};
 ghost use Rattle.canonical.specs.Writer.Tidied.{remarkedBy, placedAt, optionalBy, zeroBetween, atomBy, nothingBy, noMembers, withoutBy, leastBy, nullableBy};
-ghost use Rattle.canonical.specs.Writer.Tidied.{FitsOn, withMemberBy, StackedBy, groupedBy, closedBy, markedBy, signAfter, memberAfter};
-ghost use Rattle.canonical.specs.Writer.Recursion.{Ready, Tidies};
+ghost use Rattle.canonical.specs.Writer.Tidied.{FitsOn, withMemberBy, StackedBy, groupedBy, groupClosedBy, markedBy, signAfter, memberAfter};
+ghost use Rattle.canonical.specs.Writer.Recursion.{TidyReady, Tidies};
 use crate::head::Head;
 use crate::head::packed;
 use crate::names::count_end;
@@ -185,7 +185,7 @@ fn nullable_with(members: u8, sign: u8, nullable: bool, own: bool) -> bool
     }
 }
 
-// One member more for a group of the sign: `()` is dropped, an unmarked group of the same sign joins, and a choice takes its member's `?`.
+// One member more for a group of the sign: `()` is dropped, an unmarked group of the same sign joinsBy, and a choice takes its member's `?`.
 fn with_member(
     text: &[u8],
     stack: &mut [u64; MAX_NODES],
@@ -262,7 +262,7 @@ fn grouped(g: Gathered, sign: u8, next: usize) -> Tidied
 // A choice takes the `?` of its members, and one for a `()` that was dropped.
 fn closed(g: Gathered, sign: u8, next: usize) -> Tidied
     requires { ⌜ (g .top < 1000) × (g .size < 255) ⌝ }
-    ensures { λ r. ⌜ r ≡ closedBy g sign next ⌝ }
+    ensures { λ r. ⌜ r ≡ groupClosedBy g sign next ⌝ }
 {
     let t = grouped(g, sign, next);
     if (sign == b'|') & g.given {
@@ -303,7 +303,7 @@ fn member_by(next: usize, behind: u8) -> usize
 
 // The tree that begins at `at`.
 pub(crate) fn tidy(text: &[u8], stack: &mut [u64; MAX_NODES], at: usize, top: usize) -> Tidied
-    requires { ⌜ Ready (now text) (now stack) at top ⌝ }
+    requires { ⌜ TidyReady (now text) (now stack) at top ⌝ }
     ensures { λ r. ⌜ Tidies (now (text .entry)) (now (stack .entry)) (now (stack .exit)) at top r ⌝ }
 {
     if text[at] != b'(' {

@@ -6,7 +6,7 @@ ghost use lib.ListN.{length, drop};
 ghost use Rattle.fields.specs.Put.{Put};
 ghost use Rattle.model.specs.{Answer.answer, Fault.accepted, Syntax.Syntax, Syntax.markText};
 ghost use Rattle.fields.specs.Bytes.{bytes};
-ghost use Rattle.canonical.specs.Canonical.{fitted, writeReply, writtenOf, bufferAfter};
+ghost use Rattle.canonical.specs.Canonical.{writeFitting, writeReply, writtenOf, bufferWritten};
 ghost use Rattle.canonical.specs.Writer.Accepted.{textAt, OneTree};
 ghost use Rattle.canonical.specs.Writer.{Stack.markIf, Stack.treesOn, Length.LengthReady, Length.signedLength, Lists.PutReady, Lists.TreePut};
 use crate::atom::kept_end;
@@ -95,8 +95,8 @@ fn put_tree(
 
 // `()`, if the buffer has room for it.
 fn write_nothing(buffer: &mut [u8]) -> Written
-    ensures { λ r. ⌜ r ≡ writtenOf (fitted (bytes "()") (length (now (buffer .entry)))) ⌝ }
-    ensures { λ r. ⌜ now (buffer .exit) ≡ bufferAfter (fitted (bytes "()") (length (now (buffer .entry)))) (now (buffer .entry)) ⌝ }
+    ensures { λ r. ⌜ r ≡ writtenOf (writeFitting (bytes "()") (length (now (buffer .entry)))) ⌝ }
+    ensures { λ r. ⌜ now (buffer .exit) ≡ bufferWritten (writeFitting (bytes "()") (length (now (buffer .entry)))) (now (buffer .entry)) ⌝ }
 {
     if buffer.len() < 2 {
         return Written::Refused(WriteFault::LongText, 0);
@@ -109,8 +109,8 @@ fn write_nothing(buffer: &mut [u8]) -> Written
 // The one tree on the stack, if the buffer has room for its text.
 fn write_tree(text: &[u8], stack: &[u64; MAX_NODES], top: usize, buffer: &mut [u8]) -> Written
     requires { ⌜ OneTree (now text) (now stack) top ⌝ }
-    ensures { λ r. ⌜ r ≡ writtenOf (fitted (textAt (now (text .entry)) (now (stack .entry)) top) (length (now (buffer .entry)))) ⌝ }
-    ensures { λ r. ⌜ now (buffer .exit) ≡ bufferAfter (fitted (textAt (now (text .entry)) (now (stack .entry)) top) (length (now (buffer .entry)))) (now (buffer .entry)) ⌝ }
+    ensures { λ r. ⌜ r ≡ writtenOf (writeFitting (textAt (now (text .entry)) (now (stack .entry)) top) (length (now (buffer .entry)))) ⌝ }
+    ensures { λ r. ⌜ now (buffer .exit) ≡ bufferWritten (writeFitting (textAt (now (text .entry)) (now (stack .entry)) top) (length (now (buffer .entry)))) (now (buffer .entry)) ⌝ }
 {
     let length = signed_length(text, stack, top) - 1;
     if buffer.len() < length {
@@ -125,7 +125,7 @@ fn write_tree(text: &[u8], stack: &[u64; MAX_NODES], top: usize, buffer: &mut [u
 fn write_accepted(text: &[u8], buffer: &mut [u8]) -> Written
     requires { ⌜ ((t : Syntax) × (answer (now text) ≡ accepted t)) ⌝ }
     ensures { λ r. ⌜ r ≡ writtenOf (writeReply (now (text .entry)) (length (now (buffer .entry)))) ⌝ }
-    ensures { λ r. ⌜ now (buffer .exit) ≡ bufferAfter (writeReply (now (text .entry)) (length (now (buffer .entry)))) (now (buffer .entry)) ⌝ }
+    ensures { λ r. ⌜ now (buffer .exit) ≡ bufferWritten (writeReply (now (text .entry)) (length (now (buffer .entry)))) (now (buffer .entry)) ⌝ }
 {
     let mut stack = [0u64; MAX_NODES];
     let t = tidy(text, &mut stack, 0, MAX_NODES);
@@ -147,7 +147,7 @@ fn write_accepted(text: &[u8], buffer: &mut [u8]) -> Written
 // buffer. Bytes behind the text, and all of them on a refusal, stay as they were.
 pub fn write_model(text: &[u8], buffer: &mut [u8]) -> Written
     ensures { λ r. ⌜ r ≡ writtenOf (writeReply (now (text .entry)) (length (now (buffer .entry)))) ⌝ }
-    ensures { λ r. ⌜ now (buffer .exit) ≡ bufferAfter (writeReply (now (text .entry)) (length (now (buffer .entry)))) (now (buffer .entry)) ⌝ }
+    ensures { λ r. ⌜ now (buffer .exit) ≡ bufferWritten (writeReply (now (text .entry)) (length (now (buffer .entry)))) (now (buffer .entry)) ⌝ }
 {
     let reading = read_model(text);
     let outcome = reading.outcome;

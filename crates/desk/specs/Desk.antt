@@ -1,4 +1,4 @@
--- The numbers that the desk's functions hand to C: document 01, "Desk and layers", and document 02, W1 and W2.
+-- The numbers that the desk's functions hand to C: document 01, "Desk and layers", and document 02, W1, W2 and W4.
 pub mod Laws
 use Prim.Native.Nat.{ℕ, _+_, _<_}
 use lib.ListN.{length}
@@ -8,6 +8,7 @@ use Rattle.model.specs.declared.verdict.Verdict.the-variants.{Complete, Open, D
 use Rattle.judge.specs.{Row.judgeNumber, Next.NextReply, Next.nextListed, Next.nextRefused, Next.childrenNext, Next.childrenRowAfter}
 use Rattle.judge.specs.{declared.verdict.FirstFault.FirstFault, FirstFault.childrenFault}
 use Rattle.judge.specs.declared.verdict.FirstFault.the-variants.{At, Nothing}
+use Rattle.canonical.specs.Canonical.{WriteReply, wrote, refusedWrite, writeReply, writeNumber, bufferWritten}
 use Rattle.judge.specs.Reply.{Reply, modelRefused, childrenRefused, good, childrenReply}
 
 -- document 01's numbers
@@ -61,3 +62,16 @@ PlaceFits (modelRefused f) = Unit {0}
 PlaceFits (childrenRefused f) = Unit {0}
 PlaceFits (good (At p)) = p < maxRow
 PlaceFits (good Nothing) = Unit {0}
+
+-- how long the text is that was written, or the refusal (document 02, W4)
+abbrev pub writeReplyNumber : WriteReply → ℕ
+writeReplyNumber (wrote y) = length y
+writeReplyNumber (refusedWrite f p) = refusalBase + writeNumber f
+
+-- with a lent buffer of k bytes
+abbrev pub deskCanonical : Text → ℕ → ℕ
+deskCanonical m k = writeReplyNumber (writeReply m k)
+
+-- the lent buffer at exit: the text, then the bytes as they were; or all as they were
+abbrev pub deskText : Text → Text → Text
+deskText m b = bufferWritten (writeReply m (length b)) b

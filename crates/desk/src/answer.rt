@@ -2,7 +2,10 @@
 
 ghost use mathlib.Core.Path.{_≡_};
 ghost use lib.ListN.{length};
-ghost use Rattle.desk.specs.Desk.{verdictNumber, deskAnswer, deskNext, deskRow, deskFault};
+ghost use Rattle.desk.specs.Desk.{verdictNumber, deskAnswer, deskNext, deskRow, deskFault, deskCanonical, deskText};
+use canonical::fault::write_number;
+use canonical::write::Written;
+use canonical::write::write_model;
 use fields::fault::cue_number;
 use judge::fault::judge_number;
 use judge::first_fault::search_children;
@@ -75,5 +78,18 @@ pub extern "C" fn desk_first_fault(model: &[u8], children: &[u8]) -> u32
         },
         ChildrenSearched::ModelRefused(f) => REFUSED + model_number(f),
         ChildrenSearched::ChildrenRefused(f) => REFUSED + cue_number(f),
+    }
+}
+
+// Writes the model's one text into the lent buffer and hands back its length. Or, with 2,147,483,648 added, the refusal of the model text, 10 to 17 and 19,
+// then 51: the text is longer than the buffer. Bytes behind the text, and all of them on a refusal, stay as they were.
+#[no_mangle]
+pub extern "C" fn desk_canonical(model: &[u8], buffer: &mut [u8]) -> u32
+    ensures { λ r. ⌜ r ≡ deskCanonical (now (model .entry)) (length (now (buffer .entry))) ⌝ }
+    ensures { λ r. ⌜ now (buffer .exit) ≡ deskText (now (model .entry)) (now (buffer .entry)) ⌝ }
+{
+    match write_model(model, buffer) {
+        Written::Length(n) => n as u32,
+        Written::Refused(f, _) => REFUSED + write_number(f),
     }
 }

@@ -80,21 +80,21 @@ module _ (ν μ : Text → ℕ) where
     node-carried (leaf a) h = carried-counted a (h a (List·Memᴰ·head refl)) (countsOf (a .count) .min) (countsOf (a .count) .max)
     node-carried (group s ts) h = group-carried ts s h
 
-    pub carried : (t : Syntax) → ((a : Spelling) → List·Memᴰ a (leaves t) → (x : Text) → ν x ≡ ν (a .name) → μ x ≡ μ (a .name))
+    pub rows-carried : (t : Syntax) → ((a : Spelling) → List·Memᴰ a (leaves t) → (x : Text) → ν x ≡ ν (a .name) → μ x ≡ μ (a .name))
         → (w : List Text) → Holds (typeWith (meaning ν) t) (map ν w) → Holds (typeWith (meaning μ) t) (map μ w)
-    carried (marked m n) h = carried-marked m (nodeTypeWith (meaning ν) n) (nodeTypeWith (meaning μ) n) (node-carried n h)
+    rows-carried (marked m n) h = carried-marked m (nodeTypeWith (meaning ν) n) (nodeTypeWith (meaning μ) n) (node-carried n h)
 
     group-carried : (ts : Members Spelling) (s : Sign) → Each (membersLeaves ts)
         → Carried (nodeTypeWith (meaning ν) (group s ts)) (nodeTypeWith (meaning μ) (group s ts))
     group-carried none s h = carried-empty
     group-carried (t ▹ ts) s h =
         from-carried ts (operator s) (typeWith (meaning ν) t) (typeWith (meaning μ) t)
-        (carried t (each-left (leaves t) (membersLeaves ts) h)) (each-right (leaves t) (membersLeaves ts) h)
+        (rows-carried t (each-left (leaves t) (membersLeaves ts) h)) (each-right (leaves t) (membersLeaves ts) h)
 
     from-carried : (ts : Members Spelling) (o : Operator) (A B : Ty) → Carried A B → Each (membersLeaves ts)
         → Carried (joinedFrom o A (typesWith (meaning ν) ts)) (joinedFrom o B (typesWith (meaning μ) ts))
     from-carried none o A B f h = f
     from-carried (t ▹ ts) o A B f h =
         from-carried ts o (join o A (typeWith (meaning ν) t)) (join o B (typeWith (meaning μ) t))
-        (carried-joined o A B (typeWith (meaning ν) t) (typeWith (meaning μ) t) f (carried t (each-left (leaves t) (membersLeaves ts) h)))
+        (carried-joined o A B (typeWith (meaning ν) t) (typeWith (meaning μ) t) f (rows-carried t (each-left (leaves t) (membersLeaves ts) h)))
         (each-right (leaves t) (membersLeaves ts) h)

@@ -9,7 +9,7 @@ use Rattle.model.specs.Tree.{Node, leaf, group, marked, Members, none, _▹_, n
 use Rattle.model.specs.Syntax.{Spelling, Syntax}
 use Rattle.model.specs.Flatten.{gathered, grouped, droppedMark, flatten, depth, Solid.Solid, Solid.SolidAll, Solid.tree-flattened}
 use Rattle.model.specs.Flatten.Depth.{deepest, deepestOf, deepestIn, deepest-first, group-deepest, gathered-inside, grouped-inside, no-deeper}
-use Rattle.canonical.specs.Tidy.{marking, stripped, someGives, settled, tidyNode, tidy, tidyAll, Form.tidy-neat, Flat.neat-solid}
+use Rattle.canonical.specs.Tidy.{marking, stripped, someGives, settledGroup, tidyNode, tidy, tidyAll, Form.tidy-neat, Flat.neat-solid}
 use Rattle.canonical.specs.{Order.Kept.order-nesting, Canonical.canonical}
 
 -- where each group has an atom, brackets are groups around an atom
@@ -34,7 +34,7 @@ stripped-inside : (s : Sign) (l : List Syntax) → deepestIn (map (stripped s) l
 stripped-inside s [] = refl
 stripped-inside s (marked m n ∷ l) = ap (λ (k : ℕ). max (deepest (marked m n)) k) (stripped-inside s l)
 
-settled-inside : (s : Sign) (l : List Syntax) → deepest (settled s l) ≤ suc (deepestIn l)
+settled-inside : (s : Sign) (l : List Syntax) → deepest (settledGroup s l) ≤ suc (deepestIn l)
 settled-inside s l =
     let k = map (stripped s) l in
     let g = gathered s k in

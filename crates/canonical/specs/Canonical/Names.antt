@@ -12,7 +12,7 @@ use Rattle.model.specs.Types.{Ty}
 use Rattle.model.specs.Model.{Counts, countsOf, modelOf, operator, countedType, joinedType, markedType, typeBy, foldNode, fold, foldAll, typeOf}
 use Rattle.model.specs.Model.{nodeTypeWith, typeWith, typesWith}
 use Rattle.judge.specs.{Reading.Table.Distinct, Reading.Laws.number-of-name}
-use Rattle.canonical.specs.{Tidy.Meaning.meaning, Canonical.canonical, Canonical.HoldsNames, Canonical.Rows.canonical-rows, Canonical.Carried.carried}
+use Rattle.canonical.specs.{Tidy.Meaning.meaning, Canonical.canonical, Canonical.HoldsNames, Canonical.Rows.canonical-rows, Canonical.Carried.rows-carried}
 
 abbrev nameOf : Spelling → Text
 nameOf a = a .name
@@ -74,8 +74,8 @@ pub canonical-held : (t : Syntax) → Distinct (writtenNames t) → Distinct (wr
     → (w : List Text) → HoldsNames (canonical t) w ↔ HoldsNames t w
 canonical-held t d e f w =
     rw (named-type t d, named-type u e) (
-      λ h. canonical-rows ν t (map ν w) .0 (carried μ ν u (λ a m x p. ap ν (numbered-once (writtenNames u) (a .name) x (Memᴰ·map nameOf m) p)) w h),
-      λ h. carried ν μ u (λ a m x p. ap μ (numbered-once (writtenNames t) (a .name) x (f (a .name) (Memᴰ·map nameOf m)) p)) w
+      λ h. canonical-rows ν t (map ν w) .0 (rows-carried μ ν u (λ a m x p. ap ν (numbered-once (writtenNames u) (a .name) x (Memᴰ·map nameOf m) p)) w h),
+      λ h. rows-carried ν μ u (λ a m x p. ap μ (numbered-once (writtenNames t) (a .name) x (f (a .name) (Memᴰ·map nameOf m)) p)) w
           (canonical-rows ν t (map ν w) .1 h),
     )
   where

@@ -4,27 +4,24 @@ use Prim.Native.Nat.{ℕ, _≤_, _<_}
 use native.Mathlib.{Decide.decLe, Omega.arith}
 use lib.ListN.{length}
 use borrow.Author.Tests.{le-leb, lt-leb}
-use Rattle.fields.specs.Bytes.{Text}
+use Rattle.fields.specs.{Bytes.Text, Limits.maxText}
 use Rattle.model.specs.{declared.fault.ModelFault.ModelFault, Answer.answer, Answer.answered, Answer.answer-is, Syntax.Syntax, Syntax.writtenNames}
-use Rattle.model.specs.{Fault.Answer, Fault.Answers, Fault.refused, Fault.accepted, Accept.Within, Accept.Laws.accepted-is, Syntax.text}
+use Rattle.model.specs.{Fault.Answer, Fault.Answers, Fault.refused, Fault.accepted, Accept.Laws.accepted-within, Accept.Length.text-fits, Syntax.text}
 use Rattle.canonical.specs.{declared.fault.WriteFault.WriteFault, Order.Smallest.occurs-here, Order.Smallest.occurs-in}
 use Rattle.canonical.specs.declared.fault.WriteFault.the-variants.{Model, LongText}
-use Rattle.canonical.specs.Canonical.{canonical, canonicalText, HoldsNames, WriteReply, wrote, refusedWrite, fitted, writeBy, writeReply, Writes}
+use Rattle.canonical.specs.Canonical.{canonical, canonicalText, HoldsNames, WriteReply, wrote, refusedWrite, writeFitting, writeBy, writeReply, Writes}
 use Rattle.canonical.specs.Canonical.{Fixed.canonical-twice, Names.canonical-held, Accepted.canonical-accepted, Accepted.canonical-names}
-
-within-of : (x : Text) (t : Syntax) → Answers x (accepted t) → Within t
-within-of x t h = accepted-is t (h .1 .formed) .1 (subst (λ (y : Text). Answers y (accepted t)) (sym (h .1 .spelt)) h)
 
 pub held-same : (x : Text) (t : Syntax) → Answers x (accepted t) → (w : List Text) → HoldsNames (canonical t) w ↔ HoldsNames t w
 held-same x t h =
-    canonical-held t (within-of x t h .apart) (within-of (canonicalText t) (canonical t) (canonical-accepted x t h) .apart)
+    canonical-held t (accepted-within x t h .apart) (accepted-within (canonicalText t) (canonical t) (canonical-accepted x t h) .apart)
     (λ a m. occurs-in a (writtenNames t) (subst (λ n. 1 ≤ n) (canonical-names t a) (occurs-here a (writtenNames (canonical t)) m)))
 
 -- The table.
-fits : (y : Text) (k : ℕ) → length y ≤ k → wrote y ≡ fitted y k
+fits : (y : Text) (k : ℕ) → length y ≤ k → wrote y ≡ writeFitting y k
 fits y k h = rw (le-leb (length y) k h)
 
-long : (y : Text) (k : ℕ) → k < length y → refusedWrite LongText 0 ≡ fitted y k
+long : (y : Text) (k : ℕ) → k < length y → refusedWrite LongText 0 ≡ writeFitting y k
 long y k h = rw (lt-leb (length y) k h)
 
 by-answer : (x : Text) (k : ℕ) (a : Answer) → Answers x a → writeBy a k ≡ writeReply x k
@@ -51,3 +48,10 @@ again x y k e =
     let (t, h, i, l) = writes-is x k (wrote y) .1 e in
     let a = canonical-accepted x t h in
     writes-once y k (wrote y) (canonical t, subst (λ (z : Text). Answers z (accepted (canonical t))) (sym i) a, i ∙ ap text (sym (canonical-twice t)), l)
+
+-- what is written is no longer than a model text may be
+pub written-short : (x y : Text) (k : ℕ) → wrote y ≡ writeReply x k → length y ≤ maxText
+written-short x y k e =
+    let (t, h, i, l) = writes-is x k (wrote y) .1 e in
+    let a = canonical-accepted x t h in
+    subst (λ (z : Text). length z ≤ maxText) (sym i) (text-fits (canonical t) (a .1 .formed) (accepted-within (canonicalText t) (canonical t) a))

@@ -7,7 +7,7 @@ use native.Mathlib.{Decide.decLt, Omega.arith}
 use lib.Dec.{eqb, ltb}
 use borrow.Author.Tests.{ltb-true, lt-ltb, eqb-true, eq-eqb}
 use Rattle.fields.specs.{Bytes.Text, Bytes.sameText, Bytes.Laws.same-text, Tests.by-test, Tests.Tells, Tests.tells-and, Tests.tells-or}
-use Rattle.canonical.specs.Order.{notAfter, lesser, smallest}
+use Rattle.canonical.specs.Order.{notAfter, smaller, smallest}
 
 first-byte : (c d : ℕ) (x y : Text) → Tells (notAfter (c ∷ x) (d ∷ y)) ((c < d) ⊎ ((c ≡ d) × (notAfter x y ≡ true)))
 first-byte c d x y =
@@ -53,11 +53,11 @@ not-after-both (c ∷ x) (d ∷ y) h k =
     (first-byte c d x y .0 h)
 
 -- the smallest is one of the names, and is after none
-lesser-left : (x y : Text) → notAfter (lesser x y) x ≡ true
-lesser-left x y = by-test (notAfter x y) (λ e. rw e (not-after-itself x)) (λ e. rw e (not-after-other x y e))
+smaller-left : (x y : Text) → notAfter (smaller x y) x ≡ true
+smaller-left x y = by-test (notAfter x y) (λ e. rw e (not-after-itself x)) (λ e. rw e (not-after-other x y e))
 
-lesser-right : (x y : Text) → notAfter (lesser x y) y ≡ true
-lesser-right x y = by-test (notAfter x y) (λ e. rw e e) (λ e. rw e (not-after-itself y))
+smaller-right : (x y : Text) → notAfter (smaller x y) y ≡ true
+smaller-right x y = by-test (notAfter x y) (λ e. rw e e) (λ e. rw e (not-after-itself y))
 
 pub smallest-in : (x : Text) (l : List Text) → List·Memᴰ (smallest (x ∷ l)) (x ∷ l)
 smallest-in x [] = List·Memᴰ·head refl
@@ -69,28 +69,28 @@ smallest-first [] y m = absurd (List·Memᴰ·not-nil m)
 smallest-first (x ∷ []) y m = ⊎-elim (λ e. rw e (not-after-itself x)) (λ i. absurd (List·Memᴰ·not-nil i)) (List·Memᴰ·cases-cons m)
 smallest-first (x ∷ z ∷ l) y m =
     let s = smallest (z ∷ l) in
-    ⊎-elim (λ e. rw e (lesser-left x s)) (λ i. not-after-trans (lesser x s) s y (lesser-right x s) (smallest-first (z ∷ l) y i))
+    ⊎-elim (λ e. rw e (smaller-left x s)) (λ i. not-after-trans (smaller x s) s y (smaller-right x s) (smallest-first (z ∷ l) y i))
     (List·Memᴰ·cases-cons m)
 
 -- the smallest of names and others behind them
-lesser-both : (w x y : Text) → notAfter w x ≡ true → notAfter w y ≡ true → notAfter w (lesser x y) ≡ true
-lesser-both w x y h k = by-test (notAfter x y) (λ e. rw e h) (λ e. rw e k)
+smaller-both : (w x y : Text) → notAfter w x ≡ true → notAfter w y ≡ true → notAfter w (smaller x y) ≡ true
+smaller-both w x y h k = by-test (notAfter x y) (λ e. rw e h) (λ e. rw e k)
 
-lesser-assoc : (x y z : Text) → lesser x (lesser y z) ≡ lesser (lesser x y) z
-lesser-assoc x y z =
-    let r = lesser x (lesser y z) in
-    let l = lesser (lesser x y) z in
-    let p = not-after-trans r (lesser y z) y (lesser-right x (lesser y z)) (lesser-left y z) in
-    let q = not-after-trans r (lesser y z) z (lesser-right x (lesser y z)) (lesser-right y z) in
-    let i = not-after-trans l (lesser x y) x (lesser-left (lesser x y) z) (lesser-left x y) in
-    let j = not-after-trans l (lesser x y) y (lesser-left (lesser x y) z) (lesser-right x y) in
+smaller-assoc : (x y z : Text) → smaller x (smaller y z) ≡ smaller (smaller x y) z
+smaller-assoc x y z =
+    let r = smaller x (smaller y z) in
+    let l = smaller (smaller x y) z in
+    let p = not-after-trans r (smaller y z) y (smaller-right x (smaller y z)) (smaller-left y z) in
+    let q = not-after-trans r (smaller y z) z (smaller-right x (smaller y z)) (smaller-right y z) in
+    let i = not-after-trans l (smaller x y) x (smaller-left (smaller x y) z) (smaller-left x y) in
+    let j = not-after-trans l (smaller x y) y (smaller-left (smaller x y) z) (smaller-right x y) in
     not-after-both r l
-    (lesser-both r (lesser x y) z (lesser-both r x y (lesser-left x (lesser y z)) p) q)
-    (lesser-both l x (lesser y z) i (lesser-both l y z j (lesser-right (lesser x y) z)))
+    (smaller-both r (smaller x y) z (smaller-both r x y (smaller-left x (smaller y z)) p) q)
+    (smaller-both l x (smaller y z) i (smaller-both l y z j (smaller-right (smaller x y) z)))
 
-pub smallest-append : (x : Text) (k : List Text) (y : Text) (l : List Text) → smallest ((x ∷ k) ++ (y ∷ l)) ≡ lesser (smallest (x ∷ k)) (smallest (y ∷ l))
+pub smallest-append : (x : Text) (k : List Text) (y : Text) (l : List Text) → smallest ((x ∷ k) ++ (y ∷ l)) ≡ smaller (smallest (x ∷ k)) (smallest (y ∷ l))
 smallest-append x [] y l = refl
-smallest-append x (z ∷ k) y l = ap (lesser x) (smallest-append z k y l) ∙ lesser-assoc x (smallest (z ∷ k)) (smallest (y ∷ l))
+smallest-append x (z ∷ k) y l = ap (smaller x) (smallest-append z k y l) ∙ smaller-assoc x (smallest (z ∷ k)) (smallest (y ∷ l))
 
 -- how often a name stands in a list
 abbrev pub occurs : Text → List Text → ℕ

@@ -10,15 +10,15 @@ use Rattle.canonical.specs.Order.{notAfter, smallestName, insert, sort, 
 use Rattle.canonical.specs.Order.Kept.{order-smallest, order-nullable, order-size, arrange-all}
 
 -- each member's smallest name is not after that of the next
-abbrev pub Before : Syntax → Members Spelling → Type 0
-Before t none = Unit {0}
-Before t (u ▹ us) = notAfter (smallestName t) (smallestName u) ≡ true
+abbrev pub BeforeAll : Syntax → Members Spelling → Type 0
+BeforeAll t none = Unit {0}
+BeforeAll t (u ▹ us) = notAfter (smallestName t) (smallestName u) ≡ true
 
 abbrev pub Rising : Members Spelling → Type 0
 Rising none = Unit {0}
-Rising (t ▹ ts) = Before t ts × Rising ts
+Rising (t ▹ ts) = BeforeAll t ts × Rising ts
 
-insert-before : (u t : Syntax) (ts : Members Spelling) → notAfter (smallestName u) (smallestName t) ≡ true → Before u ts → Before u (insert t ts)
+insert-before : (u t : Syntax) (ts : Members Spelling) → notAfter (smallestName u) (smallestName t) ≡ true → BeforeAll u ts → BeforeAll u (insert t ts)
 insert-before u t none e h = e
 insert-before u t (v ▹ ts) e h = by-test (notAfter (smallestName t) (smallestName v)) (λ f. rw f e) (λ f. rw f h)
 
@@ -33,7 +33,7 @@ pub sort-rising : (ts : Members Spelling) → Rising (sort ts)
 sort-rising none = tt
 sort-rising (t ▹ ts) = insert-rising t (sort ts) (sort-rising ts)
 
-insert-same : (t : Syntax) (ts : Members Spelling) → Before t ts → insert t ts ≡ t ▹ ts
+insert-same : (t : Syntax) (ts : Members Spelling) → BeforeAll t ts → insert t ts ≡ t ▹ ts
 insert-same t none h = refl
 insert-same t (u ▹ us) h = rw h refl
 

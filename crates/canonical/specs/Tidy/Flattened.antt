@@ -12,8 +12,8 @@ use Rattle.model.specs.Tree.{Node, leaf, group, marked, Members, none, _▹_, s
 use Rattle.model.specs.Syntax.{Spelling, Syntax}
 use Rattle.model.specs.Flatten.{isChoice, nil, isNil, someNil, merges, membersOf, withMember, gathered, grouped, over, droppedMark, _⧺_}
 use Rattle.model.specs.Flatten.{flattenNode, flatten, flattenAll, Merges.merged, Solid.Solid, Solid.solid-not-nil, Solid.AllFlattened, Solid.all-flattened}
-use Rattle.canonical.specs.Tidy.{nodeNullable, treeNullable, someNullable, marking, stripped, gives, someGives, settled, tidyNode, tidy, tidyAll}
-use Rattle.canonical.specs.Tidy.Form.{Neat, NeatAll, Tidied, AllTidied, neat-not-nil, gathered-neat, tidy-neat, all-tidied, stripped-same}
+use Rattle.canonical.specs.Tidy.{nodeNullable, treeNullable, someNullable, marking, stripped, gives, someGives, settledGroup, tidyNode, tidy, tidyAll}
+use Rattle.canonical.specs.Tidy.Form.{Neat, NeatAll, NeatOrNil, AllNeatOrNil, neat-not-nil, gathered-neat, tidy-neat, all-tidied, stripped-same}
 use Rattle.canonical.specs.Tidy.Form.{stripped-neat, grouped-same}
 
 -- of two marks the outer one stays
@@ -21,7 +21,7 @@ marking-twice : (m : Mark) (t : Syntax) → marking Optional (marking m t) ≡ m
 marking-twice Plain t = refl
 marking-twice Optional (marked m n) = refl
 
-nothing-settled : (s : Sign) → settled s [] ≡ nil
+nothing-settled : (s : Sign) → settledGroup s [] ≡ nil
 nothing-settled None = refl
 nothing-settled Sequence = refl
 nothing-settled Choice = refl
@@ -89,7 +89,7 @@ regathered s (t ▹ u ▹ ts) h =
     ap (λ (v : Syntax). gathered s (v ∷ [])) e ∙ rw (same-merges s (t ▹ u ▹ ts), append-none ts) refl
 
 -- a group among the members of a group of its sign: its members are those of the group
-settled-kept : (s : Sign) (l : List Syntax) → AllTidied l → kept s (settled s l ∷ []) ≡ kept s l
+settled-kept : (s : Sign) (l : List Syntax) → AllNeatOrNil l → kept s (settledGroup s l ∷ []) ≡ kept s l
 settled-kept s l h = rw (stripped-marking s (someGives l) (grouped s (kept s l))) (regathered s (kept s l) (gathered-neat s l h))
 
 regrouped : (s : Sign) (t : Syntax) → Neat t → grouped s (gathered s (t ∷ [])) ≡ t
@@ -107,11 +107,11 @@ remarked s (marked Optional n) h =
     by-test (isChoice s) (λ c. rw (c, neat-not-nil (marked Optional n) h, h .0) refl) (λ c. rw c refl)
 
 -- a group of one tidied tree is the tree
-settled-one : (s : Sign) (t : Syntax) → Tidied t → settled s (t ∷ []) ≡ t
+settled-one : (s : Sign) (t : Syntax) → NeatOrNil t → settledGroup s (t ∷ []) ≡ t
 settled-one s t (inl e) = rw e (by-test (isChoice s) (λ c. rw c refl) (λ c. rw c refl))
 settled-one s t (inr h) = rw (regrouped s (stripped s t) (stripped-neat s t h)) (remarked s t h)
 
-tidy-grouped : (s : Sign) (ts : Members Spelling) → tidy (grouped s ts) ≡ settled s (tidyAll ts)
+tidy-grouped : (s : Sign) (ts : Members Spelling) → tidy (grouped s ts) ≡ settledGroup s (tidyAll ts)
 tidy-grouped s none = sym (nothing-settled s)
 tidy-grouped s (t ▹ none) = sym (settled-one s (tidy t) (tidy-neat t))
 tidy-grouped s (t ▹ u ▹ ts) = refl
@@ -175,22 +175,22 @@ module _ (s : Sign) (choice : isChoice s ≡ true) where
       by-test (merges s (marked m (group r (v ▹ vs)))) (λ j. not-none (rw j at e)) (λ j. not-none (rw j at e))
 
   -- if nothing is kept of some members, `()` was there
-  some-kept : (t : Syntax) (l : List Syntax) → Tidied t → kept s (t ∷ l) ≡ none → someGives (t ∷ l) ≡ true
+  some-kept : (t : Syntax) (l : List Syntax) → NeatOrNil t → kept s (t ∷ l) ≡ none → someGives (t ∷ l) ≡ true
   some-kept t l (inl e) k = rw e refl
   some-kept t l (inr h) k =
       let i = stripped-neat s t h in
       absurd (with-some (stripped s t) (kept s l) i (rw (neat-not-nil (stripped s t) i) at k))
 
-  full-settled : (t : Syntax) (l : List Syntax) → AllTidied (t ∷ l) → full s (settled s (t ∷ l) ∷ []) ≡ full s (t ∷ l)
+  full-settled : (t : Syntax) (l : List Syntax) → AllNeatOrNil (t ∷ l) → full s (settledGroup s (t ∷ l) ∷ []) ≡ full s (t ∷ l)
   full-settled t l h =
       let k = t ∷ l in
       rw (settled-kept s k h) (by-test (someNullable (kept s k))
-      (λ e. rw e (or-true (gives (settled s k) || false) ∙ sym (or-true (someGives k))))
+      (λ e. rw e (or-true (gives (settledGroup s k) || false) ∙ sym (or-true (someGives k))))
       (λ e.
       let g = gives-settled (someGives k) (kept s k) (gathered-neat s k h) e (some-kept t l (h .0)) in
       rw (e, g) (ap (λ (b : Bool). b || false) (or-false (someGives k)))))
 
-  full-same : (l : List Syntax) → AllTidied l → marking (droppedMark s (full s l)) (grouped s (kept s l)) ≡ settled s l
+  full-same : (l : List Syntax) → AllNeatOrNil l → marking (droppedMark s (full s l)) (grouped s (kept s l)) ≡ settledGroup s l
   full-same l h =
       by-test (someGives l)
       (λ e. rw e refl)
@@ -198,7 +198,7 @@ module _ (s : Sign) (choice : isChoice s ≡ true) where
       (λ n. rw (e, n, choice) (held-without (kept s l) (gathered-neat s l h) n))
       (λ n. rw (e, n) refl))
 
-settled-full : (s : Sign) (l : List Syntax) → AllTidied l → settled s l ≡ marking (droppedMark s (full s l)) (grouped s (kept s l))
+settled-full : (s : Sign) (l : List Syntax) → AllNeatOrNil l → settledGroup s l ≡ marking (droppedMark s (full s l)) (grouped s (kept s l))
 settled-full s l h = by-test (isChoice s) (λ c. sym (full-same s c l h)) (λ c. rw c refl)
 
 -- the mark that flattening passes on, and the one that tidying finds
@@ -211,7 +211,7 @@ tidy-append : (ts us : Members Spelling) → tidyAll (ts ⧺ us) ≡ tidyAll ts 
 tidy-append none us = refl
 tidy-append (t ▹ ts) us = ap (λ (l : List Syntax). tidy t ∷ l) (tidy-append ts us)
 
-map-tidied : (l : List Syntax) → AllTidied (map tidy l)
+map-tidied : (l : List Syntax) → AllNeatOrNil (map tidy l)
 map-tidied [] = tt
 map-tidied (t ∷ l) = (tidy-neat t, map-tidied l)
 
@@ -224,15 +224,15 @@ tidied-kept s (t ∷ l) =
     (λ e. by-test (merges s t)
     (λ j.
     let ts = membersOf t in
-    let p : tidy t ≡ settled s (tidyAll ts) = ap tidy (merged s t j) in
+    let p : tidy t ≡ settledGroup s (tidyAll ts) = ap tidy (merged s t j) in
     rw (e, j, p, tidy-append ts (gathered s l), kept-append s (tidyAll ts) (tidyAll (gathered s l)), ← k)
-    (kept-append s (settled s (tidyAll ts) ∷ []) (map tidy l)
+    (kept-append s (settledGroup s (tidyAll ts) ∷ []) (map tidy l)
     ∙ ap (λ (us : Members Spelling). us ⧺ kept s (map tidy l)) (settled-kept s (tidyAll ts) (all-tidied ts))))
     (λ j. rw (e, j)
     (kept-append s (tidy t ∷ []) (map tidy l) ∙ ap (λ (us : Members Spelling). kept s (tidy t ∷ []) ⧺ us) k
     ∙ sym (kept-append s (tidy t ∷ []) (tidyAll (gathered s l))))))
 
-full-group : (s : Sign) (ts : Members Spelling) → isChoice s ≡ true → 2 ≤ size ts → full s (settled s (tidyAll ts) ∷ []) ≡ full s (tidyAll ts)
+full-group : (s : Sign) (ts : Members Spelling) → isChoice s ≡ true → 2 ≤ size ts → full s (settledGroup s (tidyAll ts) ∷ []) ≡ full s (tidyAll ts)
 full-group s none c h = absurd (omega arith)
 full-group s (t ▹ ts) c h = full-settled s c (tidy t) (tidyAll ts) (all-tidied (t ▹ ts))
 
@@ -246,9 +246,9 @@ tidied-full s (t ∷ l) c (inr i, h) =
     (λ j.
     let ts = membersOf t in
     let q = merged s t j in
-    let p : tidy t ≡ settled s (tidyAll ts) = ap tidy q in
+    let p : tidy t ≡ settledGroup s (tidyAll ts) = ap tidy q in
     rw (j, p, tidy-append ts (gathered s l), full-append s (tidyAll ts) g)
-    (full-append s (settled s (tidyAll ts) ∷ []) (map tidy l) ∙ ap₂ _||_ (full-group s ts c (subst Solid q i .0)) k
+    (full-append s (settledGroup s (tidyAll ts) ∷ []) (map tidy l) ∙ ap₂ _||_ (full-group s ts c (subst Solid q i .0)) k
     ∙ sym (or-assoc (full s (tidyAll ts)) (full s g) (someNil l))))
     (λ j. rw j
     (full-append s (tidy t ∷ []) (map tidy l) ∙ ap (λ (b : Bool). full s (tidy t ∷ []) || b) k
@@ -259,7 +259,7 @@ dropped-full : (s : Sign) (l : List Syntax) → AllFlattened l
 dropped-full s l h = by-test (isChoice s) (λ c. ap (droppedMark s) (sym (tidied-full s l c h))) (λ c. rw c refl)
 
 group-flatten : (s : Sign) (l : List Syntax) → AllFlattened l
-    → tidy (over (droppedMark s (someNil l)) (grouped s (gathered s l))) ≡ settled s (map tidy l)
+    → tidy (over (droppedMark s (someNil l)) (grouped s (gathered s l))) ≡ settledGroup s (map tidy l)
 group-flatten s l h =
     let m = droppedMark s (someNil l) in
     let g = gathered s l in
@@ -272,7 +272,7 @@ group-flatten s l h =
 mutual
   node-flatten : (n : Node Spelling) → tidy (flattenNode n) ≡ tidyNode n
   node-flatten (leaf a) = refl
-  node-flatten (group s ts) = group-flatten s (flattenAll ts) (all-flattened ts) ∙ ap (settled s) (all-flatten ts)
+  node-flatten (group s ts) = group-flatten s (flattenAll ts) (all-flattened ts) ∙ ap (settledGroup s) (all-flatten ts)
 
   pub tidy-flatten : (t : Syntax) → tidy (flatten t) ≡ tidy t
   tidy-flatten (marked m n) = over-tidy m (flattenNode n) ∙ ap (marking m) (node-flatten n)

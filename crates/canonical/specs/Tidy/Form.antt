@@ -13,7 +13,7 @@ use Rattle.model.specs.Tree.{Node, leaf, group, marked, Members, none, _▹_, s
 use Rattle.model.specs.Syntax.{Count, unwritten, between, onward, Spelling, Syntax}
 use Rattle.model.specs.Flatten.{isChoice, nil, isNil, merges, membersOf, withMember, gathered, grouped, droppedMark, _⧺_}
 use Rattle.model.specs.Flatten.{Merges.merged}
-use Rattle.canonical.specs.Tidy.{fromZero, raised, tidyCount, nodeNullable, marking, stripped, gives, someGives, settled, tidyNode, tidy, tidyAll}
+use Rattle.canonical.specs.Tidy.{fromZero, raised, tidyCount, nodeNullable, marking, stripped, gives, someGives, settledGroup, tidyNode, tidy, tidyAll}
 
 -- a `?` changes something
 abbrev pub Needed : Mark → Bool → Type 0
@@ -40,12 +40,12 @@ abbrev mutual
   NeatAll none s = Unit {0}
   NeatAll (t ▹ ts) s = Neat t × Stays s t × NeatAll ts s
 
-abbrev pub Tidied : Syntax → Type 0
-Tidied t = (t ≡ nil) ⊎ Neat t
+abbrev pub NeatOrNil : Syntax → Type 0
+NeatOrNil t = (t ≡ nil) ⊎ Neat t
 
-abbrev pub AllTidied : List Syntax → Type 0
-AllTidied [] = Unit {0}
-AllTidied (t ∷ l) = Tidied t × AllTidied l
+abbrev pub AllNeatOrNil : List Syntax → Type 0
+AllNeatOrNil [] = Unit {0}
+AllNeatOrNil (t ∷ l) = NeatOrNil t × AllNeatOrNil l
 
 pub neat-not-nil : (t : Syntax) → Neat t → isNil t ≡ false
 neat-not-nil (marked m (leaf a)) h = refl
@@ -90,7 +90,7 @@ with-neat s t us h q k =
     (λ e. rw e (append-neat (membersOf t) us s (subst Neat (merged s t e) h .1 .1) k))
     (λ e. rw e (h, (e, q), k))
 
-pub gathered-neat : (s : Sign) (l : List Syntax) → AllTidied l → NeatAll (gathered s (map (stripped s) l)) s
+pub gathered-neat : (s : Sign) (l : List Syntax) → AllNeatOrNil l → NeatAll (gathered s (map (stripped s) l)) s
 gathered-neat s [] h = tt
 gathered-neat s (t ∷ l) h =
     let k = gathered-neat s l (h .1) in
@@ -102,17 +102,17 @@ gathered-neat s (t ∷ l) h =
     rw (neat-not-nil u i) (with-neat s u (gathered s (map (stripped s) l)) i (stripped-strips s t) k))
     (h .0)
 
-marking-tidied : (m : Mark) (t : Syntax) → Tidied t → Tidied (marking m t)
+marking-tidied : (m : Mark) (t : Syntax) → NeatOrNil t → NeatOrNil (marking m t)
 marking-tidied Plain t h = h
 marking-tidied Optional t (inl e) = inl (rw e refl)
 marking-tidied Optional (marked m n) (inr h) = inr (by-test (nodeNullable n) (λ e. rw e (tt, h .1)) (λ e. rw e (refl, h .1)))
 
-grouped-tidied : (s : Sign) (ts : Members Spelling) → NeatAll ts s → Tidied (grouped s ts)
+grouped-tidied : (s : Sign) (ts : Members Spelling) → NeatAll ts s → NeatOrNil (grouped s ts)
 grouped-tidied s none h = inl refl
 grouped-tidied s (t ▹ none) h = inr (h .0)
 grouped-tidied s (t ▹ u ▹ ts) h = inr (tt, (omega arith, h))
 
-pub settled-tidied : (s : Sign) (l : List Syntax) → AllTidied l → Tidied (settled s l)
+pub settled-tidied : (s : Sign) (l : List Syntax) → AllNeatOrNil l → NeatOrNil (settledGroup s l)
 settled-tidied s l h =
     let ts = gathered s (map (stripped s) l) in
     marking-tidied (droppedMark s (someGives l)) (grouped s ts) (grouped-tidied s ts (gathered-neat s l h))
@@ -122,7 +122,7 @@ leaf-neat true a e k = (e, (e, k))
 leaf-neat false a e k = (tt, (e, k))
 
 mutual
-  node-tidied : (n : Node Spelling) → Tidied (tidyNode n)
+  node-tidied : (n : Node Spelling) → NeatOrNil (tidyNode n)
   node-tidied (leaf a) =
       let c = a .count in
       inr (leaf-neat (fromZero c) (record { name = a .name; count = tidyCount c }) (count-not-zero c) (count-twice c))
@@ -131,7 +131,7 @@ mutual
   pub tidy-neat : (t : Syntax) → (tidy t ≡ nil) ⊎ Neat (tidy t)
   tidy-neat (marked m n) = marking-tidied m (tidyNode n) (node-tidied n)
 
-  pub all-tidied : (ts : Members Spelling) → AllTidied (tidyAll ts)
+  pub all-tidied : (ts : Members Spelling) → AllNeatOrNil (tidyAll ts)
   all-tidied none = tt
   all-tidied (t ▹ ts) = (tidy-neat t, all-tidied ts)
 
@@ -168,7 +168,7 @@ grouped-same s (t ▹ u ▹ ts) h = refl
 unmarked : (s : Sign) (ts : Members Spelling) → NeatAll ts s → droppedMark s (someGives (listOf ts)) ≡ Plain
 unmarked s ts h = by-test (isChoice s) (λ c. rw (c, none-gives s ts c h) refl) (λ c. rw c refl)
 
-settled-same : (s : Sign) (ts : Members Spelling) → NeatNode (group s ts) → settled s (listOf ts) ≡ marked Plain (group s ts)
+settled-same : (s : Sign) (ts : Members Spelling) → NeatNode (group s ts) → settledGroup s (listOf ts) ≡ marked Plain (group s ts)
 settled-same s ts h = rw (unmarked s ts (h .1), gathered-same s ts (h .1)) (grouped-same s ts (h .0))
 
 marking-same : (m : Mark) (n : Node Spelling) → Needed m (nodeNullable n) → marking m (marked Plain n) ≡ marked m n
@@ -178,7 +178,7 @@ marking-same Optional n h = rw h refl
 mutual
   node-same : (n : Node Spelling) → NeatNode n → tidyNode n ≡ marked Plain n
   node-same (leaf a) h = rw (h .0, h .1) refl
-  node-same (group s ts) h = ap (settled s) (all-same ts s (h .1)) ∙ settled-same s ts h
+  node-same (group s ts) h = ap (settledGroup s) (all-same ts s (h .1)) ∙ settled-same s ts h
 
   pub neat-same : (t : Syntax) → Neat t → tidy t ≡ t
   neat-same (marked m n) h = ap (marking m) (node-same n (h .1)) ∙ marking-same m n (h .0)

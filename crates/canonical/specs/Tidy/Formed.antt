@@ -12,7 +12,7 @@ use Rattle.model.specs.Tree.{Node, leaf, group, marked, Members, none, _▹_, s
 use Rattle.model.specs.Syntax.{Spelling, Syntax}
 use Rattle.model.specs.Flatten.{isNil, merges, membersOf, gathered, grouped, droppedMark, _⧺_, Merges.merged}
 use Rattle.canonical.specs.Tidy.{tidyAtom, marking, stripped, someGives, tidyNode, tidy, tidyAll}
-use Rattle.canonical.specs.Tidy.Form.{Neat, AllTidied, neat-not-nil, all-tidied}
+use Rattle.canonical.specs.Tidy.Form.{Neat, AllNeatOrNil, neat-not-nil, all-tidied}
 
 tidied-length : (ts : Members Spelling) → length (tidyAll ts) ≡ size ts
 tidied-length none = refl
@@ -52,13 +52,13 @@ module _ (P : Spelling → Type 0) where
       (λ e. let p = merged None t e in absurd (omega (arith, subst Neat p n .1 .0, subst (Formed P) p h .0)))
       (λ e. rw e (omega arith)))
 
-  few-kept : (l : List Syntax) → length l ≤ 1 → AllTidied l → AllFormed l → size (gathered None (map (stripped None) l)) ≤ 1
+  few-kept : (l : List Syntax) → length l ≤ 1 → AllNeatOrNil l → AllFormed l → size (gathered None (map (stripped None) l)) ≤ 1
   few-kept [] k n h = omega arith
   few-kept (t ∷ []) k (inl e, n) h = rw e (omega arith)
   few-kept (marked m x ∷ []) k (inr e, n) h = one-kept (marked m x) e (h .0)
   few-kept (t ∷ u ∷ l) k n h = absurd (omega arith)
 
-  sign-fits : (s : Sign) (l : List Syntax) → SignFits s (length l) → AllTidied l → AllFormed l
+  sign-fits : (s : Sign) (l : List Syntax) → SignFits s (length l) → AllNeatOrNil l → AllFormed l
       → 2 ≤ size (gathered s (map (stripped s) l)) → SignFits s (size (gathered s (map (stripped s) l)))
   sign-fits None l k n h e = few-kept l k n h
   sign-fits Sequence l k n h e = e

@@ -8,7 +8,7 @@ use Rattle.model.specs.declared.rule.Mark.the-variants.{Plain, Optional}
 use Rattle.model.specs.Tree.{Node, leaf, group, marked, Members, none, _▹_, nodeLeaves, leaves, membersLeaves, atoms, Leaves.length-leaves}
 use Rattle.model.specs.Syntax.{Spelling, Syntax, writtenNames}
 use Rattle.model.specs.Flatten.{gathered, grouped, droppedMark, Leaves.listLeaves, Leaves.gathered-leaves, Leaves.grouped-leaves}
-use Rattle.canonical.specs.Tidy.{tidyAtom, marking, stripped, someGives, settled, tidyNode, tidy, tidyAll}
+use Rattle.canonical.specs.Tidy.{tidyAtom, marking, stripped, someGives, settledGroup, tidyNode, tidy, tidyAll}
 
 marking-leaves : (m : Mark) (t : Syntax) → leaves (marking m t) ≡ leaves t
 marking-leaves Plain t = refl
@@ -18,7 +18,7 @@ stripped-leaves : (s : Sign) (l : List Syntax) → listLeaves (map (stripped s) 
 stripped-leaves s [] = refl
 stripped-leaves s (marked m n ∷ l) = ap (λ (k : List Spelling). nodeLeaves n ++ k) (stripped-leaves s l)
 
-settled-leaves : (s : Sign) (l : List Syntax) → leaves (settled s l) ≡ listLeaves l
+settled-leaves : (s : Sign) (l : List Syntax) → leaves (settledGroup s l) ≡ listLeaves l
 settled-leaves s l =
     let k = map (stripped s) l in
     marking-leaves (droppedMark s (someGives l)) (grouped s (gathered s k)) ∙ grouped-leaves s (gathered s k) ∙ gathered-leaves s k ∙ stripped-leaves s l

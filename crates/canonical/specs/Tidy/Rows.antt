@@ -18,7 +18,7 @@ use Rattle.model.specs.Model.{countsOf, countedType, operator, markedType, node
 use Rattle.model.specs.Flatten.{isChoice, isNil, someNil, gathered, grouped, droppedMark}
 use Rattle.model.specs.Flatten.Rows.{Together, from-together, Dropped, dropped-same, one-empty, marked-same, optional-over, none-left, treeTypes, gathered-rows}
 use Rattle.model.specs.Flatten.Rows.{left-rows, dropped-not, dropped-behind, nil-rows}
-use Rattle.canonical.specs.Tidy.{fromZero, tidyCount, nodeNullable, marking, stripped, gives, someGives, settled, tidyNode, tidy, tidyAll}
+use Rattle.canonical.specs.Tidy.{fromZero, tidyCount, nodeNullable, marking, stripped, gives, someGives, settledGroup, tidyNode, tidy, tidyAll}
 use Rattle.canonical.specs.Tidy.{Nullable.node-nullable}
 pub use Rattle.canonical.specs.Tidy.Meaning.{meaning}
 
@@ -119,7 +119,7 @@ module _ (ν : Text → ℕ) where
       thus (dropped-both (operator s) (gives t) (someGives l) (rows (stripped s t)) (Rows s (map (stripped s) l)))
       (joined-same (operator s) (stripped-one s t) (stripped-rows s l))
 
-  settled-rows : (s : Sign) (t : Syntax) (l : List Syntax) → Same (rows (settled s (t ∷ l))) (Rows s (t ∷ l))
+  settled-rows : (s : Sign) (t : Syntax) (l : List Syntax) → Same (rows (settledGroup s (t ∷ l))) (Rows s (t ∷ l))
   settled-rows s t l =
       let o = operator s in
       let k : List Syntax = map (stripped s) (t ∷ l) in

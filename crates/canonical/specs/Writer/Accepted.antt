@@ -7,17 +7,17 @@ use lib.ListN.{length, drop, set, getD, replicate, length-set, drop-of-length-le
 use borrow.Author.Tests.{le-leb, lt-leb}
 use Rattle.fields.specs.{Bytes.Text, Bytes.bytes, Limits.maxText, Limits.maxNodes, Put.Put, Put.Laws.put-first}
 use Rattle.model.specs.{declared.fault.ModelFault.the-variants.Size, Tree.leaf, Tree.group, Tree.marked, Tree.nodes, declared.rule.Mark.Mark, Flatten.nil, Flatten.membersOf, Answer.answer, Answer.answered}
-use Rattle.model.specs.{Fault.Answer, Fault.Answers, Fault.refused, Fault.accepted, declared.fault.ModelFault.ModelFault, Accept.Within, Accept.Laws.accepted-is, Syntax.Syntax, Syntax.Spells, Syntax.text, Syntax.writtenNames}
+use Rattle.model.specs.{Fault.Answer, Fault.Answers, Fault.refused, Fault.accepted, declared.fault.ModelFault.ModelFault, Accept.Within, Accept.Laws.accepted-within, Syntax.Syntax, Syntax.Spells, Syntax.text, Syntax.writtenNames}
 use Rattle.canonical.specs.declared.write.Written.the-variants.{Length, Refused}
 use Rattle.canonical.specs.declared.fault.WriteFault.the-variants.{Model, LongText}
 use Rattle.judge.specs.Reading.{readingBy}
 use Rattle.judge.specs.declared.reading.Outcome.the-variants.{Read, Refused as IsRefused}
 use Rattle.canonical.specs.declared.write.Written.{Written}
 use Rattle.canonical.specs.{declared.tidy.Tidied.Tidied, Tidy.tidy, Order.order, Order.Kept.order-length}
-use Rattle.canonical.specs.Canonical.{canonicalText, fitted, writeBy, writeReply, writtenOf, bufferAfter}
+use Rattle.canonical.specs.Canonical.{canonicalText, writeFitting, writeBy, writeReply, writtenOf, bufferWritten}
 use Rattle.canonical.specs.Canonical.Fixed.{canonical-tidy}
-use Rattle.canonical.specs.Writer.{Head.headIn, Place.TreeAt, Keeps.Keeps, Keeps.Proper, Keeps.Least, Keeps.signCode, Stack.treesOn, Stack.Heads, Lists.treeAt, Lists.PutReady}
-use Rattle.canonical.specs.Writer.{Length.LengthReady, Length.signedLength, Recursion.Ready, Recursion.TidiedAt, Recursion.Stepped.on-top, Recursion.Stepped.mark-kept}
+use Rattle.canonical.specs.Writer.{Head.headIn, Place.TreeAt, Keeps.KeepsTree, Keeps.Proper, Keeps.LeastAt, Keeps.signCode, Stack.treesOn, Stack.HeadsFit, Lists.treeAt, Lists.PutReady}
+use Rattle.canonical.specs.Writer.{Length.LengthReady, Length.signedLength, Recursion.TidyReady, Recursion.TidiedAt, Recursion.Stepped.on-top, Recursion.Stepped.mark-kept}
 use Rattle.canonical.specs.Writer.{Stack.stacked, Stack.markIf, Stack.Push.headOf, Stack.Push.push, Stack.Skip.trees-none, Stack.Skip.some-node, Keeps.Laws.withMark}
 
 -- the text of the tree on top
@@ -28,7 +28,7 @@ proper-signed : (x : Text) (u : Syntax) (p : ℕ) → Proper x u p → signCode 
 proper-signed x (marked m (leaf a)) p h e = absurd (omega (arith, e))
 proper-signed x (marked m (group s ts)) p h e = absurd (omega (arith, e, h .1))
 
-marked-same : {x : Text} (u : Syntax) {r : Tidied} → Keeps x u r → withMark (markIf (r .marked)) u ≡ u
+marked-same : {x : Text} (u : Syntax) {r : Tidied} → KeepsTree x u r → withMark (markIf (r .marked)) u ≡ u
 marked-same (marked m n) {r} k = ap (λ (j : Mark). marked j n) (mark-kept (r .marked) m (k .marked-is))
 
 -- one tree stands on the stack
@@ -36,16 +36,16 @@ pub record OneTree (x : Text) (stack : List ℕ) (top : ℕ) : Type 0 where
   pub short : length x ≤ maxText
   pub entries : length stack ≡ maxNodes
   pub inside : top < maxNodes
-  pub heads : Heads x (drop top stack)
+  pub heads : HeadsFit x (drop top stack)
   pub alone : treesOn x (drop top stack) ≡ treeAt x stack top ∷ []
   pub few : nodes (treeAt x stack top) ≤ maxNodes
 
 -- Where a text fits the buffer, and where it does not.
 pub has-room : (y b new : Text) → length y ≤ length b → new ≡ y ++ drop (length y) b
-    → (Length (length y) ≡ writtenOf (fitted y (length b))) × (new ≡ bufferAfter (fitted y (length b)) b)
+    → (Length (length y) ≡ writtenOf (writeFitting y (length b))) × (new ≡ bufferWritten (writeFitting y (length b)) b)
 has-room y b new h e = rw (le-leb (length y) (length b) h) (refl, e)
 
-pub no-room : (y b : Text) → length b < length y → (Refused LongText 0 ≡ writtenOf (fitted y (length b))) × (b ≡ bufferAfter (fitted y (length b)) b)
+pub no-room : (y b : Text) → length b < length y → (Refused LongText 0 ≡ writtenOf (writeFitting y (length b))) × (b ≡ bufferWritten (writeFitting y (length b)) b)
 no-room y b h = rw (lt-leb (length y) (length b) h) (refl, refl)
 
 pub two-bytes : (b : Text) → 2 ≤ length b → set (set b 0 (code "(")) 1 (code ")") ≡ bytes "()" ++ drop 2 b
@@ -78,7 +78,7 @@ module _ (x : Text) (t : Syntax) (e : answer x ≡ accepted t) where
   found = subst (Answers x) e (answered x)
 
   within : Within t
-  within = accepted-is t (found .1 .formed) .1 (subst (λ (y : Text). Answers y (accepted t)) (sym (found .1 .spelt)) found)
+  within = accepted-within x t found
 
   short-text : length x ≤ maxText
   short-text = by-cases (decLe (length x) maxText) (λ h. h) (λ n. absurd (found .0 Size 0 (refl, inr (omega (arith, n)))))
@@ -87,7 +87,7 @@ module _ (x : Text) (t : Syntax) (e : answer x ≡ accepted t) where
   whole-stands =
       record { formed = found .1 .formed; rest = []; splits = sym (found .1 .spelt) ∙ sym (append-nil (text t)); stops = tt }
 
-  pub whole-ready : Ready x (replicate maxNodes 0) 0 maxNodes
+  pub whole-ready : TidyReady x (replicate maxNodes 0) 0 maxNodes
   whole-ready =
       record {
         tree = t;
@@ -113,7 +113,7 @@ module _ (x : Text) (t : Syntax) (e : answer x ≡ accepted t) where
           let n = some-node (tidy t) in
           (omega (arith, k .on-stack .top-is, k .few, within .few-nodes), omega (arith, k .on-stack .top-is, n))
 
-      kept : Proper x (tidy t) (r .least) × Least x (r .least) (writtenNames (tidy t))
+      kept : Proper x (tidy t) (r .least) × LeastAt x (r .least) (writtenNames (tidy t))
       kept = ⊎-elim (λ i. absurd (z (k .keeps .sign-is ∙ ap signCode i))) (λ h. h) (k .keeps .kind-is)
 
       module _ (w : ℕ) (h : headIn w ≡ headOf (r .marked) r) where
@@ -123,7 +123,7 @@ module _ (x : Text) (t : Syntax) (e : answer x ≡ accepted t) where
         topped-is : drop (r .top - 1) topped ≡ w ∷ drop (r .top) stack
         topped-is = on-top stack (r .top) w (head-room .0) (omega (arith, head-room .1, k .on-stack .entries))
 
-        pushed : (treesOn x (w ∷ drop (r .top) stack) ≡ withMark (markIf (r .marked)) (tidy t) ∷ []) × Heads x (w ∷ drop (r .top) stack)
+        pushed : (treesOn x (w ∷ drop (r .top) stack) ≡ withMark (markIf (r .marked)) (tidy t) ∷ []) × HeadsFit x (w ∷ drop (r .top) stack)
         pushed =
             push (r .marked) w h (drop (r .top) stack) [] (tidy t) (k .keeps) (kept .0) (kept .1)
             (k .on-stack .trees-are ∙ ap (stacked (membersOf (tidy t))) (trees-none x)) (k .on-stack .heads)
@@ -140,7 +140,7 @@ module _ (x : Text) (t : Syntax) (e : answer x ≡ accepted t) where
               short = short-text;
               entries = length-set stack (r .top - 1) w ∙ k .on-stack .entries;
               inside = omega (arith, head-room .0, head-room .1);
-              heads = subst (Heads x) (sym topped-is) (pushed .1);
+              heads = subst (HeadsFit x) (sym topped-is) (pushed .1);
               alone = alone-is ∙ ap (λ (u : Syntax). u ∷ []) (sym tree-is);
               few = omega (arith, ap nodes tree-is, k .few, within .few-nodes);
             }
@@ -154,7 +154,7 @@ read-answer x (refused f p) e = let z : _≡_ {A = ℕ} 0 1 = cc e in absurd (om
 read-answer x (accepted t) e = (t, refl)
 
 pub refused-reply : (x : Text) (a : Answer) (f : ModelFault) (p : ℕ) (b : Text) → readingBy x a .outcome ≡ IsRefused f p
-    → (Refused (Model f) p ≡ writtenOf (writeBy a (length b))) × (b ≡ bufferAfter (writeBy a (length b)) b)
+    → (Refused (Model f) p ≡ writtenOf (writeBy a (length b))) × (b ≡ bufferWritten (writeBy a (length b)) b)
 refused-reply x (refused g q) f p b e =
     let i : f ≡ g = cc e in
     let j : p ≡ q = cc e in

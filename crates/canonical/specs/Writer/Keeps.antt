@@ -38,26 +38,26 @@ Proper x (marked m (leaf a)) p = (a ≡ tidyAtom (atomAt x p)) × (pieceAt x p �
 Proper x (marked m (group s ts)) p = (2 ≤ size ts) × (0 < signByte s)
 
 -- at p stands the smallest of some names
-abbrev pub Least : Text → ℕ → List Text → Type 0
-Least x p [] = ⊥
-Least x p (n ∷ l) = nameFrom x p ≡ smallest (n ∷ l)
+abbrev pub LeastAt : Text → ℕ → List Text → Type 0
+LeastAt x p [] = ⊥
+LeastAt x p (n ∷ l) = nameFrom x p ≡ smallest (n ∷ l)
 
 -- r is what is kept of the tree u
-pub record Keeps (x : Text) (u : Syntax) (r : Tidied) : Type 0 where
+pub record KeepsTree (x : Text) (u : Syntax) (r : Tidied) : Type 0 where
   pub sign-is : r .sign ≡ signCode u
   pub marked-is : r .marked ≡ isMarked u
   pub nullable-is : r .nullable ≡ nullableNode u
   pub members-is : r .members ≡ size (membersOf u)
   pub size-is : r .size ≡ nodes u
   pub least-inside : r .least ≤ length x
-  pub kind-is : (u ≡ nil) ⊎ (Proper x u (r .least) × Least x (r .least) (writtenNames u))
+  pub kind-is : (u ≡ nil) ⊎ (Proper x u (r .least) × LeastAt x (r .least) (writtenNames u))
 
 -- g is what is kept of the members us of a group with the sign s, some of which were `()` or had a `?` if v says so
-pub record KeepsAll (x : Text) (s : Sign) (us : Members Spelling) (v : Bool) (g : Gathered) : Type 0 where
+pub record KeepsMembers (x : Text) (s : Sign) (us : Members Spelling) (v : Bool) (g : Gathered) : Type 0 where
   pub given-is : g .given ≡ v
   pub members-are : g .members ≡ size us
   pub nodes-are : g .size ≡ membersWeight 1 1 us
   pub within : g .least ≤ length x
   pub all-nullable : 0 < size us → g .nullable ≡ groupNullable us s
-  pub all-least : 0 < size us → Least x (g .least) (map (λ a. a .name) (membersLeaves us))
-  pub last-is : (u : Syntax) → us ≡ u ▹ none → Keeps x u (g .last)
+  pub all-least : 0 < size us → LeastAt x (g .least) (map (λ a. a .name) (membersLeaves us))
+  pub last-is : (u : Syntax) → us ≡ u ▹ none → KeepsTree x u (g .last)

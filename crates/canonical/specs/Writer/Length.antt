@@ -5,7 +5,7 @@ use Prim.Native.Nat.{ℕ, suc, _≤_}
 use lib.ListN.{length, drop}
 use Rattle.fields.specs.{Bytes.Text, Limits.maxText, Limits.maxNodes}
 use Rattle.model.specs.Syntax.{Syntax, text}
-use Rattle.canonical.specs.Writer.Stack.{Heads, Skip.sum}
+use Rattle.canonical.specs.Writer.Stack.{HeadsFit, Skip.sum}
 
 -- each with one byte behind it
 abbrev pub signedText : Syntax → ℕ
@@ -18,4 +18,4 @@ pub record LengthReady (x : Text) (stack : List ℕ) (top : ℕ) : Type 0 where
   pub short : length x ≤ maxText
   pub entries : length stack ≡ maxNodes
   pub inside : top ≤ maxNodes
-  pub heads : Heads x (drop top stack)
+  pub heads : HeadsFit x (drop top stack)

@@ -8,7 +8,7 @@ use Rattle.fields.specs.{Bytes.Text, Limits.maxNodes, Put.Put}
 use Rattle.model.specs.{Tree.Members, Tree.none, Tree.nodes, Flatten.nil, Syntax.Spelling, Syntax.Syntax, Syntax.text}
 use Rattle.judge.specs.Packed.{signBy}
 use Rattle.canonical.specs.{declared.head.Head.Head, Order.insert, Order.arrange, Order.order}
-use Rattle.canonical.specs.Writer.{Head.headIn, Stack.turned, Stack.treesOn, Stack.Heads}
+use Rattle.canonical.specs.Writer.{Head.headIn, Stack.turned, Stack.treesOn, Stack.HeadsFit}
 
 -- the tree whose head stands at p
 abbrev pub treeAt : Text → List ℕ → ℕ → Syntax
@@ -19,8 +19,8 @@ abbrev pub headAt : List ℕ → ℕ → Head
 headAt stack p = headIn (getD stack p 0)
 
 -- the trees at the places that a list holds from start to end, as members
-abbrev pub listed : Text → List ℕ → List ℕ → ℕ → ℕ → Members Spelling
-listed x stack list start end = turned (map (treeAt x stack) (drop start (take end list))) none
+abbrev pub treesListed : Text → List ℕ → List ℕ → ℕ → ℕ → Members Spelling
+treesListed x stack list start end = turned (map (treeAt x stack) (drop start (take end list))) none
 
 -- every place of the list is one of a head, from low on
 abbrev pub Places : List ℕ → ℕ → ℕ → ℕ → Type 0
@@ -28,7 +28,7 @@ Places list start end low = (k : ℕ) → start ≤ k → k < end → (low ≤ g
 
 pub record InsertReady (x : Text) (stack list : List ℕ) (start end m : ℕ) : Type 0 where
   pub low : ℕ
-  pub heads : Heads x (drop low stack)
+  pub heads : HeadsFit x (drop low stack)
   pub entries : length stack ≡ maxNodes
   pub list-length : length list ≡ maxNodes
   pub range : (start ≤ end) × (end < maxNodes)
@@ -38,12 +38,12 @@ pub record InsertReady (x : Text) (stack list : List ℕ) (start end m : ℕ) : 
 pub record Inserted (x : Text) (stack old new : List ℕ) (start end m : ℕ) : Type 0 where
   pub before : take start new ≡ take start old
   pub list-length : length new ≡ length old
-  pub members-are : listed x stack new start (suc end) ≡ insert (treeAt x stack m) (listed x stack old start end)
+  pub members-are : treesListed x stack new start (suc end) ≡ insert (treeAt x stack m) (treesListed x stack old start end)
   pub each : (k : ℕ) → start ≤ k → k < suc end → (getD new k 0 ≡ m) ⊎ ((j : ℕ) × (start ≤ j) × (j < end) × (getD new k 0 ≡ getD old j 0))
 
 -- the head at p is a group's, and the list has room for its members from start on
 pub record MembersReady (x : Text) (stack list : List ℕ) (p start : ℕ) : Type 0 where
-  pub heads : Heads x (drop p stack)
+  pub heads : HeadsFit x (drop p stack)
   pub entries : length stack ≡ maxNodes
   pub list-length : length list ≡ maxNodes
   pub inside : p < maxNodes
@@ -53,14 +53,14 @@ pub record MembersListed (x : Text) (stack old new : List ℕ) (p start end : �
   pub before : take start new ≡ take start old
   pub list-length : length new ≡ length old
   pub end-is : end ≡ start + headAt stack p .members
-  pub members-are : listed x stack new start end
+  pub members-are : treesListed x stack new start end
       ≡ arrange (signBy (headAt stack p .sign)) (turned (take (headAt stack p .members) (treesOn x (drop (suc p) stack))) none)
   pub places : Places new start end (suc p)
   -- a member has fewer nodes than the group has places left beside the others
   pub few : (k : ℕ) → start ≤ k → k < end → nodes (treeAt x stack (getD new k 0)) + headAt stack p .members ≤ nodes (treeAt x stack p)
 
 pub record PutReady (x : Text) (stack list buffer : List ℕ) (p start to : ℕ) : Type 0 where
-  pub heads : Heads x (drop p stack)
+  pub heads : HeadsFit x (drop p stack)
   pub entries : length stack ≡ maxNodes
   pub list-length : length list ≡ maxNodes
   pub inside : p < maxNodes

@@ -24,20 +24,20 @@ abbrev pub behindCount : Text → ℕ → ℕ
 behindCount x p = cond (is x (code "[") p) (p + length (upTo (code "]") (drop p x))) p
 
 -- behind the atom at p as it stands
-abbrev pub behindAtom : Text → ℕ → ℕ
-behindAtom x p = behindCount x (behindName x p)
+abbrev pub atomEnd : Text → ℕ → ℕ
+atomEnd x p = behindCount x (behindName x p)
 
 -- its count begins with 0
 abbrev pub zeroAt : Text → ℕ → Bool
-zeroAt x p = ltb (behindName x p) (behindAtom x p) && is x (code "0") (behindName x p + 1)
+zeroAt x p = ltb (behindName x p) (atomEnd x p) && is x (code "0") (behindName x p + 1)
 
 -- its count is [0..1] or [1..1]
 abbrev pub oneAt : Text → ℕ → Bool
-oneAt x p = eqb (behindAtom x p) (behindName x p + 6) && leb (getD x (behindName x p + 1) 0) (code "1") && is x (code "1") (behindName x p + 4)
+oneAt x p = eqb (atomEnd x p) (behindName x p + 6) && leb (getD x (behindName x p + 1) 0) (code "1") && is x (code "1") (behindName x p + 4)
 
 -- the end of what is kept of the atom at p
 abbrev pub keptEnd : Text → ℕ → ℕ
-keptEnd x p = cond (oneAt x p) (behindName x p) (behindAtom x p)
+keptEnd x p = cond (oneAt x p) (behindName x p) (atomEnd x p)
 
 -- the atom at p as it is written: a lower count of 0 is 1
 abbrev pub pieceAt : Text → ℕ → Text
@@ -53,7 +53,7 @@ leafIn nothing = record { name = []; count = unwritten }
 
 -- the atom at p as it stands
 unfoldable pub atomAt : Text → ℕ → Spelling
-atomAt x p = leafIn (result (run start (take (behindAtom x p - p) (drop p x))))
+atomAt x p = leafIn (result (run start (take (atomEnd x p - p) (drop p x))))
 
 -- what may follow an atom without its mark: neither a byte of a name nor a count
 abbrev pub Free : Text → Type 0

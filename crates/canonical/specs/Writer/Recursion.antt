@@ -14,26 +14,26 @@ use Rattle.model.specs.Tree.{group, marked, Members, none, size, nodes, members
 use Rattle.model.specs.Flatten.{_⧺_, membersOf, gathered}
 use Rattle.model.specs.Syntax.{Spelling, Syntax, text, membersText, markText, SpellingFormed}
 use Rattle.canonical.specs.{declared.tidy.Tidied.Tidied, declared.tidy.Gathered.Gathered, Tidy.stripped, Tidy.someGives, Tidy.tidy, Tidy.tidyAll}
-use Rattle.canonical.specs.Writer.{Place.TreeAt, Stack.stacked, Stack.treesOn, Stack.Heads, Keeps.signByte, Keeps.Keeps, Keeps.KeepsAll}
+use Rattle.canonical.specs.Writer.{Place.TreeAt, Stack.stacked, Stack.treesOn, Stack.HeadsFit, Keeps.signByte, Keeps.KeepsTree, Keeps.KeepsMembers}
 
-pub record Ready (x : Text) (stack : List ℕ) (p top : ℕ) : Type 0 where
+pub record TidyReady (x : Text) (stack : List ℕ) (p top : ℕ) : Type 0 where
   pub tree : Syntax
   pub stands : TreeAt x p tree
   pub short : length x ≤ maxText
   pub entries : length stack ≡ maxNodes
   pub room : nodes tree ≤ top
   pub inside : top ≤ maxNodes
-  pub heads : Heads x (drop top stack)
+  pub heads : HeadsFit x (drop top stack)
 
 -- the members of u stand on the stack, from top down to r .top
 pub record OnStack (x : Text) (u : Syntax) (old new : List ℕ) (top end : ℕ) : Type 0 where
   pub entries : length new ≡ length old
   pub top-is : end + nodes u ≡ top + 1
   pub trees-are : treesOn x (drop end new) ≡ stacked (membersOf u) (treesOn x (drop top old))
-  pub heads : Heads x (drop end new)
+  pub heads : HeadsFit x (drop end new)
 
 pub record TidiedAt (x : Text) (old new : List ℕ) (p top : ℕ) (r : Tidied) (t : Syntax) : Type 0 where
-  pub keeps : Keeps x (tidy t) r
+  pub keeps : KeepsTree x (tidy t) r
   pub next-is : r .next ≡ p + length (text t)
   pub few : nodes (tidy t) ≤ nodes t
   pub on-stack : OnStack x (tidy t) old new top (r .top)
@@ -53,13 +53,13 @@ pub record Walking (x : Text) (old new : List ℕ) (s : Sign) (ts : Members Spel
   pub formed : MembersFormed SpellingFormed left
   pub ahead : drop p x ≡ membersText left s ++ (code ")" ∷ behind)
   pub sign-is : ((done ≡ none) × (sign ≡ 0)) ⊎ (sign ≡ signByte s)
-  pub keeps : KeepsAll x s (gatheredOf s done) (someGives (tidyAll done)) g
+  pub keeps : KeepsMembers x s (gatheredOf s done) (someGives (tidyAll done)) g
   pub few : membersWeight 1 1 (gatheredOf s done) ≤ membersWeight 1 1 done
   pub several : 2 ≤ size (gatheredOf s done) → 0 < signByte s
   pub entries : length new ≡ length old
   pub top-is : g .top + membersWeight 1 1 (gatheredOf s done) ≡ top
   pub trees-are : treesOn x (drop (g .top) new) ≡ stacked (gatheredOf s done) (treesOn x (drop top old))
-  pub heads : Heads x (drop (g .top) new)
+  pub heads : HeadsFit x (drop (g .top) new)
 
 -- at the head of the loop over the members of the group at p
 pub record Looping (x : Text) (old new : List ℕ) (p top place sign : ℕ) (g : Gathered) : Type 0 where

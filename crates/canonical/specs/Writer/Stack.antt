@@ -43,6 +43,6 @@ pub record HeadFits (x : Text) (h : Head) (l : List Syntax) : Type 0 where
   pub atom-is : eqb (h .sign) 1 ≡ true → (h .members ≡ 0) × (pieceAt x (h .least) ≡ nodeText (leaf (tidyAtom (atomAt x (h .least)))))
   pub group-is : eqb (h .sign) 1 ≡ false → (2 ≤ h .members) × (signText (signBy (h .sign)) ≡ h .sign ∷ [])
 
-abbrev pub Heads : Text → List ℕ → Type 0
-Heads x [] = Unit {0}
-Heads x (w ∷ l) = HeadFits x (headIn w) (treesOn x l) × Heads x l
+abbrev pub HeadsFit : Text → List ℕ → Type 0
+HeadsFit x [] = Unit {0}
+HeadsFit x (w ∷ l) = HeadFits x (headIn w) (treesOn x l) × HeadsFit x l

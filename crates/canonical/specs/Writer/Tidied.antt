@@ -5,7 +5,7 @@ use lib.{Dec.eqb, Dec.ltb, ListN.length, ListN.set}
 use Rattle.fields.specs.Bytes.{Text}
 use Rattle.model.specs.Fault.{nameFrom, is}
 use Rattle.canonical.specs.{declared.tidy.Tidied.Tidied, declared.tidy.Gathered.Gathered, declared.head.Head.Head, Order.notAfter, Writer.Head.headIn}
-use Rattle.canonical.specs.Writer.Place.{behindAtom, zeroAt}
+use Rattle.canonical.specs.Writer.Place.{atomEnd, zeroAt}
 
 abbrev pub remarkedBy : Bool → Tidied → Tidied
 remarkedBy m t =
@@ -51,7 +51,7 @@ atomBy x p top =
       size = 1;
       least = p;
       top = top;
-      next = behindAtom x p;
+      next = atomEnd x p;
     }
 
 abbrev pub nothingBy : ℕ → ℕ → Tidied
@@ -74,15 +74,15 @@ withoutBy g =
       top = g .top;
     }
 
-abbrev pub lesserBy : Text → ℕ → ℕ → ℕ
-lesserBy x a b = cond (notAfter (nameFrom x a) (nameFrom x b)) a b
+abbrev pub smallerBy : Text → ℕ → ℕ → ℕ
+smallerBy x a b = cond (notAfter (nameFrom x a) (nameFrom x b)) a b
 
 -- a member keeps its mark but in a choice
 abbrev pub keeps : ℕ → Tidied → Bool
 keeps sign t = t .marked && not (eqb sign (code "|"))
 
-abbrev pub joins : ℕ → Tidied → Bool
-joins sign t = eqb (t .sign) sign && not (keeps sign t)
+abbrev pub joinsBy : ℕ → Tidied → Bool
+joinsBy sign t = eqb (t .sign) sign && not (keeps sign t)
 
 abbrev pub headBy : ℕ → Tidied → Head
 headBy sign t = record { sign = t .sign; marked = keeps sign t; members = t .members; size = t .size; least = t .least }
@@ -95,7 +95,7 @@ abbrev pub nullableBy : ℕ → ℕ → Bool → Bool → Bool
 nullableBy members sign a b = cond (eqb members 0) b (bothBy sign a b)
 
 abbrev pub leastBy : Text → ℕ → ℕ → ℕ → ℕ
-leastBy x members p q = cond (eqb members 0) q (lesserBy x p q)
+leastBy x members p q = cond (eqb members 0) q (smallerBy x p q)
 
 abbrev pub withMemberBy : Text → Gathered → ℕ → Tidied → Gathered
 withMemberBy x g sign t =
@@ -103,17 +103,17 @@ withMemberBy x g sign t =
     (record {
       last = remarkedBy (keeps sign t) t;
       given = g .given || t .marked;
-      members = cond (joins sign t) (g .members + t .members) (g .members + 1);
+      members = cond (joinsBy sign t) (g .members + t .members) (g .members + 1);
       nullable = nullableBy (g .members) sign (g .nullable) (t .nullable || keeps sign t);
-      size = cond (joins sign t) (g .size + (t .size - 1)) (g .size + t .size);
+      size = cond (joinsBy sign t) (g .size + (t .size - 1)) (g .size + t .size);
       least = leastBy x (g .members) (g .least) (t .least);
-      top = cond (joins sign t) (t .top) (t .top - 1);
+      top = cond (joinsBy sign t) (t .top) (t .top - 1);
     })
 
 -- the head of a member that stays stands on top of its members
 abbrev pub StackedBy : List ℕ → List ℕ → ℕ → Tidied → Type 0
 StackedBy old new sign t =
-    cond (eqb (t .sign) 0 || joins sign t) (new ≡ old) ((w : ℕ) × (headIn w ≡ headBy sign t) × (new ≡ set old (t .top - 1) w))
+    cond (eqb (t .sign) 0 || joinsBy sign t) (new ≡ old) ((w : ℕ) × (headIn w ≡ headBy sign t) × (new ≡ set old (t .top - 1) w))
 
 -- what the step needs: room, and names inside the text
 pub record FitsOn (x : Text) (stack : List ℕ) (g : Gathered) (t : Tidied) : Type 0 where
@@ -139,8 +139,8 @@ groupedBy g sign next =
       next = next;
     }))
 
-abbrev pub closedBy : Gathered → ℕ → ℕ → Tidied
-closedBy g sign next = cond (eqb sign (code "|") && g .given) (optionalBy (groupedBy g sign next)) (groupedBy g sign next)
+abbrev pub groupClosedBy : Gathered → ℕ → ℕ → Tidied
+groupClosedBy g sign next = cond (eqb sign (code "|") && g .given) (optionalBy (groupedBy g sign next)) (groupedBy g sign next)
 
 abbrev pub markedBy : Text → Tidied → Tidied
 markedBy x t = cond (is x (code "?") (t .next)) (placedAt (t .top) (t .next + 1) (optionalBy t)) t

@@ -14,7 +14,7 @@ use Rattle.judge.specs.Packed.{signBy}
 use Rattle.canonical.specs.Order.{order, orderAll, arrange, Kept.order-length, Kept.order-size, Sorted.arrange-order}
 use Rattle.canonical.specs.Writer.{Place.pieceAt, Stack.turned, Stack.markIf, Stack.treeWith, Stack.treesOn, Stack.HeadFits}
 use Rattle.canonical.specs.Writer.Stack.Skip.{each-counts, nodes-with, heads-from, tree-at, fits-at}
-use Rattle.canonical.specs.Writer.Lists.{treeAt, headAt, listed, MembersReady, MembersListed, PutReady, TreePut, Laws.nothing-behind, Laws.listed-less}
+use Rattle.canonical.specs.Writer.Lists.{treeAt, headAt, treesListed, MembersReady, MembersListed, PutReady, TreePut, Laws.nothing-behind, Laws.listed-less}
 
 pub put-nothing : (old : Text) (at : ℕ) → at ≤ length old → Put old old at [] at
 put-nothing old at h =
@@ -49,7 +49,7 @@ markAt stack p = markText (markIf (headAt stack p .marked))
 
 -- what is yet to be put of the group at p: the members whose places stand before k
 abbrev ahead : Text → List ℕ → List ℕ → ℕ → ℕ → ℕ → ℕ → Text
-ahead x stack places p start before k = led before (headAt stack p .sign) (orderAll (listed x stack places start k)) ++ markAt stack p
+ahead x stack places p start before k = led before (headAt stack p .sign) (orderAll (treesListed x stack places start k)) ++ markAt stack p
 
 -- What the loop over the members keeps. The piece is what is put so far, up to the place next.
 pub record Writing (x : Text) (stack places list old new : List ℕ) (p start end to before next k : ℕ) : Type 0 where
@@ -168,10 +168,10 @@ module _ {x : Text} {stack list buffer : List ℕ} {p start to : ℕ} (r : PutRe
       on-list : k - 1 < maxNodes
       on-list = omega (arith, w .range, member-room)
 
-      listed-first : listed x stack places start k ≡ treeAt x stack place ▹ listed x stack places start (k - 1)
+      listed-first : treesListed x stack places start k ≡ treeAt x stack place ▹ treesListed x stack places start (k - 1)
       listed-first =
           listed-less x stack places start k h (omega (arith, on-list, m .list-length, r .list-length))
-          ∙ ap (λ q. treeAt x stack q ▹ listed x stack places start (k - 1)) (sym place-is)
+          ∙ ap (λ q. treeAt x stack q ▹ treesListed x stack places start (k - 1)) (sym place-is)
 
       abbrev member : Text
       member = text (order (treeAt x stack place))
@@ -183,7 +183,7 @@ module _ {x : Text} {stack list buffer : List ℕ} {p start to : ℕ} (r : PutRe
       ahead-is =
           let sign = headAt stack p .sign in
           ap (λ ts. led before sign (orderAll ts) ++ markAt stack p) listed-first
-          ∙ ap (λ l. before ∷ l) (append-assoc member (led sign sign (orderAll (listed x stack places start (k - 1)))) (markAt stack p))
+          ∙ ap (λ l. before ∷ l) (append-assoc member (led sign sign (orderAll (treesListed x stack places start (k - 1)))) (markAt stack p))
 
       byte-fits : next < length new
       byte-fits = omega (arith, ahead-fits, ap length ahead-is)
@@ -227,7 +227,7 @@ module _ {x : Text} {stack list buffer : List ℕ} {p start to : ℕ} (r : PutRe
       ahead-ends =
           let n : k ≡ start = omega (arith, w .range) in
           ap (λ ts. led before (headAt stack p .sign) (orderAll ts) ++ markAt stack p)
-          (ap (λ j. listed x stack places start j) n ∙ ap (λ l. turned (map (treeAt x stack) l) none) (nothing-behind places start))
+          (ap (λ j. treesListed x stack places start j) n ∙ ap (λ l. turned (map (treeAt x stack) l) none) (nothing-behind places start))
 
       pub bracket-fits : next < length new
       bracket-fits = omega (arith, ahead-fits, ap length ahead-ends)

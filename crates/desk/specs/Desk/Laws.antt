@@ -3,7 +3,7 @@ use mathlib.Core.{Path._≡_, Path.refl, Path.sym, Path.ap, Path.subst, Path._�
 use Prim.Native.Nat.{ℕ, _+_, _≤_, _<_}
 use native.Mathlib.{Decide.decLt, Omega.arith}
 use lib.ListN.{length, length-map}
-use Rattle.fields.specs.{declared.fault.CueFault.CueFault, Bytes.Text, Children.cueNumber, Limits.maxAtoms, Limits.maxRow}
+use Rattle.fields.specs.{declared.fault.CueFault.CueFault, Bytes.Text, Children.cueNumber, Limits.maxAtoms, Limits.maxRow, Limits.maxText}
 use Rattle.fields.specs.declared.fault.CueFault.the-variants.{LongFile, Unended, BadFields, BadNumber, NotAbove, NoName, ManyChildren, NoChild}
 use Rattle.model.specs.{declared.fault.ModelFault.ModelFault, declared.verdict.Verdict.Verdict, Word.Word, Types.Ty, Types.ConflictFree, Fault.modelNumber}
 use Rattle.model.specs.{Fault.Answers, Fault.accepted, Syntax.Syntax, Syntax.numberIn, Syntax.writtenNames, Tree.leaves, Tree.Leaves.length-leaves}
@@ -25,6 +25,11 @@ use Rattle.judge.specs.Reply.{Reply, modelRefused, childrenRefused, good, Child
 use Rattle.judge.specs.Next.{NextReply, nextListed, nextRefused, NextInto, all-listed, childrenNext, childrenAnswer}
 use Rattle.judge.specs.Next.Laws.{list-exactly, next-few, next-replies-exactly}
 use Rattle.desk.specs.Desk.{replyNumber, verdictNumber, deskAnswer, refusalBase, basedNumber, nextNumber, deskNext, faultNumber, deskFault, PlaceFits}
+use Rattle.desk.specs.Desk.{writeReplyNumber, deskCanonical}
+use Rattle.canonical.specs.{declared.fault.WriteFault.WriteFault, Canonical.Reply.written-short}
+use Rattle.canonical.specs.declared.fault.WriteFault.the-variants.{Model, LongText}
+use Rattle.canonical.specs.declared.write.Written.the-variants.{Length, Refused as NotWritten}
+use Rattle.canonical.specs.Canonical.{WriteReply, wrote, refusedWrite, writeReply, writtenOf, writeNumber}
 
 -- those of the model text are 10 to 19, those of the children text 30 to 37, the judge's own below 47, verdicts below 3
 pub model-under : (f : ModelFault) → (10 ≤ modelNumber f) × (modelNumber f < 20)
@@ -215,3 +220,31 @@ module _ (m c : Text) where
         go (modelRefused f) = refl
         go (childrenRefused f) = refl
         go (good a) = refl
+
+-- the canonical text: 51, and the model text's own
+pub write-under : (f : WriteFault) → writeNumber f < 52
+write-under (Model f) = omega (arith, model-under f)
+write-under LongText = omega arith
+
+pub canonical-told : (m : Text) (k : ℕ) → (deskCanonical m k < refusalBase) ↔ ((y : Text) × (writeReply m k ≡ wrote y))
+canonical-told m k = told (writeReply m k) refl
+  where
+    told : (r : WriteReply) → writeReply m k ≡ r → (writeReplyNumber r < refusalBase) ↔ ((y : Text) × (r ≡ wrote y))
+    told (wrote y) e = (λ h. (y, refl), λ h. omega (arith, written-short m y k (sym e)))
+    told (refusedWrite f p) e = (λ h. absurd (omega (arith, h)), λ h. let z : _≡_ {A = ℕ} 0 1 = cc (h .1) in absurd (omega arith))
+
+-- what `write_model` hands back has the reply's number
+module _ (m : Text) (k : ℕ) where
+  pub written-length : (n : ℕ) → writtenOf (writeReply m k) ≡ Length n → (n ≡ deskCanonical m k) × (n ≤ maxText)
+  written-length n = go (writeReply m k) refl
+    where
+      go : (r : WriteReply) → writeReply m k ≡ r → writtenOf r ≡ Length n → (n ≡ writeReplyNumber r) × (n ≤ maxText)
+      go (wrote y) e h = let i : n ≡ length y = cc h in (i, omega (arith, i, written-short m y k (sym e)))
+      go (refusedWrite f p) e h = let z : _≡_ {A = ℕ} 0 1 = cc h in absurd (omega arith)
+
+  pub written-refusal : (f : WriteFault) (p : ℕ) → writtenOf (writeReply m k) ≡ NotWritten f p → refusalBase + writeNumber f ≡ deskCanonical m k
+  written-refusal f p = go (writeReply m k)
+    where
+      go : (r : WriteReply) → writtenOf r ≡ NotWritten f p → refusalBase + writeNumber f ≡ writeReplyNumber r
+      go (wrote y) h = let z : _≡_ {A = ℕ} 0 1 = cc h in absurd (omega arith)
+      go (refusedWrite g q) h = let i : f ≡ g = cc h in ap (λ (x : WriteFault). refusalBase + writeNumber x) i

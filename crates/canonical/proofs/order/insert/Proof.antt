@@ -8,14 +8,14 @@ use Rattle.model.specs.Fault.{nameFrom}
 use Rattle.canonical.specs.{declared.head.Head.Head, Order.notAfter, Order.smallestName}
 use Rattle.canonical.specs.Writer.{Head.headIn, Stack.Skip.name-is, Stack.Skip.least-inside, Lists.treeAt, Lists.headAt}
 use Rattle.canonical.specs.Writer.Lists.Laws.{Moved, moved-none, moved-more, same-below, inserted}
-use Rattle.canonical.specs.Writer.Lists.Laws.{Behind, behind-none, behind-more, stops-first, stops-there}
+use Rattle.canonical.specs.Writer.Lists.Laws.{BehindInserted, behind-none, behind-more, stops-first, stops-there}
 use borrow.Author.{Needs.needs, Tests.not-true, Tests.not-false}
 use Rattle.canonical.proofs.order.insert.Statement.{statement}
 use Rattle.canonical.proofs.order.insert.Tie as tie
 
 abbrev Inv-loop : tie.InvT-loop
 Inv-loop text stack list₀ start end m least k₀ list k =
-    Moved list₀ list start end k × Behind text stack list₀ start end (treeAt text stack m) k
+    Moved list₀ list start end k × BehindInserted text stack list₀ start end (treeAt text stack m) k
 
 abbrev μ-loop : tie.MeasureT-loop
 μ-loop text stack list₀ start end m least k₀ list k = k

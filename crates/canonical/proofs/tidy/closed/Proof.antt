@@ -1,4 +1,4 @@
--- The one test of `closedBy`.
+-- The one test of `groupClosedBy`.
 use borrow.Author.Needs.{needs}
 use Rattle.canonical.proofs.tidy.closed.Statement.{statement}
 use Rattle.canonical.proofs.tidy.closed.Tie as tie

@@ -15,7 +15,7 @@ some c = c .before .before .before .before .before
 abbrev entry : tie.After-struct-known6 → tie.Start
 entry c = some (called c) .before .before .before
 
--- where the member joins, and where its head is put on the stack
+-- where the member joinsBy, and where its head is put on the stack
 abbrev joined : tie.After-struct-known8 → tie.Then2
 joined c = c .before .before
 

@@ -15,8 +15,8 @@ use Rattle.model.specs.Syntax.{Spelling, Syntax, writtenNames}
 use Rattle.canonical.specs.{declared.tidy.Tidied.Tidied, declared.tidy.Gathered.Gathered, Order.smallest}
 use Rattle.canonical.specs.Tidy.{nodeNullable, groupNullable, marking, stripped, gives}
 use Rattle.canonical.specs.Writer.Place.{atomAt, pieceAt}
-use Rattle.canonical.specs.Writer.Tidied.{optionalBy, placedAt, remarkedBy, nothingBy, noMembers, groupedBy, closedBy, withMemberBy, keeps, joins}
-use Rattle.canonical.specs.Writer.Keeps.{signByte, signCode, isMarked, nullableNode, Proper, Keeps, KeepsAll}
+use Rattle.canonical.specs.Writer.Tidied.{optionalBy, placedAt, remarkedBy, nothingBy, noMembers, groupedBy, groupClosedBy, withMemberBy, keeps, joinsBy}
+use Rattle.canonical.specs.Writer.Keeps.{signByte, signCode, isMarked, nullableNode, Proper, KeepsTree, KeepsMembers}
 
 -- signs by their bytes
 pub choice-byte : (s : Sign) → eqb (signByte s) (code "|") ≡ isChoice s
@@ -50,7 +50,7 @@ no-atom Choice = refl
 no-atom Interleaving = refl
 
 -- where a tree stands does not matter
-pub keeps-placed : {x : Text} {u : Syntax} {r : Tidied} (top next : ℕ) → Keeps x u r → Keeps x u (placedAt top next r)
+pub keeps-placed : {x : Text} {u : Syntax} {r : Tidied} (top next : ℕ) → KeepsTree x u r → KeepsTree x u (placedAt top next r)
 keeps-placed top next k =
     record {
       sign-is = k .sign-is;
@@ -62,7 +62,7 @@ keeps-placed top next k =
       kind-is = k .kind-is;
     }
 
-pub keeps-nil : (x : Text) (top next : ℕ) → Keeps x nil (nothingBy top next)
+pub keeps-nil : (x : Text) (top next : ℕ) → KeepsTree x nil (nothingBy top next)
 keeps-nil x top next =
     record {
       sign-is = refl;
@@ -79,7 +79,7 @@ abbrev pub withMark : Mark → Syntax → Syntax
 withMark m (marked k n) = marked m n
 
 module _ {x : Text} {r : Tidied} (m : Mark) (b : Bool) (e : b ≡ not (isPlain m)) where
-  pub keeps-marked : (u : Syntax) → ((u ≡ nil) → m ≡ Plain) → Keeps x u r → Keeps x (withMark m u) (remarkedBy b r)
+  pub keeps-marked : (u : Syntax) → ((u ≡ nil) → m ≡ Plain) → KeepsTree x u r → KeepsTree x (withMark m u) (remarkedBy b r)
   keeps-marked (marked k (leaf a)) f h =
       record {
         sign-is = h .sign-is;
@@ -106,15 +106,15 @@ mark-if : (b : Bool) → not b ≡ not (isPlain (cond b Plain Optional))
 mark-if true = refl
 mark-if false = refl
 
-pub keeps-optional : {x : Text} (u : Syntax) {r : Tidied} → Keeps x u r → Keeps x (marking Optional u) (optionalBy r)
+pub keeps-optional : {x : Text} (u : Syntax) {r : Tidied} → KeepsTree x u r → KeepsTree x (marking Optional u) (optionalBy r)
 keeps-optional (marked m n) {r} h =
     keeps-marked (cond (nodeNullable n) Plain Optional) (not (r .nullable)) (ap not (h .nullable-is) ∙ mark-if (nodeNullable n)) (marked m n)
     (λ e. ap (λ (u : Syntax). cond (nullableNode u) Plain Optional) e) h
 
 -- a group of the members
 module _ {x : Text} (s : Sign) {v : Bool} {g : Gathered} where
-  pub keeps-grouped : (us : Members Spelling) (next : ℕ) → KeepsAll x s us v g → (2 ≤ size us → 0 < signByte s)
-      → Keeps x (grouped s us) (groupedBy g (signByte s) next)
+  pub keeps-grouped : (us : Members Spelling) (next : ℕ) → KeepsMembers x s us v g → (2 ≤ size us → 0 < signByte s)
+      → KeepsTree x (grouped s us) (groupedBy g (signByte s) next)
   keeps-grouped none next k f = rw (k .members-are) (keeps-nil x (g .top) next)
   keeps-grouped (u ▹ none) next k f = rw (k .members-are) (keeps-placed (g .top + 1) next (k .last-is u refl))
   keeps-grouped (u ▹ w ▹ us) next k f =
@@ -131,8 +131,8 @@ module _ {x : Text} (s : Sign) {v : Bool} {g : Gathered} where
         kind-is = inr ((omega arith, f (omega arith)), k .all-least (omega arith));
       }
 
-  pub keeps-closed : (us : Members Spelling) (next : ℕ) → KeepsAll x s us v g → (2 ≤ size us → 0 < signByte s)
-      → Keeps x (marking (droppedMark s v) (grouped s us)) (closedBy g (signByte s) next)
+  pub keeps-closed : (us : Members Spelling) (next : ℕ) → KeepsMembers x s us v g → (2 ≤ size us → 0 < signByte s)
+      → KeepsTree x (marking (droppedMark s v) (grouped s us)) (groupClosedBy g (signByte s) next)
   keeps-closed us next k f =
       rw (choice-byte s, k .given-is)
       (by-test (isChoice s && v)
@@ -140,7 +140,7 @@ module _ {x : Text} (s : Sign) {v : Bool} {g : Gathered} where
       (λ e. rw e (keeps-grouped us next k f)))
 
 -- no members yet
-pub keeps-none : (x : Text) (s : Sign) (top : ℕ) → KeepsAll x s none false (noMembers top)
+pub keeps-none : (x : Text) (s : Sign) (top : ℕ) → KeepsMembers x s none false (noMembers top)
 keeps-none x s top =
     record {
       given-is = refl;

@@ -13,11 +13,11 @@ use Rattle.model.specs.Flatten.{_⧺_, nil, isNil, isChoice, merges, membersOf,
 use Rattle.model.specs.Flatten.Leaves.{append-leaves, merged-leaves}
 use Rattle.model.specs.Flatten.Merges.{merged}
 use Rattle.model.specs.Syntax.{Spelling, Syntax, writtenNames}
-use Rattle.canonical.specs.{declared.tidy.Tidied.Tidied, declared.tidy.Gathered.Gathered, Order.notAfter, Order.lesser, Order.smallest}
+use Rattle.canonical.specs.{declared.tidy.Tidied.Tidied, declared.tidy.Gathered.Gathered, Order.notAfter, Order.smaller, Order.smallest}
 use Rattle.canonical.specs.Order.Smallest.{smallest-append}
 use Rattle.canonical.specs.Tidy.{nodeNullable, treeNullable, someNullable, allNullable, groupNullable, stripped, gives}
-use Rattle.canonical.specs.Writer.Tidied.{remarkedBy, lesserBy, bothBy, withMemberBy, keeps, joins}
-use Rattle.canonical.specs.Writer.Keeps.{signByte, signCode, isMarked, nullableNode, Proper, Least, Keeps, KeepsAll}
+use Rattle.canonical.specs.Writer.Tidied.{remarkedBy, smallerBy, bothBy, withMemberBy, keeps, joinsBy}
+use Rattle.canonical.specs.Writer.Keeps.{signByte, signCode, isMarked, nullableNode, Proper, LeastAt, KeepsTree, KeepsMembers}
 use Rattle.canonical.specs.Writer.Keeps.Laws.{choice-byte, same-byte, no-atom, keeps-marked}
 use Rattle.canonical.specs.Writer.Stack.Laws.{append-none}
 
@@ -26,7 +26,7 @@ name-if : (x : Text) (b : Bool) (p q : ℕ) → nameFrom x (cond b p q) ≡ cond
 name-if x true p q = refl
 name-if x false p q = refl
 
-least-append : (x : Text) (k l : List Text) (p q : ℕ) → Least x p k → Least x q l → Least x (lesserBy x p q) (k ++ l)
+least-append : (x : Text) (k l : List Text) (p q : ℕ) → LeastAt x p k → LeastAt x q l → LeastAt x (smallerBy x p q) (k ++ l)
 least-append x [] l p q h i = absurd h
 least-append x (n ∷ k) [] p q h i = absurd i
 least-append x (n ∷ k) (m ∷ l) p q h i =
@@ -60,7 +60,7 @@ nullable-append s ts us h k =
     (by-test (isChoice s) (λ e. rw e) (λ e. rw e))
 
 -- the members ws behind us, where n, k, b, p are kept of ws
-module _ {x : Text} (s : Sign) {us : Members Spelling} {v : Bool} {g : Gathered} (h : KeepsAll x s us v g) (ws : Members Spelling) (n k p : ℕ) (b : Bool)
+module _ {x : Text} (s : Sign) {us : Members Spelling} {v : Bool} {g : Gathered} (h : KeepsMembers x s us v g) (ws : Members Spelling) (n k p : ℕ) (b : Bool)
     (w : Bool) (last : Tidied) (top : ℕ) where
   abbrev more : Gathered
   more =
@@ -70,7 +70,7 @@ module _ {x : Text} (s : Sign) {us : Members Spelling} {v : Bool} {g : Gathered}
         members = g .members + n;
         nullable = cond (eqb (g .members) 0) b (bothBy (signByte s) (g .nullable) b);
         size = g .size + k;
-        least = cond (eqb (g .members) 0) p (lesserBy x (g .least) p);
+        least = cond (eqb (g .members) 0) p (smallerBy x (g .least) p);
         top = top;
       }
 
@@ -93,7 +93,7 @@ module _ {x : Text} (s : Sign) {us : Members Spelling} {v : Bool} {g : Gathered}
         (λ i. rw (later i, e, h .all-nullable i) (sym (nullable-append s us ws i some)))
         (none-or us)
 
-    least-both : Least x p (map (λ a. a .name) (membersLeaves ws)) → Least x (more .least) (map (λ a. a .name) (membersLeaves (us ⧺ ws)))
+    least-both : LeastAt x p (map (λ a. a .name) (membersLeaves ws)) → LeastAt x (more .least) (map (λ a. a .name) (membersLeaves (us ⧺ ws)))
     least-both e =
         ⊎-elim
         (λ i. rw (first i, i) e)
@@ -101,20 +101,20 @@ module _ {x : Text} (s : Sign) {us : Members Spelling} {v : Bool} {g : Gathered}
         (least-append x (map (λ a. a .name) (membersLeaves us)) (map (λ a. a .name) (membersLeaves ws)) (g .least) p (h .all-least i) e))
         (none-or us)
 
-    lesser-inside : (b : Bool) (q : ℕ) → q ≤ length x → p ≤ length x → cond b q p ≤ length x
-    lesser-inside true q i j = i
-    lesser-inside false q i j = j
+    smaller-inside : (b : Bool) (q : ℕ) → q ≤ length x → p ≤ length x → cond b q p ≤ length x
+    smaller-inside true q i j = i
+    smaller-inside false q i j = j
 
     least-inside : p ≤ length x → more .least ≤ length x
     least-inside e =
-        lesser-inside′ (eqb (g .members) 0) (lesserBy x (g .least) p) (lesser-inside (notAfter (nameFrom x (g .least)) (nameFrom x p)) (g .least) (h .within) e) e
+        smaller-inside′ (eqb (g .members) 0) (smallerBy x (g .least) p) (smaller-inside (notAfter (nameFrom x (g .least)) (nameFrom x p)) (g .least) (h .within) e) e
       where
-        lesser-inside′ : (c : Bool) (q : ℕ) → q ≤ length x → p ≤ length x → cond c p q ≤ length x
-        lesser-inside′ true q i j = j
-        lesser-inside′ false q i j = i
+        smaller-inside′ : (c : Bool) (q : ℕ) → q ≤ length x → p ≤ length x → cond c p q ≤ length x
+        smaller-inside′ true q i j = j
+        smaller-inside′ false q i j = i
 
     keeps-more : n ≡ size ws → k ≡ membersWeight 1 1 ws → b ≡ groupNullable ws s → p ≤ length x
-        → Least x p (map (λ a. a .name) (membersLeaves ws)) → ((u : Syntax) → us ⧺ ws ≡ u ▹ none → Keeps x u last) → KeepsAll x s (us ⧺ ws) w more
+        → LeastAt x p (map (λ a. a .name) (membersLeaves ws)) → ((u : Syntax) → us ⧺ ws ≡ u ▹ none → KeepsTree x u last) → KeepsMembers x s (us ⧺ ws) w more
     keeps-more n-is k-is b-is inside least-is last-is =
         record {
           given-is = refl;
@@ -157,23 +157,23 @@ abbrev markIn : Syntax → Mark
 markIn (marked m n) = m
 
 module _ {x : Text} (s : Sign) {t : Tidied} where
-  pub stripped-some : (u : Syntax) → Keeps x u t → Proper x u (t .least) → isNil (stripped s u) ≡ false
+  pub stripped-some : (u : Syntax) → KeepsTree x u t → Proper x u (t .least) → isNil (stripped s u) ≡ false
   stripped-some (marked m (leaf a)) k p = refl
   stripped-some (marked m (group r none)) k p = absurd (omega (arith, p .0))
   stripped-some (marked m (group r (w ▹ ws))) k p = refl
 
-  pub signed : (u : Syntax) → Keeps x u t → Proper x u (t .least) → eqb (t .sign) 0 ≡ false
+  pub signed : (u : Syntax) → KeepsTree x u t → Proper x u (t .least) → eqb (t .sign) 0 ≡ false
   signed (marked m (leaf a)) k p = ne-eqb (t .sign) 0 (λ e. omega (arith, k .sign-is))
   signed (marked m (group r ts)) k p = ne-eqb (t .sign) 0 (λ e. omega (arith, k .sign-is, p .1))
 
-  pub joins-merges : (u : Syntax) → Keeps x u t → joins (signByte s) t ≡ merges s (stripped s u)
+  pub joins-merges : (u : Syntax) → KeepsTree x u t → joinsBy (signByte s) t ≡ merges s (stripped s u)
   joins-merges (marked m (leaf a)) k = rw (k .sign-is, no-atom s)
   joins-merges (marked m (group r ts)) k = rw (k .sign-is, k .marked-is, same-byte r s, choice-byte s, kept-mark (isChoice s) m)
 
-  nullable-kept : (u : Syntax) → Keeps x u t → (t .nullable || keeps (signByte s) t) ≡ treeNullable (stripped s u)
+  nullable-kept : (u : Syntax) → KeepsTree x u t → (t .nullable || keeps (signByte s) t) ≡ treeNullable (stripped s u)
   nullable-kept (marked m n) k = rw (k .nullable-is, k .marked-is, choice-byte s) (kept-nullable (isChoice s) m (nodeNullable n))
 
-  stripped-keeps : (u : Syntax) → Keeps x u t → Keeps x (stripped s u) (remarkedBy (keeps (signByte s) t) t)
+  stripped-keeps : (u : Syntax) → KeepsTree x u t → KeepsTree x (stripped s u) (remarkedBy (keeps (signByte s) t) t)
   stripped-keeps (marked m n) k =
       keeps-marked (cond (isChoice s) Plain m) (keeps (signByte s) t)
       (rw (k .marked-is, choice-byte s) (kept-marked (isChoice s) m)) (marked m n) (λ e. kept-plain (isChoice s) m (ap markIn e)) k
@@ -212,11 +212,11 @@ stripped-nodes s (marked m n) = refl
 one-nullable : (s : Sign) (w : Syntax) → groupNullable (w ▹ none) s ≡ treeNullable w
 one-nullable s w = by-test (isChoice s) (λ e. rw (e, or-false)) (λ e. rw (e, and-true))
 
-module _ {x : Text} (s : Sign) {us : Members Spelling} {v : Bool} {g : Gathered} (h : KeepsAll x s us v g) (t : Tidied) where
+module _ {x : Text} (s : Sign) {us : Members Spelling} {v : Bool} {g : Gathered} (h : KeepsMembers x s us v g) (t : Tidied) where
   abbrev Added : Syntax → Type 0
-  Added u = KeepsAll x s (us ⧺ gathered s (stripped s u ∷ [])) (v || gives u) (withMemberBy x g (signByte s) t)
+  Added u = KeepsMembers x s (us ⧺ gathered s (stripped s u ∷ [])) (v || gives u) (withMemberBy x g (signByte s) t)
 
-  dropped : (u : Syntax) → Keeps x u t → u ≡ nil → Added u
+  dropped : (u : Syntax) → KeepsTree x u t → u ≡ nil → Added u
   dropped u k e =
       let z : eqb (t .sign) 0 ≡ true = eq-eqb (t .sign) 0 (k .sign-is ∙ ap signCode e) in
       let w : gathered s (stripped s u ∷ []) ≡ none = ap (λ (y : Syntax). gathered s (y ∷ [])) (ap (stripped s) e ∙ stripped-nil s) in
@@ -232,7 +232,7 @@ module _ {x : Text} (s : Sign) {us : Members Spelling} {v : Bool} {g : Gathered}
         last-is = h .last-is;
       }
 
-  given-kept : (u : Syntax) → Keeps x u t → isNil u ≡ false → (g .given || t .marked) ≡ (v || gives u)
+  given-kept : (u : Syntax) → KeepsTree x u t → isNil u ≡ false → (g .given || t .marked) ≡ (v || gives u)
   given-kept (marked m n) k e = rw (h .given-is, k .marked-is, e)
 
   only-one : (w u : Syntax) → us ⧺ (w ▹ none) ≡ u ▹ none → w ≡ u
@@ -243,7 +243,7 @@ module _ {x : Text} (s : Sign) {us : Members Spelling} {v : Bool} {g : Gathered}
       go (t ▹ ts) e = absurd (omega (arith, ap size e, size-append ts (w ▹ none)))
 
   -- a member that stays
-  stays : (u : Syntax) → Keeps x u t → Proper x u (t .least) → Least x (t .least) (writtenNames u) → merges s (stripped s u) ≡ false → Added u
+  stays : (u : Syntax) → KeepsTree x u t → Proper x u (t .least) → LeastAt x (t .least) (writtenNames u) → merges s (stripped s u) ≡ false → Added u
   stays u k p l e =
       let z = signed s u k p in
       let n = stripped-some s u k p in
@@ -253,10 +253,10 @@ module _ {x : Text} (s : Sign) {us : Members Spelling} {v : Bool} {g : Gathered}
       (remarkedBy (keeps (signByte s) t) t) (t .top - 1) (omega arith)
       refl (omega (arith, k .size-is, stripped-nodes s u)) (nullable-kept s u k ∙ sym (one-nullable s (stripped s u))) (k .least-inside)
       (rw (append-nil, stripped-leaves s u) l)
-      (λ w i. subst (λ (y : Syntax). Keeps x y (remarkedBy (keeps (signByte s) t) t)) (only-one (stripped s u) w i) (stripped-keeps s u k)))
+      (λ w i. subst (λ (y : Syntax). KeepsTree x y (remarkedBy (keeps (signByte s) t) t)) (only-one (stripped s u) w i) (stripped-keeps s u k)))
 
-  -- a group that joins
-  merges-in : (u : Syntax) → Keeps x u t → Proper x u (t .least) → Least x (t .least) (writtenNames u) → merges s (stripped s u) ≡ true → Added u
+  -- a group that joinsBy
+  merges-in : (u : Syntax) → KeepsTree x u t → Proper x u (t .least) → LeastAt x (t .least) (writtenNames u) → merges s (stripped s u) ≡ true → Added u
   merges-in u k p l e =
       let w = stripped s u in
       let z = signed s u k p in
@@ -272,6 +272,6 @@ module _ {x : Text} (s : Sign) {us : Members Spelling} {v : Bool} {g : Gathered}
       (rw (← stripped-members s u, merged-leaves s w e, stripped-leaves s u) l)
       (λ y i. absurd (omega (arith, c, ap size i, size-append us (membersOf u)))))
 
-  pub keeps-member : (u : Syntax) → Keeps x u t → Added u
+  pub keeps-member : (u : Syntax) → KeepsTree x u t → Added u
   keeps-member u k =
       ⊎-elim (dropped u k) (λ (p, l). by-test (merges s (stripped s u)) (merges-in u k p l) (stays u k p l)) (k .kind-is)

@@ -11,7 +11,7 @@ use Rattle.model.specs.Syntax.{Spelling, Syntax, text, membersText, moreText, s
 use Rattle.judge.specs.Packed.{signBy}
 use Rattle.canonical.specs.{declared.head.Head.Head, Writer.Head.headIn, Writer.Length.signedText, Writer.Length.signedLength, Writer.Lists.headAt}
 use Rattle.canonical.specs.Writer.{Place.keptEnd, Place.Ends.piece-length}
-use Rattle.canonical.specs.Writer.Stack.{turned, markIf, treeWith, treesOn, HeadFits, Heads, Skip.sum-rest, Skip.sum-turned, Skip.trees-none, Skip.trees-more}
+use Rattle.canonical.specs.Writer.Stack.{turned, markIf, treeWith, treesOn, HeadFits, HeadsFit, Skip.sum-rest, Skip.sum-turned, Skip.trees-none, Skip.trees-more}
 
 -- beside its members, each with one byte behind it: an atom is what is kept of it, a group has the bracket before them
 abbrev pub plainLength : Text → Head → ℕ
@@ -61,7 +61,7 @@ module _ (x : Text) where
       rw (e, length-append, length-append, mark-length) (omega (arith, members-length s (ap length (f .group-is e .1)) ts i)))
 
   -- the words' own lengths, with one byte behind each, are those of the trees
-  pub words-length : (l : List ℕ) → Heads x l → wordsLength x l ≡ signedLength (treesOn x l)
+  pub words-length : (l : List ℕ) → HeadsFit x l → wordsLength x l ≡ signedLength (treesOn x l)
   words-length [] h = rw trees-none
   words-length (w ∷ l) h =
       rw trees-more (omega (arith, text-length (headIn w) (treesOn x l) (h .0), words-length l (h .1), sum-rest signedText (headIn w .members) (treesOn x l)))

@@ -8,7 +8,7 @@ use lib.Seq.{drop-cons, drop-set-lt, drop-append-le, take-set-le, take-set-lt, t
 use Rattle.fields.specs.{Bytes.Text, Stack.slice-back}
 use Rattle.model.specs.{Tree.Members, Tree.none, Tree._▹_, Syntax.Spelling, Syntax.Syntax}
 use Rattle.canonical.specs.Order.{notAfter, smallestName, insert}
-use Rattle.canonical.specs.Writer.{Stack.turned, Lists.treeAt, Lists.listed, Lists.Inserted}
+use Rattle.canonical.specs.Writer.{Stack.turned, Lists.treeAt, Lists.treesListed, Lists.Inserted}
 
 module _ {A : Type 0} (l : List A) where
   part-none : (s k : ℕ) → k ≤ s → drop s (take k l) ≡ []
@@ -103,7 +103,7 @@ module _ (x : Text) (stack : List ℕ) where
   treesAt l = map (treeAt x stack) l
 
   pub listed-less : (list : List ℕ) (start k : ℕ) → start < k → k ≤ length list
-      → listed x stack list start k ≡ treeAt x stack (getD list (k - 1) 0) ▹ listed x stack list start (k - 1)
+      → treesListed x stack list start k ≡ treeAt x stack (getD list (k - 1) 0) ▹ treesListed x stack list start (k - 1)
   listed-less list start k h i =
       rw (
         part-split list start (k - 1) k (omega arith) (omega arith) (omega arith),
@@ -114,29 +114,29 @@ module _ (x : Text) (stack : List ℕ) where
       )
 
   -- t is after all members from k on
-  abbrev pub Behind : List ℕ → ℕ → ℕ → Syntax → ℕ → Type 0
-  Behind old start end t k =
-      insert t (listed x stack old start end) ≡ turned (treesAt (drop k (take end old))) (insert t (listed x stack old start k))
+  abbrev pub BehindInserted : List ℕ → ℕ → ℕ → Syntax → ℕ → Type 0
+  BehindInserted old start end t k =
+      insert t (treesListed x stack old start end) ≡ turned (treesAt (drop k (take end old))) (insert t (treesListed x stack old start k))
 
   module _ (old : List ℕ) (start end : ℕ) (t : Syntax) where
-    pub behind-none : Behind old start end t end
+    pub behind-none : BehindInserted old start end t end
     behind-none = rw (nothing-behind old end)
 
-    module _ (k : ℕ) (i : start < k) (h : Behind old start end t k) (l : (k ≤ end) × (end < length old)) where
-      pub behind-more : notAfter (smallestName t) (smallestName (treeAt x stack (getD old (k - 1) 0))) ≡ false → Behind old start end t (k - 1)
+    module _ (k : ℕ) (i : start < k) (h : BehindInserted old start end t k) (l : (k ≤ end) × (end < length old)) where
+      pub behind-more : notAfter (smallestName t) (smallestName (treeAt x stack (getD old (k - 1) 0))) ≡ false → BehindInserted old start end t (k - 1)
       behind-more e =
           h ∙ ap (λ ts. turned (treesAt (drop k (take end old))) (insert t ts)) (listed-less old start k i (omega arith))
           ∙ rw (e, slice-back old end k 0 (omega arith) (l .0) (omega arith))
 
       pub stops-there : notAfter (smallestName t) (smallestName (treeAt x stack (getD old (k - 1) 0))) ≡ true
-          → insert t (listed x stack old start k) ≡ t ▹ listed x stack old start k
+          → insert t (treesListed x stack old start k) ≡ t ▹ treesListed x stack old start k
       stops-there e = rw (listed-less old start k i (omega arith), e)
 
-    pub stops-first : (k : ℕ) → k ≤ start → insert t (listed x stack old start k) ≡ t ▹ listed x stack old start k
+    pub stops-first : (k : ℕ) → k ≤ start → insert t (treesListed x stack old start k) ≡ t ▹ treesListed x stack old start k
     stops-first k h = rw (part-none old start k h)
 
   pub put-listed : {old new : List ℕ} {start end k : ℕ} (c : Moved old new start end k) (m : ℕ)
-      → listed x stack (set new k m) start (suc end) ≡ turned (treesAt (drop k (take end old))) (treeAt x stack m ▹ listed x stack old start k)
+      → treesListed x stack (set new k m) start (suc end) ≡ turned (treesAt (drop k (take end old))) (treeAt x stack m ▹ treesListed x stack old start k)
   put-listed {old} {new} {start} {end} {k} c m =
       rw (
         put-parts c m,
@@ -144,8 +144,8 @@ module _ (x : Text) (stack : List ℕ) where
         turned-append (treesAt (drop start (take k old))) (treesAt (m ∷ drop k (take end old))) none,
       )
 
-  pub inserted : {old new : List ℕ} {start end k m : ℕ} → Moved old new start end k → Behind old start end (treeAt x stack m) k
-      → insert (treeAt x stack m) (listed x stack old start k) ≡ treeAt x stack m ▹ listed x stack old start k
+  pub inserted : {old new : List ℕ} {start end k m : ℕ} → Moved old new start end k → BehindInserted old start end (treeAt x stack m) k
+      → insert (treeAt x stack m) (treesListed x stack old start k) ≡ treeAt x stack m ▹ treesListed x stack old start k
       → Inserted x stack old (set new k m) start end m
   inserted {old} {new} {start} {end} {k} {m} c b e =
       record {

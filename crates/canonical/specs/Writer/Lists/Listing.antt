@@ -1,4 +1,4 @@
--- The members of a group are listed, the last first: each begins behind those that are listed.
+-- The members of a group are treesListed, the last first: each begins behind those that are treesListed.
 use mathlib.Core.{Path._≡_, Path.refl, Path.sym, Path.ap, Path.subst, Path._∙_, Logic._⊎_, Logic.⊎-elim, List.List, List.[], List._∷_}
 use Prim.Native.{Nat.ℕ, Nat.suc, Nat._+_, Nat._-_, Nat._≤_, Nat._<_, Char.code}
 use native.Mathlib.Omega.{arith}
@@ -13,11 +13,11 @@ use Rattle.canonical.specs.declared.head.Head.{Head}
 use Rattle.canonical.specs.Order.{insert, arrange}
 use Rattle.canonical.specs.Writer.Stack.{turned, HeadFits}
 use Rattle.canonical.specs.Writer.Stack.Skip.{treesBelow, placeBehind, tree-from, place-inside, place-next, few-from, fits-at, size-at, below, heads-from}
-use Rattle.canonical.specs.Writer.Lists.{treeAt, headAt, listed, Inserted, InsertReady, MembersReady, MembersListed}
+use Rattle.canonical.specs.Writer.Lists.{treeAt, headAt, treesListed, Inserted, InsertReady, MembersReady, MembersListed}
 use Rattle.canonical.specs.Writer.Lists.Laws.{moved-none, put-before, put-each, put-listed, nothing-behind, turned-append}
 
 -- a member of the group at p stands at q
-pub record Member (x : Text) (stack : List ℕ) (p q : ℕ) : Type 0 where
+pub record MemberAt (x : Text) (stack : List ℕ) (p q : ℕ) : Type 0 where
   pub place : (suc p ≤ q) × (q < maxNodes)
   pub few : nodes (treeAt x stack q) + headAt stack p .members ≤ nodes (treeAt x stack p)
 
@@ -26,8 +26,8 @@ pub record Listing (x : Text) (stack old : List ℕ) (p start : ℕ) (list : Lis
   pub inside : (start ≤ k) × (k ≤ start + headAt stack p .members)
   pub before : take start list ≡ take start old
   pub list-length : length list ≡ length old
-  pub members-are : listed x stack list start k ≡ arrange (signBy (headAt stack p .sign)) (turned (take (k - start) (treesBelow x stack p)) none)
-  pub each : (q : ℕ) → start ≤ q → q < k → Member x stack p (getD list q 0)
+  pub members-are : treesListed x stack list start k ≡ arrange (signBy (headAt stack p .sign)) (turned (take (k - start) (treesBelow x stack p)) none)
+  pub each : (q : ℕ) → start ≤ q → q < k → MemberAt x stack p (getD list q 0)
   pub next : m ≡ placeBehind x stack p (k - start)
 
 arrange-none : (s : Sign) → none ≡ arrange s none
@@ -78,7 +78,7 @@ module _ {x : Text} {stack old : List ℕ} {p start : ℕ} (r : MembersReady x s
     enough : k - start < length (treesBelow x stack p)
     enough = omega (arith, c .inside, group-fits .enough)
 
-    pub next-member : Member x stack p m
+    pub next-member : MemberAt x stack p m
     next-member =
         rw (c .next)
         record {
@@ -118,7 +118,7 @@ module _ {x : Text} {stack old : List ℕ} {p start : ℕ} (r : MembersReady x s
 
     module _ {new : List ℕ} {head : Head} (e : head ≡ headAt stack m) where
       listing-more : take start new ≡ take start list → length new ≡ length list
-          → listed x stack new start (suc k)
+          → treesListed x stack new start (suc k)
           ≡ arrange (signBy (headAt stack p .sign)) (treeAt x stack m ▹ turned (take (k - start) (treesBelow x stack p)) none)
           → ((q : ℕ) → start ≤ q → q < suc k → (getD new q 0 ≡ m) ⊎ ((j : ℕ) × (start ≤ j) × (j < k) × (getD new q 0 ≡ getD list j 0)))
           → Listing x stack old p start new (k + 1) (m + head .size)
@@ -133,7 +133,7 @@ module _ {x : Text} {stack old : List ℕ} {p start : ℕ} (r : MembersReady x s
             members-are = rw g (t ∙ ap (arrange (signBy (headAt stack p .sign))) (sym next-tree));
             each =
                 λ q i j.
-                ⊎-elim (λ e. subst (Member x stack p) (sym e) next-member) (λ (o, u, v, e). subst (Member x stack p) (sym e) (c .each o u v)) (s q i j);
+                ⊎-elim (λ e. subst (MemberAt x stack p) (sym e) next-member) (λ (o, u, v, e). subst (MemberAt x stack p) (sym e) (c .each o u v)) (s q i j);
             next = next-place e ∙ ap (placeBehind x stack p) (sym g);
           }
 
@@ -150,7 +150,7 @@ module _ {x : Text} {stack old : List ℕ} {p start : ℕ} (r : MembersReady x s
         → Listing x stack old p start after (k + 1) (m + head .size)
     listing-kept e a n =
         let v = moved-none list start k (c .inside .0) (omega (arith, c .list-length, r .list-length, r .room)) in
-        let t : listed x stack (set list k m) start (suc k) ≡ treeAt x stack m ▹ listed x stack list start k =
+        let t : treesListed x stack (set list k m) start (suc k) ≡ treeAt x stack m ▹ treesListed x stack list start k =
         rw (put-listed x stack v m, nothing-behind list k) in
         rw a
         (listing-more e (put-before v m) (length-set list k m)

@@ -12,7 +12,7 @@ use Rattle.fields.specs.{Bytes.Text, Bytes.isInner, Tests.by-test}
 use Rattle.model.specs.Fault.{nameFrom, is}
 use Rattle.judge.specs.Reading.Lexeme.Laws.{front-step, front-stop, front-out, front-short, stands-inside}
 use Rattle.canonical.specs.Order.{notAfter}
-use Rattle.canonical.specs.Writer.Place.{behindName, upTo, behindCount, behindAtom, zeroAt, oneAt, keptEnd, pieceAt}
+use Rattle.canonical.specs.Writer.Place.{behindName, upTo, behindCount, atomEnd, zeroAt, oneAt, keptEnd, pieceAt}
 
 -- a byte more of a name, or none
 module _ (x : Text) (i : ℕ) where
@@ -105,10 +105,10 @@ module _ (x : Text) (p : ℕ) (h : p ≤ length x) where
   pub name-inside : behindName x p ≤ length x
   name-inside = omega (arith, front-short isInner (drop p x), length-drop p x)
 
-  pub atom-bounds : (behindName x p ≤ behindAtom x p) × (behindAtom x p ≤ length x)
+  pub atom-bounds : (behindName x p ≤ atomEnd x p) × (atomEnd x p ≤ length x)
   atom-bounds = count-inside x (behindName x p) name-inside
 
-  pub kept-bounds : (p ≤ keptEnd x p) × (behindName x p ≤ keptEnd x p) × (keptEnd x p ≤ behindAtom x p)
+  pub kept-bounds : (p ≤ keptEnd x p) × (behindName x p ≤ keptEnd x p) × (keptEnd x p ≤ atomEnd x p)
   kept-bounds =
       by-test (oneAt x p)
       (λ e. rw e (omega (arith, atom-bounds)))

@@ -17,7 +17,7 @@ use Rattle.model.specs.Syntax.{Count, unwritten, between, onward, countText, Sp
 use Rattle.model.specs.Syntax.{Machine.run, Machine.start, Machine.result, Complete.complete}
 use Rattle.canonical.specs.Tidy.{fromZero, tidyCount, tidyAtom}
 use Rattle.canonical.specs.Writer.{Put.set-behind}
-use Rattle.canonical.specs.Writer.Place.{behindCount, behindAtom, zeroAt, keptEnd, pieceAt, leafIn, atomAt, Free, AtomAt}
+use Rattle.canonical.specs.Writer.Place.{behindCount, atomEnd, zeroAt, keptEnd, pieceAt, leafIn, atomAt, Free, AtomAt}
 use Rattle.canonical.specs.Writer.Place.Ends.{AtomEnds, KeptEnds, zero-by, kept-by, piece-by, piece-short}
 use Rattle.canonical.specs.Writer.Place.Counts.{count-end, same, zero-count, isOne, one-count, tidy-one, tidy-text}
 
@@ -80,7 +80,7 @@ module _ {x : Text} {p : ℕ} {a : Spelling} (h : AtomAt x p a) where
         count-is = count-end x (nameEnd p a) (h .rest) (a .count) (h .formed .1) (h .free) behind;
       }
 
-  pub at-end : behindAtom x p ≡ p + length (nodeText (leaf a))
+  pub at-end : atomEnd x p ≡ p + length (nodeText (leaf a))
   at-end = ap (behindCount x) (sym (ends .name-is)) ∙ sym (ends .count-is) ∙ rw length-append (omega arith)
 
   pub atom-inside : p < length x
@@ -94,7 +94,7 @@ module _ {x : Text} {p : ℕ} {a : Spelling} (h : AtomAt x p a) where
   unfolding atomAt
   at-atom =
       let s : Spells (nodeText (leaf a)) (marked Plain (leaf a)) = record { formed = h .formed; spelt = append-nil (nodeText (leaf a)) } in
-      ap (λ y. leafIn (result (run start y))) (whole (behindAtom x p - p) (omega (arith, at-end))) ∙ ap leafIn (complete s)
+      ap (λ y. leafIn (result (run start y))) (whole (atomEnd x p - p) (omega (arith, at-end))) ∙ ap leafIn (complete s)
 
   -- the tests of the count
   zero-test : ltb (nameEnd p a) (countEnd p a) && is x (code "0") (nameEnd p a + 1) ≡ fromZero (a .count)

@@ -13,17 +13,17 @@ use Rattle.model.specs.Tree.{leaf, group, marked, Members, none, _▹_, size, n
 use Rattle.model.specs.Flatten.{_⧺_, membersOf, grouped, droppedMark}
 use Rattle.model.specs.Syntax.{Spelling, Syntax, text, membersText, markText}
 use Rattle.canonical.specs.{declared.tidy.Tidied.Tidied, declared.tidy.Gathered.Gathered, declared.head.Head.Head, Writer.Head.headIn}
-use Rattle.canonical.specs.Tidy.{marking, someGives, settled, tidy, tidyAll}
-use Rattle.canonical.specs.Writer.Tidied.{optionalBy, groupedBy, closedBy, markedBy}
-use Rattle.canonical.specs.Writer.Keeps.{signByte, KeepsAll}
+use Rattle.canonical.specs.Tidy.{marking, someGives, settledGroup, tidy, tidyAll}
+use Rattle.canonical.specs.Writer.Tidied.{optionalBy, groupedBy, groupClosedBy, markedBy}
+use Rattle.canonical.specs.Writer.Keeps.{signByte, KeepsMembers}
 use Rattle.canonical.specs.Writer.Keeps.Laws.{keeps-closed}
-use Rattle.canonical.specs.Writer.Stack.{turned, stacked, treeWith, treesOn, HeadFits, Heads}
+use Rattle.canonical.specs.Writer.Stack.{turned, stacked, treeWith, treesOn, HeadFits, HeadsFit}
 use Rattle.canonical.specs.Writer.Stack.Laws.{append-none}
 use Rattle.canonical.specs.Writer.Stack.Skip.{trees-more, some-node}
 use Rattle.canonical.specs.Writer.Recursion.{OnStack, TidiedAt, Walking, Looping, gatheredOf}
 use Rattle.canonical.specs.Writer.Recursion.Place.{drop-behind, mark-at}
 use Rattle.canonical.specs.Writer.Recursion.Steps.{mark-nodes, keeps-mark, next-mark, top-mark, stack-mark}
-use Rattle.canonical.specs.Writer.Recursion.Group.{behindGroup, place-inside, over}
+use Rattle.canonical.specs.Writer.Recursion.Group.{behindGroup, place-inside, walked-over}
 
 -- A tree is taken from the stack, and its members stay.
 stacked-turned : (l : List Syntax) (ts : Members Spelling) (f : List Syntax) → stacked (turned l ts) f ≡ stacked ts (l ++ f)
@@ -36,7 +36,7 @@ pop-members x h l f =
     (λ e. rw (e, f .atom-is e .0))
     (λ e. rw e (sym (stacked-turned (take (h .members) l) none (drop (h .members) l) ∙ take-append-drop (h .members) l)))
 
-pop : (x : Text) (w : ℕ) (l : List ℕ) (u : Syntax) (f : List Syntax) → treesOn x (w ∷ l) ≡ u ∷ f → Heads x (w ∷ l) → treesOn x l ≡ stacked (membersOf u) f
+pop : (x : Text) (w : ℕ) (l : List ℕ) (u : Syntax) (f : List Syntax) → treesOn x (w ∷ l) ≡ u ∷ f → HeadsFit x (w ∷ l) → treesOn x l ≡ stacked (membersOf u) f
 pop x w l u f e h =
     let d = sym (trees-more x w l) ∙ e in
     pop-members x (headIn w) (treesOn x l) (h .0) ∙ rw (head-eq-of-cons-eq d, tail-eq-of-cons-eq d)
@@ -45,11 +45,11 @@ pop x w l u f e h =
 next-grouped : (g : Gathered) (sign n : ℕ) → groupedBy g sign n .next ≡ n
 next-grouped g sign n = by-test (eqb (g .members) 0) (λ e. rw e) (λ e. by-test (eqb (g .members) 1) (λ i. rw (e, i)) (λ i. rw (e, i)))
 
-next-closed : (g : Gathered) (sign n : ℕ) → closedBy g sign n .next ≡ n
+next-closed : (g : Gathered) (sign n : ℕ) → groupClosedBy g sign n .next ≡ n
 next-closed g sign n =
     by-test (eqb sign (code "|") && g .given) (λ e. rw e (next-grouped g sign n)) (λ e. rw e (next-grouped g sign n))
 
-top-closed : (g : Gathered) (sign n : ℕ) → closedBy g sign n .top ≡ groupedBy g sign n .top
+top-closed : (g : Gathered) (sign n : ℕ) → groupClosedBy g sign n .top ≡ groupedBy g sign n .top
 top-closed g sign n = by-test (eqb sign (code "|") && g .given) (λ e. rw e) (λ e. rw e)
 
 grouped-nodes : (s : Sign) (us : Members Spelling) → nodes (grouped s us) ≤ suc (membersWeight 1 1 us)
@@ -65,15 +65,15 @@ no-sign Interleaving h = absurd (omega (arith, h))
 
 -- the members of a group stand on the stack as those of what it becomes
 module _ {x : Text} (s : Sign) {v : Bool} (g : Gathered) (old new : List ℕ) (top n : ℕ) (e : length new ≡ length old) (i : top ≤ length new) where
-  stack-grouped : (us : Members Spelling) → KeepsAll x s us v g → g .top + membersWeight 1 1 us ≡ top
-      → treesOn x (drop (g .top) new) ≡ stacked us (treesOn x (drop top old)) → Heads x (drop (g .top) new)
+  stack-grouped : (us : Members Spelling) → KeepsMembers x s us v g → g .top + membersWeight 1 1 us ≡ top
+      → treesOn x (drop (g .top) new) ≡ stacked us (treesOn x (drop top old)) → HeadsFit x (drop (g .top) new)
       → OnStack x (grouped s us) old new top (groupedBy g (signByte s) n .top)
   stack-grouped none k t r h =
       rw (k .members-are) record { entries = e; top-is = omega (arith, t); trees-are = r; heads = h }
   stack-grouped (u ▹ none) k t r h =
       let d = drop-cons new (g .top) 0 (omega (arith, t, some-node u)) in
       let q : suc (g .top) ≡ g .top + 1 = omega arith in
-      let z = subst (λ l. Heads x l) d h in
+      let z = subst (λ l. HeadsFit x l) d h in
       rw (k .members-are, ← q)
       record {
         entries = e;
@@ -91,7 +91,7 @@ module _ {x : Text} {old new : List ℕ} {p top place sign : ℕ} {g : Gathered}
   w = h .walking
 
   all-done : h .members ≡ w .done
-  all-done = w .parts ∙ ap (λ (l : Members Spelling). w .done ⧺ l) (over h e) ∙ append-none (w .done)
+  all-done = w .parts ∙ ap (λ (l : Members Spelling). w .done ⧺ l) (walked-over h e) ∙ append-none (w .done)
 
   sign-known : sign ≡ signByte (h .group-sign)
   sign-known =
@@ -101,7 +101,7 @@ module _ {x : Text} {old new : List ℕ} {p top place sign : ℕ} {g : Gathered}
       (w .sign-is)
 
   ends-ahead : drop place x ≡ code ")" ∷ behindGroup h
-  ends-ahead = w .ahead ∙ ap (λ (l : Members Spelling). membersText l (h .group-sign) ++ (code ")" ∷ behindGroup h)) (over h e)
+  ends-ahead = w .ahead ∙ ap (λ (l : Members Spelling). membersText l (h .group-sign) ++ (code ")" ∷ behindGroup h)) (walked-over h e)
 
   mark-here : is x (code "?") (place + 1) ≡ not (isPlain (h .mark))
   mark-here = mark-at x (place + 1) (h .mark) (h .stands .rest) (h .stands .stops) (drop-behind x (code ")" ∷ []) (behindGroup h) place ends-ahead)
@@ -113,10 +113,10 @@ module _ {x : Text} {old new : List ℕ} {p top place sign : ℕ} {g : Gathered}
   us = gatheredOf s (w .done)
 
   abbrev closedTree : Syntax
-  closedTree = settled s (tidyAll (w .done))
+  closedTree = settledGroup s (tidyAll (w .done))
 
   abbrev closed : Tidied
-  closed = closedBy g (signByte s) (place + 1)
+  closed = groupClosedBy g (signByte s) (place + 1)
 
   mark-is : is x (code "?") (closed .next) ≡ not (isPlain (h .mark))
   mark-is = ap (is x (code "?")) (next-closed g (signByte s) (place + 1)) ∙ mark-here
@@ -164,9 +164,9 @@ module _ {x : Text} {old new : List ℕ} {p top place sign : ℕ} {g : Gathered}
         on-stack = on-stack;
       }
 
-  pub group-tidied : TidiedAt x old new p top (markedBy x (closedBy g sign (place + 1))) (marked (h .mark) (group s (h .members)))
+  pub group-tidied : TidiedAt x old new p top (markedBy x (groupClosedBy g sign (place + 1))) (marked (h .mark) (group s (h .members)))
   group-tidied =
-      subst (λ (ts : Members Spelling). TidiedAt x old new p top (markedBy x (closedBy g sign (place + 1))) (marked (h .mark) (group (h .group-sign) ts)))
+      subst (λ (ts : Members Spelling). TidiedAt x old new p top (markedBy x (groupClosedBy g sign (place + 1))) (marked (h .mark) (group (h .group-sign) ts)))
       (sym all-done)
-      (subst (λ n. TidiedAt x old new p top (markedBy x (closedBy g n (place + 1))) (marked (h .mark) (group (h .group-sign) (w .done)))) (sym sign-known)
+      (subst (λ n. TidiedAt x old new p top (markedBy x (groupClosedBy g n (place + 1))) (marked (h .mark) (group (h .group-sign) (w .done)))) (sym sign-known)
       done-tidied)

@@ -1,4 +1,4 @@
--- The walk over the members of a group: it begins behind the bracket, goes on by one member, and ends before the other bracket.
+-- The walk walked-over the members of a group: it begins behind the bracket, goes on by one member, and ends before the other bracket.
 use mathlib.Core.{Path._≡_, Path.refl, Path.sym, Path.ap, Path._∙_, Path.subst, Logic._⊎_, Logic.inl, Logic.inr, Logic.⊎-elim}
 use mathlib.Core.{Bool.Bool, Bool.false, Bool._&&_, List.List, List.[], List._∷_, List._++_, List.append-assoc}
 use Prim.Native.{Nat.ℕ, Nat.zero, Nat.suc, Nat._+_, Nat._-_, Nat._≤_, Nat._<_, Char.code}
@@ -15,27 +15,27 @@ use Rattle.model.specs.Syntax.{Spelling, Syntax, text, nodeText, membersText, m
 use Rattle.canonical.specs.{declared.tidy.Tidied.Tidied, declared.tidy.Gathered.Gathered, Tidy.someGives, Tidy.tidyAll}
 use Rattle.canonical.specs.Writer.Place.{AtomAt, Stops, TreeAt}
 use Rattle.canonical.specs.Writer.Tidied.{noMembers, signAfter, memberAfter}
-use Rattle.canonical.specs.Writer.Keeps.{signByte, KeepsAll}
+use Rattle.canonical.specs.Writer.Keeps.{signByte, KeepsMembers}
 use Rattle.canonical.specs.Writer.Keeps.Laws.{keeps-none}
 use Rattle.canonical.specs.Writer.Keeps.Member.{size-append, weight-append}
-use Rattle.canonical.specs.Writer.Recursion.{Ready, Walking, Looping, TidiedAt, Tidies, gatheredOf}
+use Rattle.canonical.specs.Writer.Recursion.{TidyReady, Walking, Looping, TidiedAt, Tidies, gatheredOf}
 use Rattle.canonical.specs.Writer.Recursion.Place.{drop-behind, byte-at, byte-inside, atom-stands, group-splits}
 
 -- The first byte of a tree: a letter or `(`.
-abbrev pub Begins : Text → ℕ → Type 0
-Begins x b = (y : Text) × (x ≡ b ∷ y)
+abbrev pub FirstByte : Text → ℕ → Type 0
+FirstByte x b = (y : Text) × (x ≡ b ∷ y)
 
-name-begins : (n : Text) → T (isName n) → (b : ℕ) × (Begins n b × T (isLetter b))
+name-begins : (n : Text) → T (isName n) → (b : ℕ) × (FirstByte n b × T (isLetter b))
 name-begins [] h = absurd h
 name-begins (b ∷ n) h = (b, ((n, refl), and-yes (isLetter b) _ h .0))
 
-atom-begins : (a : Spelling) → SpellingFormed a → (b : ℕ) × (Begins (nodeText (leaf a)) b × T (isLetter b))
+atom-begins : (a : Spelling) → SpellingFormed a → (b : ℕ) × (FirstByte (nodeText (leaf a)) b × T (isLetter b))
 atom-begins a h =
     let (b, (i, l)) = name-begins (a .name) (h .0) in
     let (n, e) = i in
     (b, ((n ++ countText (a .count), ap (λ l. l ++ countText (a .count)) e), l))
 
-pub tree-begins : (t : Syntax) → Formed SpellingFormed t → (b : ℕ) × (Begins (text t) b × (b ≡ code ")" → ⊥))
+pub tree-begins : (t : Syntax) → Formed SpellingFormed t → (b : ℕ) × (FirstByte (text t) b × (b ≡ code ")" → ⊥))
 tree-begins (marked m (leaf a)) h =
     let (b, (i, l)) = atom-begins a h in
     let (y, e) = i in
@@ -66,7 +66,7 @@ module _ {x : Text} {p : ℕ} where
       subst (λ (b : ℕ). T (isLetter b)) (sym (byte-at x p b _ (i .splits ∙ ap (λ l. l ++ i .rest) q)) ∙ e) l
 
   -- behind the bracket
-  pub begins : {stack : List ℕ} {top : ℕ} → Ready x stack p top → getD x p 0 ≡ code "(" → Looping x stack stack p top (p + 1) 0 (noMembers top)
+  pub begins : {stack : List ℕ} {top : ℕ} → TidyReady x stack p top → getD x p 0 ≡ code "(" → Looping x stack stack p top (p + 1) 0 (noMembers top)
   begins {stack} {top} r e = go (r .tree) (r .stands) (r .room)
     where
       go : (t : Syntax) → TreeAt x p t → nodes t ≤ top → Looping x stack stack p top (p + 1) 0 (noMembers top)
@@ -119,25 +119,25 @@ sign-stops Sequence r h = (tt, refl, λ z. absurd (omega (arith, z)))
 sign-stops Choice r h = (tt, refl, λ z. absurd (omega (arith, z)))
 sign-stops Interleaving r h = (tt, refl, λ z. absurd (omega (arith, z)))
 
--- Behind a member u, where the members l are left, at place q.
+-- PastMember a member u, where the members l are left, at place q.
 module _ (x : Text) (s : Sign) (behind : Text) where
-  abbrev pub After : Members Spelling → Text
-  After l = moreText l s ++ (code ")" ∷ behind)
+  abbrev pub AfterMember : Members Spelling → Text
+  AfterMember l = moreText l s ++ (code ")" ∷ behind)
 
-  after-stops : (l : Members Spelling) → (0 < size l → 0 < signByte s) → Stops (After l)
+  after-stops : (l : Members Spelling) → (0 < size l → 0 < signByte s) → Stops (AfterMember l)
   after-stops none f = tt
   after-stops (w ▹ l) f =
       subst Stops (sym (append-assoc (signText s) (text w ++ moreText l s) (code ")" ∷ behind)))
       (sign-stops s ((text w ++ moreText l s) ++ (code ")" ∷ behind)) (f (omega arith)) .0)
 
-  pub record Behind (l : Members Spelling) (q sign : ℕ) : Type 0 where
+  pub record PastMember (l : Members Spelling) (q sign : ℕ) : Type 0 where
     pub inside : q < length x
     pub ahead : drop (memberAfter q (getD x q 0)) x ≡ membersText l s ++ (code ")" ∷ behind)
     pub sign-is : signAfter sign (getD x q 0) ≡ signByte s
     pub from : q ≤ memberAfter q (getD x q 0)
 
-  pub behind-member : (l : Members Spelling) (q sign : ℕ) → drop q x ≡ After l → (0 < size l → 0 < signByte s) → (size l ≡ 0 → sign ≡ signByte s)
-      → Behind l q sign
+  pub behind-member : (l : Members Spelling) (q sign : ℕ) → drop q x ≡ AfterMember l → (0 < size l → 0 < signByte s) → (size l ≡ 0 → sign ≡ signByte s)
+      → PastMember l q sign
   behind-member none q sign e f g =
       let b = byte-at x q (code ")") behind e in
       record {
@@ -189,8 +189,8 @@ module _ {x : Text} {old new : List ℕ} {p top place sign : ℕ} {g : Gathered}
       go (u ▹ l) e = record { member = u; others = l; left-is = e }
 
   -- none is left
-  pub over : getD x place 0 ≡ code ")" → h .walking .left ≡ none
-  over e = go (h .walking .left) (h .walking .formed) (h .walking .ahead)
+  pub walked-over : getD x place 0 ≡ code ")" → h .walking .left ≡ none
+  walked-over e = go (h .walking .left) (h .walking .formed) (h .walking .ahead)
     where
       go : (l : Members Spelling) → MembersFormed SpellingFormed l → drop place x ≡ membersText l (h .group-sign) ++ (code ")" ∷ behindGroup) → l ≡ none
       go none f a = refl
@@ -244,7 +244,7 @@ module _ {x : Text} {old new : List ℕ} {p top place sign : ℕ} {g : Gathered}
           stops = after-stops x (h .group-sign) behindGroup (t .others) more-signed;
         }
 
-    pub member-ready : Ready x new place (g .top)
+    pub member-ready : TidyReady x new place (g .top)
     member-ready =
         record {
           tree = u;

@@ -14,11 +14,11 @@ use Rattle.model.specs.Flatten.{_⧺_, nil, isNil, isChoice, merges, membersOf,
 use Rattle.model.specs.Syntax.{Spelling, Syntax, writtenNames}
 use Rattle.canonical.specs.{declared.tidy.Tidied.Tidied, declared.tidy.Gathered.Gathered, Writer.Head.headIn}
 use Rattle.canonical.specs.Tidy.{stripped, gives, someGives, tidy, tidyAll}
-use Rattle.canonical.specs.Writer.Tidied.{withMemberBy, keeps, joins, StackedBy}
-use Rattle.canonical.specs.Writer.Keeps.{signByte, signCode, Proper, Least, Keeps}
+use Rattle.canonical.specs.Writer.Tidied.{withMemberBy, keeps, joinsBy, StackedBy}
+use Rattle.canonical.specs.Writer.Keeps.{signByte, signCode, Proper, LeastAt, KeepsTree}
 use Rattle.canonical.specs.Writer.Keeps.Laws.{withMark, choice-byte}
 use Rattle.canonical.specs.Writer.Keeps.Member.{stripped-nil, stripped-some, stripped-members, stripped-nodes, signed, joins-merges, merged-nodes, weight-append, kept-marked}
-use Rattle.canonical.specs.Writer.Stack.{stacked, markIf, treesOn, Heads}
+use Rattle.canonical.specs.Writer.Stack.{stacked, markIf, treesOn, HeadsFit}
 use Rattle.canonical.specs.Writer.Stack.Laws.{append-none, stacked-append}
 use Rattle.canonical.specs.Writer.Stack.Push.{push}
 use Rattle.canonical.specs.Writer.Recursion.{OnStack, gatheredOf}
@@ -65,7 +65,7 @@ pub record Stepped (x : Text) (us : Members Spelling) (l : List Syntax) (old new
   pub entries : length new ≡ length old
   pub top-is : end + membersWeight 1 1 us ≡ top
   pub trees-are : treesOn x (drop end new) ≡ stacked us l
-  pub heads : Heads x (drop end new)
+  pub heads : HeadsFit x (drop end new)
 
 abbrev markIn : Syntax → Mark
 markIn (marked m n) = m
@@ -77,7 +77,7 @@ mark-kept false Plain e = refl
 mark-kept false Optional e = absurd (false≢true e)
 
 -- a head keeps the mark but in a choice
-head-tree : {x : Text} (s : Sign) (u : Syntax) {t : Tidied} → Keeps x u t → withMark (markIf (keeps (signByte s) t)) u ≡ stripped s u
+head-tree : {x : Text} (s : Sign) (u : Syntax) {t : Tidied} → KeepsTree x u t → withMark (markIf (keeps (signByte s) t)) u ≡ stripped s u
 head-tree s (marked m n) {t} k =
     ap (λ (j : Mark). marked j n)
     (mark-kept (keeps (signByte s) t) (cond (isChoice s) Plain m) (rw (k .marked-is, choice-byte s) (kept-marked (isChoice s) m)))
@@ -86,13 +86,13 @@ head-tree s (marked m n) {t} k =
 pub record Beside (x : Text) (us : Members Spelling) (l : List Syntax) (stack : List ℕ) (u : Syntax) (top end : ℕ) : Type 0 where
   pub below : end + nodes u ≡ top + 1
   pub trees : treesOn x (drop end stack) ≡ stacked (membersOf u) (stacked us l)
-  pub known : Heads x (drop end stack)
+  pub known : HeadsFit x (drop end stack)
 
 module _ (x : Text) (s : Sign) (us : Members Spelling) (g : Gathered) (t : Tidied) (l : List Syntax) (mid new : List ℕ) where
-  abbrev pub After : Syntax → Type 0
-  After u = Stepped x (us ⧺ gathered s (stripped s u ∷ [])) l mid new (g .top + membersWeight 1 1 us) (withMemberBy x g (signByte s) t .top)
+  abbrev pub AfterStep : Syntax → Type 0
+  AfterStep u = Stepped x (us ⧺ gathered s (stripped s u ∷ [])) l mid new (g .top + membersWeight 1 1 us) (withMemberBy x g (signByte s) t .top)
 
-  nil-stepped : (u : Syntax) → Keeps x u t → u ≡ nil → Beside x us l mid u (g .top) (t .top) → StackedBy mid new (signByte s) t → After u
+  nil-stepped : (u : Syntax) → KeepsTree x u t → u ≡ nil → Beside x us l mid u (g .top) (t .top) → StackedBy mid new (signByte s) t → AfterStep u
   nil-stepped u k e h st =
       let z : eqb (t .sign) 0 ≡ true = eq-eqb (t .sign) 0 (k .sign-is ∙ ap signCode e) in
       let w : gathered s (stripped s u ∷ []) ≡ none = ap (λ (y : Syntax). gathered s (y ∷ [])) (ap (stripped s) e ∙ stripped-nil s) in
@@ -106,7 +106,7 @@ module _ (x : Text) (s : Sign) (us : Members Spelling) (g : Gathered) (t : Tidie
         heads = rw (n, ← q) (h .known);
       }
 
-  joined-stepped : (u : Syntax) → Keeps x u t → Proper x u (t .least) → merges s (stripped s u) ≡ true → Beside x us l mid u (g .top) (t .top) → StackedBy mid new (signByte s) t → After u
+  joined-stepped : (u : Syntax) → KeepsTree x u t → Proper x u (t .least) → merges s (stripped s u) ≡ true → Beside x us l mid u (g .top) (t .top) → StackedBy mid new (signByte s) t → AfterStep u
   joined-stepped u k p e h st =
       let z = signed s u k p in
       let j = joins-merges s u k ∙ e in
@@ -119,8 +119,8 @@ module _ (x : Text) (s : Sign) (us : Members Spelling) (g : Gathered) (t : Tidie
         heads = rw n (h .known);
       }
 
-  stays-stepped : (u : Syntax) → Keeps x u t → Proper x u (t .least) → Least x (t .least) (writtenNames u) → merges s (stripped s u) ≡ false
-      → 0 < t .top → t .top ≤ length mid → Beside x us l mid u (g .top) (t .top) → StackedBy mid new (signByte s) t → After u
+  stays-stepped : (u : Syntax) → KeepsTree x u t → Proper x u (t .least) → LeastAt x (t .least) (writtenNames u) → merges s (stripped s u) ≡ false
+      → 0 < t .top → t .top ≤ length mid → Beside x us l mid u (g .top) (t .top) → StackedBy mid new (signByte s) t → AfterStep u
   stays-stepped u k p n e i r h st =
       let z = signed s u k p in
       let j = joins-merges s u k ∙ e in
@@ -133,10 +133,10 @@ module _ (x : Text) (s : Sign) (us : Members Spelling) (g : Gathered) (t : Tidie
         top-is = omega (arith, h .below, stripped-nodes s u, weight-append us (stripped s u ▹ none));
         trees-are =
             ap (treesOn x) d ∙ q .0 ∙ ap (λ (y : Syntax). y ∷ stacked us l) (head-tree s u k) ∙ sym (stacked-append us (stripped s u ▹ none) l);
-        heads = subst (Heads x) (sym d) (q .1);
+        heads = subst (HeadsFit x) (sym d) (q .1);
       }
 
-  pub stepped : (u : Syntax) → Keeps x u t → 0 < t .top → t .top ≤ length mid → Beside x us l mid u (g .top) (t .top) → StackedBy mid new (signByte s) t → After u
+  pub stepped : (u : Syntax) → KeepsTree x u t → 0 < t .top → t .top ≤ length mid → Beside x us l mid u (g .top) (t .top) → StackedBy mid new (signByte s) t → AfterStep u
   stepped u k i r h st =
       ⊎-elim
       (λ e. nil-stepped u k e h st)

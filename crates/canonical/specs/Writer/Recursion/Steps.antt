@@ -16,10 +16,10 @@ use Rattle.canonical.specs.Tidy.Form.{count-not-zero}
 use Rattle.canonical.specs.Writer.Place.{AtomAt, TreeAt, zeroAt}
 use Rattle.canonical.specs.Writer.Place.Laws.{at-name, at-end, atom-inside, at-atom, at-zero, at-piece}
 use Rattle.canonical.specs.Writer.Tidied.{optionalBy, placedAt, atomBy, markedBy}
-use Rattle.canonical.specs.Writer.Keeps.{Keeps, Proper, Least}
+use Rattle.canonical.specs.Writer.Keeps.{KeepsTree, Proper, LeastAt}
 use Rattle.canonical.specs.Writer.Keeps.Laws.{keeps-placed, keeps-optional}
-use Rattle.canonical.specs.Writer.Stack.{stacked, treesOn, Heads}
-use Rattle.canonical.specs.Writer.Recursion.{Ready, OnStack, TidiedAt, Tidies}
+use Rattle.canonical.specs.Writer.Stack.{stacked, treesOn, HeadsFit}
+use Rattle.canonical.specs.Writer.Recursion.{TidyReady, OnStack, TidiedAt, Tidies}
 use Rattle.canonical.specs.Writer.Recursion.Place.{atom-stands, atom-mark}
 
 -- an atom without its mark
@@ -30,7 +30,7 @@ zero-mark false = refl
 raised-nullable : (a : Spelling) → false ≡ fromZero (tidyAtom a .count)
 raised-nullable a = sym (count-not-zero (a .count))
 
-pub keeps-atom : {x : Text} {p : ℕ} {a : Spelling} (top : ℕ) → AtomAt x p a → Keeps x (tidyNode (leaf a)) (atomBy x p top)
+pub keeps-atom : {x : Text} {p : ℕ} {a : Spelling} (top : ℕ) → AtomAt x p a → KeepsTree x (tidyNode (leaf a)) (atomBy x p top)
 keeps-atom {x} {p} {a} top h =
     record {
       sign-is = refl;
@@ -52,8 +52,8 @@ mark-members Plain u = refl
 mark-members Optional (marked k (leaf a)) = refl
 mark-members Optional (marked k (group s ts)) = refl
 
-pub keeps-mark : {x : Text} (m : Mark) (u : Syntax) {t : Tidied} → is x (code "?") (t .next) ≡ not (isPlain m) → Keeps x u t
-    → Keeps x (marking m u) (markedBy x t)
+pub keeps-mark : {x : Text} (m : Mark) (u : Syntax) {t : Tidied} → is x (code "?") (t .next) ≡ not (isPlain m) → KeepsTree x u t
+    → KeepsTree x (marking m u) (markedBy x t)
 keeps-mark Plain u e k = rw e k
 keeps-mark Optional u {t} e k = rw e (keeps-placed (t .top) (t .next + 1) (keeps-optional u k))
 
@@ -75,7 +75,7 @@ stack-mark {x} m u {old} {new} {top} {end} h =
     }
 
 -- an atom with its mark
-pub atom-tidied : {x : Text} {p : ℕ} {m : Mark} {a : Spelling} (stack : List ℕ) (top : ℕ) → TreeAt x p (marked m (leaf a)) → Heads x (drop top stack)
+pub atom-tidied : {x : Text} {p : ℕ} {m : Mark} {a : Spelling} (stack : List ℕ) (top : ℕ) → TreeAt x p (marked m (leaf a)) → HeadsFit x (drop top stack)
     → TidiedAt x stack stack p top (markedBy x (atomBy x p top)) (marked m (leaf a))
 atom-tidied {x} {p} {m} {a} stack top h i =
     let t = atomBy x p top in

@@ -13,14 +13,14 @@ use Rattle.model.specs.Flatten.Merges.{merged}
 use Rattle.model.specs.Syntax.{Spelling, Syntax, text}
 use Rattle.canonical.specs.{declared.tidy.Tidied.Tidied, declared.tidy.Gathered.Gathered, Tidy.stripped, Tidy.gives, Tidy.someGives, Tidy.tidy, Tidy.tidyAll}
 use Rattle.canonical.specs.Writer.Tidied.{FitsOn, withMemberBy, StackedBy, signAfter, memberAfter}
-use Rattle.canonical.specs.Writer.Keeps.{signByte, signCode, Proper, Keeps, KeepsAll}
+use Rattle.canonical.specs.Writer.Keeps.{signByte, signCode, Proper, KeepsTree, KeepsMembers}
 use Rattle.canonical.specs.Writer.Keeps.Member.{size-append, weight-append, stripped-nil, stripped-some, stripped-nodes, keeps-member}
 use Rattle.canonical.specs.Writer.Stack.{stacked, treesOn}
 use Rattle.canonical.specs.Writer.Stack.Laws.{append-none}
 use Rattle.canonical.specs.Writer.Recursion.{TidiedAt, Walking, Looping, gatheredOf}
 use Rattle.canonical.specs.Writer.Recursion.Place.{drop-behind}
 use Rattle.canonical.specs.Writer.Recursion.Stepped.{append-assoc, gathered-more, given-more, Stepped, stepped}
-use Rattle.canonical.specs.Writer.Recursion.Group.{Turn, Behind, behind-member, behindGroup, size-parts, weight-parts, more-signed, last-signed, splits-here, sign-some, tree-begins, member-stands, formed-others}
+use Rattle.canonical.specs.Writer.Recursion.Group.{Turn, PastMember, behind-member, behindGroup, size-parts, weight-parts, more-signed, last-signed, splits-here, sign-some, tree-begins, member-stands, formed-others}
 
 -- nodes are no fewer than members
 size-weight : (ts : Members Spelling) → size ts ≤ membersWeight 1 1 ts
@@ -49,7 +49,7 @@ sign-small (marked m (group Sequence ts)) = omega arith
 sign-small (marked m (group Choice ts)) = omega arith
 sign-small (marked m (group Interleaving ts)) = omega arith
 
--- one member is several only where it joins a group that has a sign
+-- one member is several only where it joinsBy a group that has a sign
 joined-signed : (x : Text) (s : Sign) (u : Syntax) (p : ℕ) → Proper x u p → merges s (stripped s u) ≡ true → 0 < signByte s
 joined-signed x s (marked m (leaf a)) p h e = absurd (false≢true e)
 joined-signed x s (marked m (group r ts)) p h e = subst (λ (q : Sign). 0 < signByte q) (ap groupSign (merged s (stripped s (marked m (group r ts))) e)) (h .1)
@@ -58,7 +58,7 @@ joined-signed x s (marked m (group r ts)) p h e = subst (λ (q : Sign). 0 < sign
     groupSign (marked k (leaf a)) = None
     groupSign (marked k (group q us)) = q
 
-one-signed : {x : Text} (s : Sign) (u : Syntax) {t : Tidied} → Keeps x u t → 2 ≤ size (gathered s (stripped s u ∷ [])) → 0 < signByte s
+one-signed : {x : Text} (s : Sign) (u : Syntax) {t : Tidied} → KeepsTree x u t → 2 ≤ size (gathered s (stripped s u ∷ [])) → 0 < signByte s
 one-signed {x} s u {t} k h =
     ⊎-elim
     (λ e. absurd (omega (arith, h, ap (λ (y : Syntax). size (gathered s (y ∷ []))) (ap (stripped s) e ∙ stripped-nil s))))
@@ -75,7 +75,7 @@ module _ {x : Text} {old new : List ℕ} {p top place sign : ℕ} {g : Gathered}
   abbrev done : Members Spelling
   done = h .walking .done
 
-  behind : Behind x s (behindGroup h) (t .others) (r .next) sign
+  behind : PastMember x s (behindGroup h) (t .others) (r .next) sign
   behind =
       behind-member x s (behindGroup h) (t .others) (r .next) sign
       (ap (λ n. drop n x) (k .next-is) ∙ drop-behind x (text (t .member)) _ place (splits-here h t)) (more-signed h t) (last-signed h t)

@@ -8,7 +8,7 @@ use Rattle.fields.specs.Bytes.{Text}
 use Rattle.model.specs.Tree.{Members, none, _▹_, size, nodes, membersWeight}
 use Rattle.model.specs.Flatten.{_⧺_}
 use Rattle.model.specs.Syntax.{Spelling, Syntax}
-use Rattle.canonical.specs.Writer.Stack.{turned, stacked, treesOn, Heads}
+use Rattle.canonical.specs.Writer.Stack.{turned, stacked, treesOn, HeadsFit}
 
 pub stacked-append : (ts us : Members Spelling) (l : List Syntax) → stacked (ts ⧺ us) l ≡ stacked us (stacked ts l)
 stacked-append none us l = refl

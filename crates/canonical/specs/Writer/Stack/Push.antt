@@ -13,9 +13,9 @@ use Rattle.model.specs.Syntax.{Spelling, Syntax, nodeText, signText, writtenNam
 use Rattle.judge.specs.Packed.{signBy}
 use Rattle.canonical.specs.{declared.head.Head.Head, declared.tidy.Tidied.Tidied, Order.smallest, Order.smallestName, Writer.Head.headIn}
 use Rattle.canonical.specs.{Tidy.tidyAtom, Writer.Place.atomAt, Writer.Place.pieceAt}
-use Rattle.canonical.specs.Writer.Keeps.{signByte, Proper, Least, Keeps}
+use Rattle.canonical.specs.Writer.Keeps.{signByte, Proper, LeastAt, KeepsTree}
 use Rattle.canonical.specs.Writer.Keeps.Laws.{withMark}
-use Rattle.canonical.specs.Writer.Stack.{stacked, markIf, treeWith, treesOn, HeadFits, Heads}
+use Rattle.canonical.specs.Writer.Stack.{stacked, markIf, treeWith, treesOn, HeadFits, HeadsFit}
 use Rattle.canonical.specs.Writer.Stack.Laws.{members-back, others-back, stacked-length}
 use Rattle.canonical.specs.Writer.Stack.Skip.{trees-more}
 
@@ -37,7 +37,7 @@ sign-bytes Sequence h = refl
 sign-bytes Choice h = refl
 sign-bytes Interleaving h = refl
 
-least-name : (x : Text) (p : ℕ) (l : List Text) → Least x p l → nameFrom x p ≡ smallest l
+least-name : (x : Text) (p : ℕ) (l : List Text) → LeastAt x p l → nameFrom x p ≡ smallest l
 least-name x p [] h = absurd h
 least-name x p (n ∷ l) h = h
 
@@ -52,11 +52,11 @@ marked-names : (b : Bool) (u : Syntax) → smallestName (withMark (markIf b) u) 
 marked-names b (marked m n) = refl
 
 module _ {x : Text} {r : Tidied} (b : Bool) (f l : List Syntax) where
-  tree-pushed : (u : Syntax) → Keeps x u r → Proper x u (r .least) → l ≡ stacked (membersOf u) f → treeWith x (headOf b r) l ≡ withMark (markIf b) u
+  tree-pushed : (u : Syntax) → KeepsTree x u r → Proper x u (r .least) → l ≡ stacked (membersOf u) f → treeWith x (headOf b r) l ≡ withMark (markIf b) u
   tree-pushed (marked m (leaf a)) k p e = rw (k .sign-is, p .0)
   tree-pushed (marked m (group s ts)) k p e = rw (k .sign-is, group-byte s, sign-back s, e, k .members-is, members-back ts f)
 
-  head-pushed : (u : Syntax) → Keeps x u r → Proper x u (r .least) → Least x (r .least) (writtenNames u) → l ≡ stacked (membersOf u) f
+  head-pushed : (u : Syntax) → KeepsTree x u r → Proper x u (r .least) → LeastAt x (r .least) (writtenNames u) → l ≡ stacked (membersOf u) f
       → HeadFits x (headOf b r) l
   head-pushed u k p n e =
       let t = tree-pushed u k p e in
@@ -69,19 +69,19 @@ module _ {x : Text} {r : Tidied} (b : Bool) (f l : List Syntax) where
         group-is = group-of u k p;
       }
     where
-      atom : (u : Syntax) → Keeps x u r → Proper x u (r .least) → eqb (r .sign) 1 ≡ true
+      atom : (u : Syntax) → KeepsTree x u r → Proper x u (r .least) → eqb (r .sign) 1 ≡ true
           → (r .members ≡ 0) × (pieceAt x (r .least) ≡ nodeText (leaf (tidyAtom (atomAt x (r .least)))))
       atom (marked m (leaf a)) k p h = (k .members-is, p .1 ∙ ap (λ (a : Spelling). nodeText (leaf a)) (p .0))
       atom (marked m (group s ts)) k p h = absurd (false≢true (sym (rw (k .sign-is) (group-byte s)) ∙ h))
 
-      group-of : (u : Syntax) → Keeps x u r → Proper x u (r .least) → eqb (r .sign) 1 ≡ false → (2 ≤ r .members) × (signText (signBy (r .sign)) ≡ r .sign ∷ [])
+      group-of : (u : Syntax) → KeepsTree x u r → Proper x u (r .least) → eqb (r .sign) 1 ≡ false → (2 ≤ r .members) × (signText (signBy (r .sign)) ≡ r .sign ∷ [])
       group-of (marked m (leaf a)) k p h = absurd (true≢false (sym (eq-eqb (r .sign) 1 (k .sign-is)) ∙ h))
       group-of (marked m (group s ts)) k p h = (omega (arith, k .members-is, p .0), rw (k .sign-is, sign-back s) (sign-bytes s (p .1)))
 
 -- on the stack
 module _ {x : Text} {r : Tidied} (b : Bool) (w : ℕ) (h : headIn w ≡ headOf b r) (l : List ℕ) (f : List Syntax) where
-  pub push : (u : Syntax) → Keeps x u r → Proper x u (r .least) → Least x (r .least) (writtenNames u) → treesOn x l ≡ stacked (membersOf u) f → Heads x l
-      → (treesOn x (w ∷ l) ≡ withMark (markIf b) u ∷ f) × Heads x (w ∷ l)
+  pub push : (u : Syntax) → KeepsTree x u r → Proper x u (r .least) → LeastAt x (r .least) (writtenNames u) → treesOn x l ≡ stacked (membersOf u) f → HeadsFit x l
+      → (treesOn x (w ∷ l) ≡ withMark (markIf b) u ∷ f) × HeadsFit x (w ∷ l)
   push u k p n e i = (
     trees-more x w l ∙ ap (λ (d : Head). treeWith x d (treesOn x l) ∷ drop (d .members) (treesOn x l)) h
         ∙ ap₂ {C = List Syntax} (λ t r. t ∷ r) (tree-pushed b f (treesOn x l) u k p e)

@@ -8,7 +8,7 @@ use Rattle.fields.specs.{Bytes.Text, Tests.by-test}
 use Rattle.model.specs.{Fault.nameFrom, Flatten.nil, Syntax.Spelling, Syntax.Syntax}
 use Rattle.model.specs.Tree.{leaf, group, marked, Members, none, _▹_, nodes, membersWeight}
 use Rattle.canonical.specs.{declared.head.Head.Head, Order.smallestName, Writer.Head.headIn, Writer.Lists.treeAt, Writer.Lists.headAt}
-use Rattle.canonical.specs.Writer.Stack.{turned, treeWith, treesOn, HeadFits, Heads}
+use Rattle.canonical.specs.Writer.Stack.{turned, treeWith, treesOn, HeadFits, HeadsFit}
 
 -- a sum over trees
 module _ (f : Syntax → ℕ) where
@@ -79,13 +79,13 @@ module _ (x : Text) where
   unfolding treesOn
   trees-more w l = refl
 
-  pub heads-drop : (n : ℕ) (l : List ℕ) → Heads x l → Heads x (drop n l)
+  pub heads-drop : (n : ℕ) (l : List ℕ) → HeadsFit x l → HeadsFit x (drop n l)
   heads-drop zero l h = h
   heads-drop (suc n) [] h = h
   heads-drop (suc n) (w ∷ l) h = heads-drop n l (h .1)
 
   -- behind the words of n trees stand the others
-  pub skip : (l : List ℕ) (n : ℕ) → Heads x l → treesOn x (drop (spans n (treesOn x l)) l) ≡ drop n (treesOn x l)
+  pub skip : (l : List ℕ) (n : ℕ) → HeadsFit x l → treesOn x (drop (spans n (treesOn x l)) l) ≡ drop n (treesOn x l)
   skip [] zero h = refl
   skip [] (suc n) h = simp trees-none
   skip (w ∷ l) zero h = refl
@@ -96,13 +96,13 @@ module _ (x : Text) where
       rw (trees-more, e, skip l (m + n) (h .1)) (sym (drop-drop n m (treesOn x l)))
 
   -- every word is a node
-  pub every-word : (l : List ℕ) → Heads x l → sum nodes (treesOn x l) ≡ length l
+  pub every-word : (l : List ℕ) → HeadsFit x l → sum nodes (treesOn x l) ≡ length l
   every-word [] h = rw trees-none
   every-word (w ∷ l) h =
       rw trees-more (omega (arith, nodes-with (h .0), sum-rest nodes (headIn w .members) (treesOn x l), every-word l (h .1)))
 
   module _ (stack : List ℕ) where
-    pub heads-from : {low p : ℕ} → low ≤ p → Heads x (drop low stack) → Heads x (drop p stack)
+    pub heads-from : {low p : ℕ} → low ≤ p → HeadsFit x (drop low stack) → HeadsFit x (drop p stack)
     heads-from {low} {p} h f =
         let e : low + (p - low) ≡ p = omega arith in
         rw (drop-drop, e) at (heads-drop (p - low) (drop low stack) f)
@@ -116,14 +116,14 @@ module _ (x : Text) where
       pub tree-at : treeAt x stack p ≡ treeWith x (headAt stack p) (treesBelow x stack p)
       tree-at = rw trees-at
 
-      module _ (f : Heads x (drop p stack)) where
+      module _ (f : HeadsFit x (drop p stack)) where
         pub fits-at : HeadFits x (headAt stack p) (treesBelow x stack p)
         fits-at = (rw (drop-cons stack p 0 h) at f) .0
 
         pub size-at : headAt stack p .size ≡ nodes (treeAt x stack p)
         size-at = fits-at .size-is ∙ ap nodes (sym tree-at)
 
-        pub below : Heads x (drop (suc p) stack)
+        pub below : HeadsFit x (drop (suc p) stack)
         below = heads-from {low = p} {p = suc p} (omega arith) f
 
         pub trees-from : (j : ℕ) → treesOn x (drop (placeBehind x stack p j) stack) ≡ drop j (treesBelow x stack p)
@@ -155,7 +155,7 @@ module _ (x : Text) where
               (beside-others j (headAt stack p .members) (treesBelow x stack p) m (fits-at .enough))
 
     -- the smallest name of a tree whose head stands from low on
-    module _ {low p : ℕ} (i : low ≤ p) (h : p < length stack) (f : Heads x (drop low stack)) {head : Head} (e : head ≡ headAt stack p) where
+    module _ {low p : ℕ} (i : low ≤ p) (h : p < length stack) (f : HeadsFit x (drop low stack)) {head : Head} (e : head ≡ headAt stack p) where
       fits : HeadFits x (headAt stack p) (treesBelow x stack p)
       fits = fits-at p h (heads-from i f)
 
