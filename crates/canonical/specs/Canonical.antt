@@ -10,7 +10,7 @@ use mathlib.Core.{Path._≡_, Bool.cond, List.List, List._++_, List.map}
 use Prim.Native.Nat.{ℕ, _≤_, _<_}
 use lib.{Dec.leb, ListN.length, ListN.drop}
 use Rattle.fields.specs.Bytes.{Text}
-use Rattle.model.specs.{declared.fault.ModelFault.ModelFault, Answer.answer, Types.Holds, Model.modelOf, Model.typeOf, Flatten.flatten}
+use Rattle.model.specs.{Answer.answer, Types.Holds, Model.modelOf, Model.typeOf, Flatten.flatten}
 use Rattle.model.specs.Fault.{Answer, Answers, refused, accepted, modelNumber}
 use Rattle.model.specs.Syntax.{Syntax, text, writtenNames, numberIn}
 use Rattle.canonical.specs.{declared.fault.WriteFault.WriteFault, declared.write.Written.Written, Tidy.tidy, Order.order}

@@ -1,11 +1,10 @@
 -- The ends: what is proved of the one way to write a model. Each proof is a citation.
-use mathlib.Core.{Path._≡_, Logic._↔_, Logic._⊎_, Bool.true, List.List, List.[]}
+use mathlib.Core.{Path._≡_, Logic._↔_, Logic._⊎_, List.List, List.[]}
 use Prim.Native.Nat.{ℕ, _≤_}
 use Rattle.fields.specs.{Bytes.Text, Tests.Tells}
 use Rattle.model.specs.{Word.Word, Types.Holds, Model.typeWith, Flatten.nil, Flatten.flatten, Flatten.depth, Fault.Answers, Fault.accepted}
 use Rattle.model.specs.Syntax.{Syntax}
 use Rattle.canonical.specs.{Tidy.treeNullable, Tidy.tidy, Tidy.Meaning.meaning, Tidy.Nullable.tree-nullable, Tidy.Flattened.tidy-flatten, Tidy.Form.Neat}
-use Rattle.canonical.specs.Order.{notAfter, smallest, Smallest.smallest-first, Smallest.smallest-in}
 use Rattle.canonical.specs.Canonical.{canonical, canonicalText, HoldsNames, WriteReply, wrote, writeReply, Writes}
 use Rattle.canonical.specs.Canonical.{Rows.canonical-rows, Fixed.canonical-twice, Fixed.canonical-neat, Depth.canonical-depth}
 use Rattle.canonical.specs.Canonical.{Accepted.canonical-accepted, Reply.held-same, Reply.writes-is, Reply.again}

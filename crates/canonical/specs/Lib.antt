@@ -3,9 +3,10 @@
 --   Tidy       a tree with its counts and marks in one way
 --   Order      the members of `|` and `&` in one order
 --   Canonical  the one way to write a model, and what the writer answers
--- Writer holds what the proofs of the code need.
+-- Writer holds what the proofs of the code need, Examples some texts in their one way.
 pub mod Ends
 pub mod Tidy
 pub mod Order
 pub mod Canonical
 pub mod Writer
+pub mod Examples

@@ -9,12 +9,11 @@ pub mod Flat
 pub mod Leaves
 pub mod Formed
 use mathlib.Core.{Bool.Bool, Bool.true, Bool.false, Bool.cond, Bool.not, Bool._&&_, Bool._||_, List.List, List.[], List._∷_, List.map}
-use Prim.Native.Nat.{ℕ}
 use lib.Dec.{eqb, leb}
 use Rattle.fields.specs.Bytes.{Text, bytes, value}
 use Rattle.model.specs.{declared.rule.Sign.Sign, declared.rule.Mark.Mark}
 use Rattle.model.specs.declared.rule.Mark.the-variants.{Plain, Optional}
-use Rattle.model.specs.Tree.{Node, leaf, group, Tree, marked, Members, none, _▹_, isPlain}
+use Rattle.model.specs.Tree.{Node, leaf, group, marked, Members, none, _▹_, isPlain}
 use Rattle.model.specs.Syntax.{Count, unwritten, between, onward, Spelling, Syntax}
 use Rattle.model.specs.Flatten.{isChoice, isNil, gathered, grouped, droppedMark}
 

@@ -7,6 +7,7 @@ ghost use Rattle.fields.specs.Put.{Put};
 ghost use Rattle.canonical.specs.Writer.Place.{keptEnd, pieceAt};
 use crate::names::count_end;
 use crate::names::name_end;
+use fields::put::put;
 
 // Where what is kept of the atom at `at` ends: `[1..1]` is left out, and `[0..1]`.
 pub(crate) fn kept_end(text: &[u8], at: usize) -> usize
@@ -28,12 +29,7 @@ fn copy_part(text: &[u8], buffer: &mut [u8], at: usize, end: usize, to: usize) -
     requires { ⌜ (at ≤ end) × (end ≤ length (now text)) × (to + (end - at) ≤ length (now buffer)) ⌝ }
     ensures { λ r. ⌜ Put (now (buffer .entry)) (now (buffer .exit)) to (take (end - at) (drop at (now (text .entry)))) r ⌝ }
 {
-    let mut i: usize = 0;
-    while i < end - at {
-        buffer[to + i] = text[at + i];
-        i += 1;
-    }
-    to + i
+    put(buffer, to, &text[at..end])
 }
 
 // Writes the atom at `at`; a lower count of 0 is written as 1.

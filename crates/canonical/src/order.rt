@@ -1,9 +1,54 @@
 // The members of a group in the order in which they are written.
 
-ghost use Rattle.canonical.specs.Writer.Lists.{InsertReady, Inserted, MembersReady, MembersListed};
+ghost use mathlib.Core.Path.{_≡_};
+ghost use Rattle.canonical.specs.Writer.Lists.{isBehind, TwoMembers, Narrowed, InsertReady, Inserted, MembersReady, MembersListed};
 use crate::head::unpacked;
 use crate::names::is_after;
 use model::rule::MAX_NODES;
+
+// Does the member at m have a smallest name that comes after that of the member at `other`?
+fn is_behind(text: &[u8], stack: &[u64; MAX_NODES], m: usize, other: usize) -> bool
+    requires { ⌜ TwoMembers (now text) (now stack) m other ⌝ }
+    ensures { λ r. ⌜ r ≡ isBehind (now (text .entry)) (now (stack .entry)) m other ⌝ }
+{
+    let head = unpacked(stack[m]);
+    let before = unpacked(stack[other]);
+    is_after(text, head.least as usize, before.least as usize)
+}
+
+// Where the member at m goes in a list whose names fall: from this place on they are smaller than its own.
+fn place_of(
+    text: &[u8],
+    stack: &[u64; MAX_NODES],
+    list: &[u8; MAX_NODES],
+    start: usize,
+    end: usize,
+    m: usize,
+) -> usize
+    requires { ⌜ InsertReady (now text) (now stack) (now list) start end m ⌝ }
+    ensures { λ r. ⌜ Narrowed (now (text .entry)) (now (stack .entry)) (now (list .entry)) start end m r r ⌝ }
+{
+    if start < end {} else {
+        return end;
+    }
+    // a member that is written in order has the smallest name so far
+    let last = list[end - 1];
+    if is_behind(text, stack, m, last as usize) {} else {
+        return end;
+    }
+    let mut low = start;
+    let mut high = end - 1;
+    while low < high {
+        let mid = low + (high - low) / 2;
+        let other = list[mid];
+        if is_behind(text, stack, m, other as usize) {
+            high = mid;
+        } else {
+            low = mid + 1;
+        }
+    }
+    high
+}
 
 // Puts the member at m into a list of members, which stands in the places from `start` to `end`, its last first: before those that have no smaller name.
 fn insert(
@@ -17,15 +62,10 @@ fn insert(
     requires { ⌜ InsertReady (now text) (now stack) (now list) start end m ⌝ }
     ensures { λ r. ⌜ Inserted (now (text .entry)) (now (stack .entry)) (now (list .entry)) (now (list .exit)) start end m ⌝ }
 {
-    let head = unpacked(stack[m]);
-    let least = head.least as usize;
+    let place = place_of(text, stack, list, start, end, m);
     let mut k = end;
-    while start < k {
+    while place < k {
         let other = list[k - 1];
-        let before = unpacked(stack[other as usize]);
-        if is_after(text, least, before.least as usize) {} else {
-            break;
-        }
         list[k] = other;
         k -= 1;
     }

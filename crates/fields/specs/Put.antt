@@ -1,7 +1,7 @@
 -- Bytes written into a buffer at a place, the others as they were.
 pub mod Laws
 use mathlib.Core.{Path._≡_, List._++_}
-use Prim.Native.Nat.{ℕ, _+_, _≤_}
+use Prim.Native.Nat.{ℕ, _+_, _-_, _≤_, min}
 use lib.ListN.{length, take, drop}
 use Rattle.fields.specs.Bytes.{Text}
 
@@ -9,6 +9,19 @@ pub record Put (old new : Text) (at : ℕ) (s : Text) (end : ℕ) : Type 0 where
   pub fits : at + length s ≤ length old
   pub end-is : end ≡ at + length s
   pub text-is : new ≡ take at old ++ (s ++ drop (at + length s) old)
+
+-- what `put` does: as many of the bytes as there is room for, from `at` on or from the end (`Put.Laws.put-fits`: where there is room, all are put)
+abbrev pub putStart : Text → ℕ → ℕ
+putStart old at = min at (length old)
+
+abbrev pub putCount : Text → ℕ → Text → ℕ
+putCount old at s = min (length s) (length old - putStart old at)
+
+unfoldable pub putEnd : Text → ℕ → Text → ℕ
+putEnd old at s = putStart old at + putCount old at s
+
+unfoldable pub putAt : Text → ℕ → Text → Text
+putAt old at s = take (putStart old at) old ++ (take (putCount old at s) s ++ drop (putStart old at + putCount old at s) old)
 
 -- a text written at the beginning
 abbrev pub PutWhole : Text → Text → Text → Type 0

@@ -1,13 +1,13 @@
 -- There is one reply to a text, and only one; and a text that was written is written again.
-use mathlib.Core.{Path._≡_, Path.refl, Path.sym, Path.ap, Path.ap₂, Path._∙_, Path.subst, Logic._↔_, Logic.by-cases, List.List, List.List·Memᴰ}
+use mathlib.Core.{Path._≡_, Path.refl, Path.sym, Path.ap, Path._∙_, Path.subst, Logic._↔_, Logic.by-cases, List.List}
 use Prim.Native.Nat.{ℕ, _≤_, _<_}
 use native.Mathlib.{Decide.decLe, Omega.arith}
 use lib.ListN.{length}
 use borrow.Author.Tests.{le-leb, lt-leb}
 use Rattle.fields.specs.{Bytes.Text, Limits.maxText}
-use Rattle.model.specs.{declared.fault.ModelFault.ModelFault, Answer.answer, Answer.answered, Answer.answer-is, Syntax.Syntax, Syntax.writtenNames}
+use Rattle.model.specs.{Answer.answer, Answer.answered, Answer.answer-is, Syntax.Syntax, Syntax.writtenNames}
 use Rattle.model.specs.{Fault.Answer, Fault.Answers, Fault.refused, Fault.accepted, Accept.Laws.accepted-within, Accept.Length.text-fits, Syntax.text}
-use Rattle.canonical.specs.{declared.fault.WriteFault.WriteFault, Order.Smallest.occurs-here, Order.Smallest.occurs-in}
+use Rattle.canonical.specs.{Order.Smallest.occurs-here, Order.Smallest.occurs-in}
 use Rattle.canonical.specs.declared.fault.WriteFault.the-variants.{Model, LongText}
 use Rattle.canonical.specs.Canonical.{canonical, canonicalText, HoldsNames, WriteReply, wrote, refusedWrite, writeFitting, writeBy, writeReply, Writes}
 use Rattle.canonical.specs.Canonical.{Fixed.canonical-twice, Names.canonical-held, Accepted.canonical-accepted, Accepted.canonical-names}

@@ -1,20 +1,20 @@
 -- The tree of an accepted text: it is tidied, stands alone on the stack, and is written if the buffer has room for it.
-use mathlib.Core.{Path._≡_, Path.refl, Path.sym, Path.ap, Path.ap₂, Path._∙_, Path.subst, Logic._⊎_, Logic.inr, Logic.⊎-elim, Logic.by-cases, Bool.true, Bool.false}
+use mathlib.Core.{Path._≡_, Path.refl, Path.sym, Path.ap, Path.ap₂, Path._∙_, Path.subst, Logic._⊎_, Logic.inr, Logic.⊎-elim, Logic.by-cases}
 use mathlib.Core.List.{List, [], _∷_, _++_, append-nil}
 use Prim.Native.{Nat.ℕ, Nat.suc, Nat._+_, Nat._-_, Nat._≤_, Nat._<_, Char.code}
 use native.Mathlib.{Decide.decLe, Omega.arith}
-use lib.ListN.{length, drop, set, getD, replicate, length-set, drop-of-length-le}
+use lib.ListN.{length, drop, set, getD, replicate, length-set}
 use borrow.Author.Tests.{le-leb, lt-leb}
-use Rattle.fields.specs.{Bytes.Text, Bytes.bytes, Limits.maxText, Limits.maxNodes, Put.Put, Put.Laws.put-first}
+use Rattle.fields.specs.{Bytes.Text, Bytes.bytes, Limits.maxText, Limits.maxNodes}
 use Rattle.model.specs.{declared.fault.ModelFault.the-variants.Size, Tree.leaf, Tree.group, Tree.marked, Tree.nodes, declared.rule.Mark.Mark, Flatten.nil, Flatten.membersOf, Answer.answer, Answer.answered}
-use Rattle.model.specs.{Fault.Answer, Fault.Answers, Fault.refused, Fault.accepted, declared.fault.ModelFault.ModelFault, Accept.Within, Accept.Laws.accepted-within, Syntax.Syntax, Syntax.Spells, Syntax.text, Syntax.writtenNames}
+use Rattle.model.specs.{Fault.Answer, Fault.Answers, Fault.refused, Fault.accepted, declared.fault.ModelFault.ModelFault, Accept.Within, Accept.Laws.accepted-within, Syntax.Syntax, Syntax.text, Syntax.writtenNames}
 use Rattle.canonical.specs.declared.write.Written.the-variants.{Length, Refused}
 use Rattle.canonical.specs.declared.fault.WriteFault.the-variants.{Model, LongText}
 use Rattle.judge.specs.Reading.{readingBy}
 use Rattle.judge.specs.declared.reading.Outcome.the-variants.{Read, Refused as IsRefused}
 use Rattle.canonical.specs.declared.write.Written.{Written}
 use Rattle.canonical.specs.{declared.tidy.Tidied.Tidied, Tidy.tidy, Order.order, Order.Kept.order-length}
-use Rattle.canonical.specs.Canonical.{canonicalText, writeFitting, writeBy, writeReply, writtenOf, bufferWritten}
+use Rattle.canonical.specs.Canonical.{canonicalText, writeFitting, writeBy, writtenOf, bufferWritten}
 use Rattle.canonical.specs.Canonical.Fixed.{canonical-tidy}
 use Rattle.canonical.specs.Writer.{Head.headIn, Place.TreeAt, Keeps.KeepsTree, Keeps.Proper, Keeps.LeastAt, Keeps.signCode, Stack.treesOn, Stack.HeadsFit, Lists.treeAt, Lists.PutReady}
 use Rattle.canonical.specs.Writer.{Length.LengthReady, Length.signedLength, Recursion.TidyReady, Recursion.TidiedAt, Recursion.Stepped.on-top, Recursion.Stepped.mark-kept}

@@ -1,13 +1,14 @@
 -- The members of a group as a list of places on the stack, the last member first.
 pub mod Laws
+pub mod Narrow
 pub mod Listing
-use mathlib.Core.{Path._≡_, Logic._⊎_, List.List, List.[], List.map}
-use Prim.Native.Nat.{ℕ, suc, _+_, _≤_, _<_}
+use mathlib.Core.{Path._≡_, Logic._⊎_, Bool.Bool, Bool.true, Bool.false, Bool.not, List.List, List.map}
+use Prim.Native.Nat.{ℕ, suc, _+_, _-_, _≤_, _<_}
 use lib.ListN.{length, take, drop, getD}
 use Rattle.fields.specs.{Bytes.Text, Limits.maxNodes, Put.Put}
 use Rattle.model.specs.{Tree.Members, Tree.none, Tree.nodes, Flatten.nil, Syntax.Spelling, Syntax.Syntax, Syntax.text}
 use Rattle.judge.specs.Packed.{signBy}
-use Rattle.canonical.specs.{declared.head.Head.Head, Order.insert, Order.arrange, Order.order}
+use Rattle.canonical.specs.{declared.head.Head.Head, Order.notAfter, Order.smallestName, Order.insert, Order.arrange, Order.order}
 use Rattle.canonical.specs.Writer.{Head.headIn, Stack.turned, Stack.treesOn, Stack.HeadsFit}
 
 -- the tree whose head stands at p
@@ -26,6 +27,28 @@ treesListed x stack list start end = turned (map (treeAt x stack) (drop start (t
 abbrev pub Places : List ℕ → ℕ → ℕ → ℕ → Type 0
 Places list start end low = (k : ℕ) → start ≤ k → k < end → (low ≤ getD list k 0) × (getD list k 0 < maxNodes)
 
+-- the smallest name of the member at p is after that of the member at q
+abbrev pub isBehind : Text → List ℕ → ℕ → ℕ → Bool
+isBehind x stack p q = not (notAfter (smallestName (treeAt x stack p)) (smallestName (treeAt x stack q)))
+
+-- no member of the list is behind those that stand before it
+abbrev pub Falling : Text → List ℕ → List ℕ → ℕ → ℕ → Type 0
+Falling x stack list start end = (i j : ℕ) → start ≤ i → i ≤ j → j < end → isBehind x stack (getD list j 0) (getD list i 0) ≡ false
+
+-- heads stand at both places
+pub record TwoMembers (x : Text) (stack : List ℕ) (p q : ℕ) : Type 0 where
+  pub low : ℕ
+  pub heads : HeadsFit x (drop low stack)
+  pub entries : length stack ≡ maxNodes
+  pub first : (low ≤ p) × (p < maxNodes)
+  pub second : (low ≤ q) × (q < maxNodes)
+
+-- the member at m is behind those that are listed from high on, and not behind the one before low
+pub record Narrowed (x : Text) (stack list : List ℕ) (start end m low high : ℕ) : Type 0 where
+  pub inside : (start ≤ low) × (low ≤ high) × (high ≤ end)
+  pub behind : (j : ℕ) → high ≤ j → j < end → isBehind x stack m (getD list j 0) ≡ true
+  pub stops : start < low → isBehind x stack m (getD list (low - 1) 0) ≡ false
+
 pub record InsertReady (x : Text) (stack list : List ℕ) (start end m : ℕ) : Type 0 where
   pub low : ℕ
   pub heads : HeadsFit x (drop low stack)
@@ -34,6 +57,7 @@ pub record InsertReady (x : Text) (stack list : List ℕ) (start end m : ℕ) : 
   pub range : (start ≤ end) × (end < maxNodes)
   pub places : Places list start end low
   pub place : (low ≤ m) × (m < maxNodes)
+  pub falling : Falling x stack list start end
 
 pub record Inserted (x : Text) (stack old new : List ℕ) (start end m : ℕ) : Type 0 where
   pub before : take start new ≡ take start old

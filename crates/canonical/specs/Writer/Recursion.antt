@@ -10,7 +10,7 @@ use Prim.Native.{Nat.ℕ, Nat.suc, Nat._+_, Nat._≤_, Nat._<_, Char.code}
 use lib.ListN.{length, drop}
 use Rattle.fields.specs.{Bytes.Text, Limits.maxText, Limits.maxNodes}
 use Rattle.model.specs.{declared.rule.Sign.Sign, declared.rule.Mark.Mark}
-use Rattle.model.specs.Tree.{group, marked, Members, none, size, nodes, membersWeight, SignFits, MembersFormed}
+use Rattle.model.specs.Tree.{group, marked, Members, none, size, nodes, membersWeight, MembersFormed}
 use Rattle.model.specs.Flatten.{_⧺_, membersOf, gathered}
 use Rattle.model.specs.Syntax.{Spelling, Syntax, text, membersText, markText, SpellingFormed}
 use Rattle.canonical.specs.{declared.tidy.Tidied.Tidied, declared.tidy.Gathered.Gathered, Tidy.stripped, Tidy.someGives, Tidy.tidy, Tidy.tidyAll}

@@ -1,11 +1,11 @@
 -- Laws of bytes that are put into a buffer: one write behind another, and a text that is written piece by piece.
 use mathlib.Core.{Path._≡_, Path.refl, Path.ap, Path.sym, Path._∙_, List.[], List._∷_, List._++_, List.append-assoc, List.append-nil}
-use Prim.Native.Nat.{ℕ, _+_, _-_, _≤_, _<_}
-use native.Mathlib.{Omega.arith, Numerals.add-one}
+use Prim.Native.Nat.{ℕ, _+_, _-_, _≤_, _<_, min}
+use native.Mathlib.{Omega.arith, Numerals.add-one, Nat.min-eq-left}
 use lib.ListN.{length, take, drop, set, length-append, length-take, length-drop, drop-of-length-le}
 use lib.Seq.{take-at, drop-at, drop-drop, set-split, paste, take-length, take-all, take-add}
 use borrow.Rule.Slice.PartMut.{putMid}
-use Rattle.fields.specs.{Bytes.Text, Put.Put, Put.Begun}
+use Rattle.fields.specs.{Bytes.Text, Put.Put, Put.putStart, Put.putCount, Put.putEnd, Put.putAt, Put.Begun}
 
 pub put-length : {old new : Text} {at : ℕ} {s : Text} {end : ℕ} → Put old new at s end → length new ≡ length old
 put-length {old} {new} {at} {s} {end} p =
@@ -53,6 +53,20 @@ pub put-whole : {old new : Text} {at : ℕ} {s : Text} (i : ℕ) → i ≤ lengt
 put-whole {old} {new} {at} {s} i h k f e =
     let n : i ≡ length s = omega arith in
     record { fits = f; end-is = omega arith; text-is = e ∙ rw (n, take-length s) (append-assoc (take at old) s (drop (at + length s) old)) }
+
+-- what the loop of `put` ends in
+pub put-done : (old new s : Text) (at start count : ℕ) → start ≡ putStart old at → count ≡ putCount old at s → new ≡ paste old start s count
+    → (start + count ≡ putEnd old at s) × (new ≡ putAt old at s)
+unfolding putEnd putAt
+put-done old new s at start count p n e = (rw (p, n), e ∙ append-assoc (take start old) (take count s) (drop (start + count) old) ∙ rw (p, n))
+
+-- `put`, where there is room
+pub put-fits : (old new : Text) (at : ℕ) (s : Text) (end : ℕ) → at + length s ≤ length old → end ≡ putEnd old at s → new ≡ putAt old at s → Put old new at s end
+unfolding putEnd putAt
+put-fits old new at s end h e f =
+    let p : putStart old at ≡ at = min-eq-left (omega (arith, h)) in
+    let n : min (length s) (length old - at) ≡ length s = min-eq-left (omega (arith, h)) in
+    record { fits = h; end-is = e ∙ rw (p, n); text-is = f ∙ rw (p, n, take-length s) }
 
 pub begun-none : {old whole : Text} → length whole ≤ length old → Begun old old whole 0 whole
 begun-none h = record { room = h; inside = omega arith; ahead = refl; so-far = refl }

@@ -157,7 +157,7 @@ coded-set s c vs n {v} o h e i k =
     (λ q. let y : i ≡ n = omega arith in rw (y, getD-set-same vs n v 0 o) e)
 
 -- what the listing is answered
-outcome-is : (s : Text) → sheetRead s .outcome ≡ sheetOutcome s
+pub outcome-is : (s : Text) → sheetRead s .outcome ≡ sheetOutcome s
 outcome-is s = go (sheetOutcome s)
   where
     go : (o : SheetOutcome) → sheetBy s o .outcome ≡ o

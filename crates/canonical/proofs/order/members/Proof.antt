@@ -45,7 +45,7 @@ element-write-list c = omega (arith, left (c .before .before), entry (c .before 
 insert-requires : tie.Need-insert-requires Inv-loop μ-loop
 insert-requires c κs =
     let k = c .before .before .before in
-    insert-ready (entry (k .before) .pre) (k .before .loop .inv) (left k)
+    insert-ready (entry (k .before) .pre) (k .before .loop .inv) (left k) (λ s. c .before .if1 .left (sign-is (k .before) ∙ s))
 
 mul-unpacked-2 : tie.Need-mul-unpacked-2 Inv-loop μ-loop
 mul-unpacked-2 c = omega (arith, next (c .before .before))

@@ -1,22 +1,21 @@
 -- The steps keep what is known: of an atom, of a member more, of a group that is closed, of a mark.
-use mathlib.Core.{Path._≡_, Path.refl, Path.sym, Path.ap, Path.ap₂, Path._∙_, Path.subst, Logic._⊎_, Logic.inl, Logic.inr, Logic.⊎-elim}
-use mathlib.Core.{Bool.Bool, Bool.true, Bool.false, Bool.cond, Bool.not, Bool._&&_, Bool._||_, List.[], List._∷_}
-use Prim.Native.{Nat.ℕ, Nat.zero, Nat.suc, Nat._+_, Nat._-_, Nat._≤_, Nat._<_, Char.code}
+use mathlib.Core.{Path._≡_, Path.refl, Path.ap, Path._∙_, Logic._⊎_, Logic.inl, Logic.inr, Logic.⊎-elim}
+use mathlib.Core.{Bool.Bool, Bool.true, Bool.false, Bool.cond, Bool.not, Bool._&&_}
+use Prim.Native.{Nat.ℕ, Nat._+_, Nat._-_, Nat._≤_, Nat._<_, Char.code}
 use native.Mathlib.Omega.{arith}
-use lib.{Dec.eqb, ListN.length}
-use borrow.Author.Tests.{eq-eqb, ne-eqb, eqb-true}
+use lib.{Dec.eqb}
+use borrow.Author.Tests.{ne-eqb}
 use Rattle.fields.specs.{Bytes.Text, Tests.by-test}
-use Rattle.model.specs.{declared.rule.Sign.Sign, declared.rule.Mark.Mark, Fault.nameFrom}
+use Rattle.model.specs.{declared.rule.Sign.Sign, declared.rule.Mark.Mark}
 use Rattle.model.specs.declared.rule.Sign.the-variants.{None, Sequence, Choice, Interleaving}
 use Rattle.model.specs.declared.rule.Mark.the-variants.{Plain, Optional}
-use Rattle.model.specs.Tree.{leaf, group, marked, Members, none, _▹_, size, nodes, membersWeight, membersLeaves, isPlain}
-use Rattle.model.specs.Flatten.{_⧺_, nil, isNil, isChoice, sameSign, merges, membersOf, gathered, grouped, droppedMark}
-use Rattle.model.specs.Syntax.{Spelling, Syntax, writtenNames}
-use Rattle.canonical.specs.{declared.tidy.Tidied.Tidied, declared.tidy.Gathered.Gathered, Order.smallest}
-use Rattle.canonical.specs.Tidy.{nodeNullable, groupNullable, marking, stripped, gives}
-use Rattle.canonical.specs.Writer.Place.{atomAt, pieceAt}
-use Rattle.canonical.specs.Writer.Tidied.{optionalBy, placedAt, remarkedBy, nothingBy, noMembers, groupedBy, groupClosedBy, withMemberBy, keeps, joinsBy}
-use Rattle.canonical.specs.Writer.Keeps.{signByte, signCode, isMarked, nullableNode, Proper, KeepsTree, KeepsMembers}
+use Rattle.model.specs.Tree.{leaf, group, marked, Members, none, _▹_, size, isPlain}
+use Rattle.model.specs.Flatten.{nil, isChoice, sameSign, grouped, droppedMark}
+use Rattle.model.specs.Syntax.{Spelling, Syntax}
+use Rattle.canonical.specs.{declared.tidy.Tidied.Tidied, declared.tidy.Gathered.Gathered}
+use Rattle.canonical.specs.Tidy.{nodeNullable, marking}
+use Rattle.canonical.specs.Writer.Tidied.{optionalBy, placedAt, remarkedBy, nothingBy, noMembers, groupedBy, groupClosedBy}
+use Rattle.canonical.specs.Writer.Keeps.{signByte, nullableNode, KeepsTree, KeepsMembers}
 
 -- signs by their bytes
 pub choice-byte : (s : Sign) → eqb (signByte s) (code "|") ≡ isChoice s

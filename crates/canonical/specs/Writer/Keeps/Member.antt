@@ -1,10 +1,10 @@
 -- One member more of a group keeps what is known.
-use mathlib.Core.{Path._≡_, Path.refl, Path.sym, Path.ap, Path.ap₂, Path._∙_, Path.subst, Logic._⊎_, Logic.inl, Logic.inr, Logic.⊎-elim}
+use mathlib.Core.{Path._≡_, Path.refl, Path.sym, Path.ap, Path._∙_, Path.subst, Logic._⊎_, Logic.inl, Logic.inr, Logic.⊎-elim}
 use mathlib.Core.{Bool.Bool, Bool.true, Bool.false, Bool.cond, Bool.not, Bool._&&_, Bool._||_, Bool.or-true, Bool.or-false, Bool.and-true, Bool.false≢true, List.List, List.[], List._∷_, List._++_, List.map, List.map-append, List.append-nil}
-use Prim.Native.{Nat.ℕ, Nat.zero, Nat.suc, Nat._+_, Nat._-_, Nat._≤_, Nat._<_, Char.code}
+use Prim.Native.{Nat.ℕ, Nat.suc, Nat._+_, Nat._-_, Nat._≤_, Nat._<_}
 use native.Mathlib.Omega.{arith}
 use lib.{Dec.eqb, ListN.length}
-use borrow.Author.Tests.{eq-eqb, ne-eqb, eqb-true}
+use borrow.Author.Tests.{eq-eqb, ne-eqb}
 use Rattle.fields.specs.{Bytes.Text, Tests.by-test}
 use Rattle.model.specs.{declared.rule.Sign.Sign, declared.rule.Mark.Mark, Fault.nameFrom}
 use Rattle.model.specs.declared.rule.Mark.the-variants.{Plain, Optional}
@@ -13,11 +13,11 @@ use Rattle.model.specs.Flatten.{_⧺_, nil, isNil, isChoice, merges, membersOf,
 use Rattle.model.specs.Flatten.Leaves.{append-leaves, merged-leaves}
 use Rattle.model.specs.Flatten.Merges.{merged}
 use Rattle.model.specs.Syntax.{Spelling, Syntax, writtenNames}
-use Rattle.canonical.specs.{declared.tidy.Tidied.Tidied, declared.tidy.Gathered.Gathered, Order.notAfter, Order.smaller, Order.smallest}
+use Rattle.canonical.specs.{declared.tidy.Tidied.Tidied, declared.tidy.Gathered.Gathered, Order.notAfter, Order.smaller}
 use Rattle.canonical.specs.Order.Smallest.{smallest-append}
 use Rattle.canonical.specs.Tidy.{nodeNullable, treeNullable, someNullable, allNullable, groupNullable, stripped, gives}
 use Rattle.canonical.specs.Writer.Tidied.{remarkedBy, smallerBy, bothBy, withMemberBy, keeps, joinsBy}
-use Rattle.canonical.specs.Writer.Keeps.{signByte, signCode, isMarked, nullableNode, Proper, LeastAt, KeepsTree, KeepsMembers}
+use Rattle.canonical.specs.Writer.Keeps.{signByte, signCode, Proper, LeastAt, KeepsTree, KeepsMembers}
 use Rattle.canonical.specs.Writer.Keeps.Laws.{choice-byte, same-byte, no-atom, keeps-marked}
 use Rattle.canonical.specs.Writer.Stack.Laws.{append-none}
 

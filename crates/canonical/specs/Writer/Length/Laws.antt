@@ -1,7 +1,7 @@
 -- The length of the texts of the trees on the stack, word by word.
 use mathlib.Core.{Path._≡_, Path.refl, Path.sym, Path.ap, Path._∙_, Bool.Bool, Bool.true, Bool.false, Bool.cond, List.List, List.[], List._∷_, List._++_}
 use Prim.Native.Nat.{ℕ, suc, _+_, _-_, _≤_, _<_}
-use native.Mathlib.{Omega.arith, Nat.zero-add, Numerals.add-one}
+use native.Mathlib.{Omega.arith, Numerals.add-one}
 use lib.{Dec.eqb, Seq.drop-cons}
 use lib.ListN.{length, take, drop, length-append, length-take, drop-of-length-le}
 use Rattle.fields.specs.{Bytes.Text, Tests.by-test}

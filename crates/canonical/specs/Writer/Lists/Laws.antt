@@ -48,7 +48,7 @@ module _ {old new : List ℕ} {start end k : ℕ} (c : Moved old new start end k
   fewer-below : (n : ℕ) → n ≤ k → take n new ≡ take n old
   fewer-below n h = sym (take-take n k new h) ∙ ap (take n) (c .below) ∙ take-take n k old h
 
-  pub same-below : (j : ℕ) → j < k → getD new j 0 ≡ getD old j 0
+  same-below : (j : ℕ) → j < k → getD new j 0 ≡ getD old j 0
   same-below j h = sym (getD-take k new j 0 h) ∙ ap (λ l. getD l j 0) (c .below) ∙ getD-take k old j 0 h
 
   pub moved-more : start < k → Moved old (set new k (getD new (k - 1) 0)) start end (k - 1)

@@ -10,11 +10,12 @@ use Rattle.model.specs.declared.rule.Sign.{Sign}
 use Rattle.model.specs.declared.rule.Sign.the-variants.{None, Sequence, Choice, Interleaving}
 use Rattle.judge.specs.Packed.{signBy}
 use Rattle.canonical.specs.declared.head.Head.{Head}
-use Rattle.canonical.specs.Order.{insert, arrange}
+use Rattle.canonical.specs.Order.{insert, sort, arrange, Sorted.Rising, Sorted.sort-rising}
 use Rattle.canonical.specs.Writer.Stack.{turned, HeadFits}
 use Rattle.canonical.specs.Writer.Stack.Skip.{treesBelow, placeBehind, tree-from, place-inside, place-next, few-from, fits-at, size-at, below, heads-from}
 use Rattle.canonical.specs.Writer.Lists.{treeAt, headAt, treesListed, Inserted, InsertReady, MembersReady, MembersListed}
 use Rattle.canonical.specs.Writer.Lists.Laws.{moved-none, put-before, put-each, put-listed, nothing-behind, turned-append}
+use Rattle.canonical.specs.Writer.Lists.Narrow.{rising-falls}
 
 -- a member of the group at p stands at q
 pub record MemberAt (x : Text) (stack : List ℕ) (p q : ℕ) : Type 0 where
@@ -40,17 +41,20 @@ one-more : (l : List Syntax) (n : ℕ) → n < length l → turned (take (suc n)
 one-more l n h = rw (take-suc l n nil h) (turned-append (take n l) (getD l n nil ∷ []) none)
 
 -- a sign other than `,` sorts
-sorts-more : (b : ℕ) (t : Syntax) (ts : Members Spelling) → signText (signBy b) ≡ b ∷ [] → (b ≡ code "," → ⊥)
-    → insert t (arrange (signBy b) ts) ≡ arrange (signBy b) (t ▹ ts)
-sorts-more b t ts h n =
-    by-test (eqb b (code "|"))
-    (λ e. rw (ne-eqb b (code ",") n, e))
-    (λ e.
-    by-test (eqb b (code "&"))
-    (λ f. rw (ne-eqb b (code ",") n, e, f))
-    (λ f.
-    let h : [] ≡ b ∷ [] = rw (ne-eqb b (code ",") n, e, f) at h in
-    let z : _≡_ {A = ℕ} 0 1 = cc in absurd (omega arith)))
+module _ (b : ℕ) (h : signText (signBy b) ≡ b ∷ []) (n : b ≡ code "," → ⊥) where
+  sorts : (ts : Members Spelling) → arrange (signBy b) ts ≡ sort ts
+  sorts ts =
+      by-test (eqb b (code "|"))
+      (λ e. rw (ne-eqb b (code ",") n, e))
+      (λ e.
+      by-test (eqb b (code "&"))
+      (λ f. rw (ne-eqb b (code ",") n, e, f))
+      (λ f.
+      let h : [] ≡ b ∷ [] = rw (ne-eqb b (code ",") n, e, f) at h in
+      let z : _≡_ {A = ℕ} 0 1 = cc in absurd (omega arith)))
+
+  sorts-more : (t : Syntax) (ts : Members Spelling) → insert t (arrange (signBy b) ts) ≡ arrange (signBy b) (t ▹ ts)
+  sorts-more t ts = ap (insert t) (sorts ts) ∙ sym (sorts (t ▹ ts))
 
 keeps-more : (b : ℕ) (t : Syntax) (ts : Members Spelling) → b ≡ code "," → t ▹ arrange (signBy b) ts ≡ arrange (signBy b) (t ▹ ts)
 keeps-more b t ts e = rw (eq-eqb b (code ",") e)
@@ -104,8 +108,13 @@ module _ {x : Text} {stack old : List ℕ} {p start : ℕ} (r : MembersReady x s
         ∙ ap (λ n. m + n) (size-at x stack m (omega (arith, i, r .entries)) (heads-from x stack {low = p} {p = m} (omega (arith, i)) (r .heads)))
         ∙ ap (λ q. q + nodes (treeAt x stack q)) (c .next) ∙ sym (place-next x stack p inside-stack (r .heads) (k - start) enough)
 
-    pub insert-ready : InsertReady x stack list start k m
-    insert-ready =
+    listed-rise : (headAt stack p .sign ≡ code "," → ⊥) → Rising (treesListed x stack list start k)
+    listed-rise n =
+        let ts = turned (take (k - start) (treesBelow x stack p)) none in
+        subst Rising (sym (c .members-are ∙ sorts (headAt stack p .sign) sign-written n ts)) (sort-rising ts)
+
+    pub insert-ready : (headAt stack p .sign ≡ code "," → ⊥) → InsertReady x stack list start k m
+    insert-ready n =
         record {
           low = suc p;
           heads = below x stack p inside-stack (r .heads);
@@ -114,6 +123,7 @@ module _ {x : Text} {stack old : List ℕ} {p start : ℕ} (r : MembersReady x s
           range = omega (arith, c .inside, r .room);
           places = λ q i j. c .each q i j .place;
           place = next-member .place;
+          falling = rising-falls x stack list start k (omega (arith, c .list-length, r .list-length, r .room)) (listed-rise n);
         }
 
     module _ {new : List ℕ} {head : Head} (e : head ≡ headAt stack m) where
@@ -143,7 +153,7 @@ module _ {x : Text} {stack old : List ℕ} {p start : ℕ} (r : MembersReady x s
       listing-sorted n i =
           rw a
           (listing-more e (i .before) (i .list-length)
-          (i .members-are ∙ ap (insert (treeAt x stack m)) (c .members-are) ∙ sorts-more (headAt stack p .sign) (treeAt x stack m) _ sign-written n)
+          (i .members-are ∙ ap (insert (treeAt x stack m)) (c .members-are) ∙ sorts-more (headAt stack p .sign) sign-written n (treeAt x stack m) _)
           (i .each))
 
     pub listing-kept : {head : Head} → head ≡ headAt stack m → {after : List ℕ} → after ≡ set list k m → headAt stack p .sign ≡ code ","

@@ -1,20 +1,20 @@
 -- The group at its end.
-use mathlib.Core.{Path._≡_, Path.refl, Path.sym, Path.ap, Path._∙_, Path.subst, Logic._⊎_, Logic.⊎-elim, Bool.Bool, Bool.true, Bool.false, Bool.cond, Bool.not}
+use mathlib.Core.{Path._≡_, Path.refl, Path.sym, Path.ap, Path._∙_, Path.subst, Logic._⊎_, Logic.⊎-elim, Bool.Bool, Bool.false, Bool.not}
 use mathlib.Core.{Bool._&&_, List.List, List.[], List._∷_, List._++_, List.head-eq-of-cons-eq, List.tail-eq-of-cons-eq}
-use Prim.Native.{Nat.ℕ, Nat.zero, Nat.suc, Nat._+_, Nat._-_, Nat._≤_, Nat._<_, Char.code}
+use Prim.Native.{Nat.ℕ, Nat.suc, Nat._+_, Nat._-_, Nat._≤_, Char.code}
 use native.Mathlib.Omega.{arith}
 use lib.{Dec.eqb, ListN.length, ListN.take, ListN.drop, ListN.getD, ListN.take-append-drop, ListN.length-append, ListN.length-drop}
 use lib.Seq.{drop-cons}
 use borrow.Author.Tests.{ne-eqb}
 use Rattle.fields.specs.{Bytes.Text, Tests.by-test}
-use Rattle.model.specs.{declared.rule.Sign.Sign, declared.rule.Mark.Mark, Fault.is}
+use Rattle.model.specs.{declared.rule.Sign.Sign, Fault.is}
 use Rattle.model.specs.declared.rule.Sign.the-variants.{None, Sequence, Choice, Interleaving}
-use Rattle.model.specs.Tree.{leaf, group, marked, Members, none, _▹_, size, nodes, membersWeight, isPlain, SignFits}
+use Rattle.model.specs.Tree.{group, marked, Members, none, _▹_, size, nodes, membersWeight, isPlain, SignFits}
 use Rattle.model.specs.Flatten.{_⧺_, membersOf, grouped, droppedMark}
 use Rattle.model.specs.Syntax.{Spelling, Syntax, text, membersText, markText}
 use Rattle.canonical.specs.{declared.tidy.Tidied.Tidied, declared.tidy.Gathered.Gathered, declared.head.Head.Head, Writer.Head.headIn}
-use Rattle.canonical.specs.Tidy.{marking, someGives, settledGroup, tidy, tidyAll}
-use Rattle.canonical.specs.Writer.Tidied.{optionalBy, groupedBy, groupClosedBy, markedBy}
+use Rattle.canonical.specs.Tidy.{someGives, settledGroup, tidy, tidyAll}
+use Rattle.canonical.specs.Writer.Tidied.{groupedBy, groupClosedBy, markedBy}
 use Rattle.canonical.specs.Writer.Keeps.{signByte, KeepsMembers}
 use Rattle.canonical.specs.Writer.Keeps.Laws.{keeps-closed}
 use Rattle.canonical.specs.Writer.Stack.{turned, stacked, treeWith, treesOn, HeadFits, HeadsFit}

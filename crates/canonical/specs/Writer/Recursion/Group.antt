@@ -1,24 +1,23 @@
 -- The walk walked-over the members of a group: it begins behind the bracket, goes on by one member, and ends before the other bracket.
-use mathlib.Core.{Path._≡_, Path.refl, Path.sym, Path.ap, Path._∙_, Path.subst, Logic._⊎_, Logic.inl, Logic.inr, Logic.⊎-elim}
-use mathlib.Core.{Bool.Bool, Bool.false, Bool._&&_, List.List, List.[], List._∷_, List._++_, List.append-assoc}
-use Prim.Native.{Nat.ℕ, Nat.zero, Nat.suc, Nat._+_, Nat._-_, Nat._≤_, Nat._<_, Char.code}
-use native.Mathlib.{Omega.arith, Nat.add-zero}
-use lib.{Dec.T, Dec.eqb, ListN.length, ListN.drop, ListN.getD, ListN.length-append, ListN.length-drop}
-use borrow.Author.Tests.{eq-eqb, ne-eqb}
+use mathlib.Core.{Path._≡_, Path.refl, Path.sym, Path.ap, Path._∙_, Path.subst, Logic._⊎_, Logic.inl, Logic.⊎-elim}
+use mathlib.Core.{Bool.false, List.List, List.[], List._∷_, List._++_, List.append-assoc}
+use Prim.Native.{Nat.ℕ, Nat.suc, Nat._+_, Nat._-_, Nat._≤_, Nat._<_, Char.code}
+use native.Mathlib.{Omega.arith}
+use lib.{Dec.T, Dec.eqb, ListN.length, ListN.drop, ListN.getD}
+use borrow.Author.Tests.{ne-eqb}
 use mir.Facts.{and-yes}
-use Rattle.fields.specs.Bytes.{Text, isLetter, isInner, isName, all}
+use Rattle.fields.specs.Bytes.{Text, isLetter, isName}
 use Rattle.model.specs.{declared.rule.Sign.Sign, declared.rule.Mark.Mark, Fault.is}
 use Rattle.model.specs.declared.rule.Sign.the-variants.{None, Sequence, Choice, Interleaving}
-use Rattle.model.specs.Tree.{Node, leaf, group, marked, Members, none, _▹_, size, nodes, membersWeight, SignFits, Formed, MembersFormed}
-use Rattle.model.specs.Flatten.{_⧺_}
+use Rattle.model.specs.Tree.{leaf, group, marked, Members, none, _▹_, size, nodes, membersWeight, SignFits, Formed, MembersFormed}
 use Rattle.model.specs.Syntax.{Spelling, Syntax, text, nodeText, membersText, moreText, countText, signText, markText, SpellingFormed}
-use Rattle.canonical.specs.{declared.tidy.Tidied.Tidied, declared.tidy.Gathered.Gathered, Tidy.someGives, Tidy.tidyAll}
-use Rattle.canonical.specs.Writer.Place.{AtomAt, Stops, TreeAt}
+use Rattle.canonical.specs.{declared.tidy.Gathered.Gathered}
+use Rattle.canonical.specs.Writer.Place.{Stops, TreeAt}
 use Rattle.canonical.specs.Writer.Tidied.{noMembers, signAfter, memberAfter}
-use Rattle.canonical.specs.Writer.Keeps.{signByte, KeepsMembers}
+use Rattle.canonical.specs.Writer.Keeps.{signByte}
 use Rattle.canonical.specs.Writer.Keeps.Laws.{keeps-none}
 use Rattle.canonical.specs.Writer.Keeps.Member.{size-append, weight-append}
-use Rattle.canonical.specs.Writer.Recursion.{TidyReady, Walking, Looping, TidiedAt, Tidies, gatheredOf}
+use Rattle.canonical.specs.Writer.Recursion.{TidyReady, Looping}
 use Rattle.canonical.specs.Writer.Recursion.Place.{drop-behind, byte-at, byte-inside, atom-stands, group-splits}
 
 -- The first byte of a tree: a letter or `(`.

@@ -1,19 +1,17 @@
 -- What stands where in the text of a tree: the bytes that the recursion looks at.
-use mathlib.Core.{Path._≡_, Path.refl, Path.sym, Path.ap, Path._∙_, Path.subst, Bool.Bool, Bool.true, Bool.false, Bool.not}
-use mathlib.Core.List.{[], _∷_, _++_, append-assoc, append-nil}
-use Prim.Native.{Nat.ℕ, Nat.zero, Nat.suc, Nat._+_, Nat._-_, Nat._≤_, Nat._<_, Char.code}
+use mathlib.Core.{Path._≡_, Path.refl, Path.sym, Path.ap, Path._∙_, Bool.false, Bool.not}
+use mathlib.Core.List.{[], _∷_, _++_, append-assoc}
+use Prim.Native.{Nat.ℕ, Nat._+_, Nat._-_, Nat._<_, Char.code}
 use native.Mathlib.{Omega.arith, Nat.add-zero}
-use lib.{Dec.T, Dec.eqb, ListN.length, ListN.drop, ListN.getD, ListN.length-append, ListN.length-drop}
+use lib.{Dec.eqb, ListN.length, ListN.drop, ListN.getD, ListN.length-drop}
 use lib.Seq.{drop-drop, drop-at, getD-drop}
 use Rattle.fields.specs.Bytes.{Text, bytes}
 use Rattle.model.specs.{declared.rule.Sign.Sign, declared.rule.Mark.Mark, Fault.is}
-use Rattle.model.specs.declared.rule.Sign.the-variants.{None, Sequence, Choice, Interleaving}
 use Rattle.model.specs.declared.rule.Mark.the-variants.{Plain, Optional}
-use Rattle.model.specs.Tree.{leaf, group, marked, Members, none, _▹_, size, isPlain, SignFits, MembersFormed}
-use Rattle.model.specs.Syntax.{Spelling, Syntax, text, nodeText, membersText, moreText, signText, markText, SpellingFormed}
+use Rattle.model.specs.Tree.{leaf, group, marked, Members, isPlain}
+use Rattle.model.specs.Syntax.{Spelling, text, nodeText, membersText, markText}
 use Rattle.canonical.specs.Writer.Place.{Free, AtomAt, Stops, TreeAt}
 use Rattle.canonical.specs.Writer.Place.Trees.{stop-cases}
-use Rattle.canonical.specs.Writer.Keeps.{signByte}
 
 -- a text behind a beginning
 pub drop-behind : (x u v : Text) (p : ℕ) → drop p x ≡ u ++ v → drop (p + length u) x ≡ v

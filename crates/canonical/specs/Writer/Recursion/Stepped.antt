@@ -1,27 +1,27 @@
 -- One member more on the stack.
-use mathlib.Core.{Path._≡_, Path.refl, Path.sym, Path.ap, Path.ap₂, Path._∙_, Path.subst, Logic._⊎_, Logic.inl, Logic.inr, Logic.⊎-elim}
-use mathlib.Core.{Bool.Bool, Bool.true, Bool.false, Bool.cond, Bool.not, Bool._&&_, Bool._||_, Bool.true≢false, Bool.false≢true, List.List, List.[], List._∷_, List._++_, List.map, List.map-append}
-use Prim.Native.{Nat.ℕ, Nat.zero, Nat.suc, Nat._+_, Nat._-_, Nat._≤_, Nat._<_, Char.code}
+use mathlib.Core.{Path._≡_, Path.refl, Path.sym, Path.ap, Path._∙_, Path.subst, Logic._⊎_, Logic.⊎-elim}
+use mathlib.Core.{Bool.Bool, Bool.true, Bool.false, Bool.cond, Bool.not, Bool._||_, Bool.true≢false, Bool.false≢true, List.List, List.[], List._∷_, List._++_, List.map, List.map-append}
+use Prim.Native.{Nat.ℕ, Nat.suc, Nat._+_, Nat._-_, Nat._≤_, Nat._<_}
 use native.Mathlib.Omega.{arith}
-use lib.{Dec.eqb, ListN.length, ListN.drop, ListN.set, ListN.getD, ListN.length-set}
+use lib.{Dec.eqb, ListN.length, ListN.drop, ListN.set, ListN.length-set}
 use lib.Seq.{drop-cons, getD-set-same, drop-set-lt}
-use borrow.Author.Tests.{eq-eqb, ne-eqb}
+use borrow.Author.Tests.{eq-eqb}
 use Rattle.fields.specs.{Bytes.Text, Tests.by-test}
 use Rattle.model.specs.{declared.rule.Sign.Sign, declared.rule.Mark.Mark}
 use Rattle.model.specs.declared.rule.Mark.the-variants.{Plain, Optional}
-use Rattle.model.specs.Tree.{leaf, group, marked, Members, none, _▹_, size, nodes, membersWeight, isPlain}
+use Rattle.model.specs.Tree.{group, marked, Members, none, _▹_, nodes, membersWeight, isPlain}
 use Rattle.model.specs.Flatten.{_⧺_, nil, isNil, isChoice, merges, membersOf, withMember, gathered}
 use Rattle.model.specs.Syntax.{Spelling, Syntax, writtenNames}
-use Rattle.canonical.specs.{declared.tidy.Tidied.Tidied, declared.tidy.Gathered.Gathered, Writer.Head.headIn}
+use Rattle.canonical.specs.{declared.tidy.Tidied.Tidied, declared.tidy.Gathered.Gathered}
 use Rattle.canonical.specs.Tidy.{stripped, gives, someGives, tidy, tidyAll}
-use Rattle.canonical.specs.Writer.Tidied.{withMemberBy, keeps, joinsBy, StackedBy}
+use Rattle.canonical.specs.Writer.Tidied.{withMemberBy, keeps, StackedBy}
 use Rattle.canonical.specs.Writer.Keeps.{signByte, signCode, Proper, LeastAt, KeepsTree}
 use Rattle.canonical.specs.Writer.Keeps.Laws.{withMark, choice-byte}
 use Rattle.canonical.specs.Writer.Keeps.Member.{stripped-nil, stripped-some, stripped-members, stripped-nodes, signed, joins-merges, merged-nodes, weight-append, kept-marked}
 use Rattle.canonical.specs.Writer.Stack.{stacked, markIf, treesOn, HeadsFit}
 use Rattle.canonical.specs.Writer.Stack.Laws.{append-none, stacked-append}
 use Rattle.canonical.specs.Writer.Stack.Push.{push}
-use Rattle.canonical.specs.Writer.Recursion.{OnStack, gatheredOf}
+use Rattle.canonical.specs.Writer.Recursion.{gatheredOf}
 
 -- Members one behind the other.
 pub append-assoc : (ts us ws : Members Spelling) → (ts ⧺ us) ⧺ ws ≡ ts ⧺ (us ⧺ ws)

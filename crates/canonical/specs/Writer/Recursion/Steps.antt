@@ -1,25 +1,25 @@
 -- A tree that is an atom; a group's members, one by one; the group at its end.
-use mathlib.Core.{Path._≡_, Path.refl, Path.sym, Path.ap, Path.ap₂, Path._∙_, Path.subst, Logic._⊎_, Logic.inl, Logic.inr, Logic.⊎-elim}
-use mathlib.Core.{Bool.Bool, Bool.true, Bool.false, Bool.cond, Bool.not, Bool._&&_, Bool._||_, List.List, List.[], List._∷_, List._++_, List.map}
-use Prim.Native.{Nat.ℕ, Nat.zero, Nat.suc, Nat._+_, Nat._-_, Nat._≤_, Nat._<_, Char.code}
+use mathlib.Core.{Path._≡_, Path.refl, Path.sym, Path.ap, Path._∙_, Path.subst, Logic.inr}
+use mathlib.Core.{Bool.Bool, Bool.true, Bool.false, Bool.cond, Bool.not, List.List}
+use Prim.Native.{Nat.ℕ, Nat._+_, Nat._-_, Char.code}
 use native.Mathlib.Omega.{arith}
-use lib.{Dec.eqb, ListN.length, ListN.drop, ListN.set, ListN.getD, ListN.length-append}
-use Rattle.fields.specs.{Bytes.Text, Tests.by-test, Limits.maxText, Limits.maxNodes}
-use Rattle.model.specs.{declared.rule.Sign.Sign, declared.rule.Mark.Mark, Fault.is, Fault.nameFrom}
+use lib.{ListN.length, ListN.drop, ListN.length-append}
+use Rattle.fields.specs.{Bytes.Text}
+use Rattle.model.specs.{declared.rule.Mark.Mark, Fault.is}
 use Rattle.model.specs.declared.rule.Mark.the-variants.{Plain, Optional}
-use Rattle.model.specs.Tree.{leaf, group, marked, Members, none, _▹_, size, nodes, membersWeight, isPlain}
-use Rattle.model.specs.Flatten.{_⧺_, nil, isNil, merges, membersOf, gathered, grouped, droppedMark}
-use Rattle.model.specs.Syntax.{Spelling, Syntax, text, nodeText, markText, writtenNames}
-use Rattle.canonical.specs.{declared.tidy.Tidied.Tidied, declared.tidy.Gathered.Gathered}
-use Rattle.canonical.specs.Tidy.{fromZero, tidyAtom, marking, stripped, gives, someGives, tidyNode, tidy, tidyAll}
+use Rattle.model.specs.Tree.{leaf, group, marked, Members, nodes, isPlain}
+use Rattle.model.specs.Flatten.{membersOf}
+use Rattle.model.specs.Syntax.{Spelling, Syntax, nodeText, markText}
+use Rattle.canonical.specs.{declared.tidy.Tidied.Tidied}
+use Rattle.canonical.specs.Tidy.{fromZero, tidyAtom, marking, tidyNode}
 use Rattle.canonical.specs.Tidy.Form.{count-not-zero}
-use Rattle.canonical.specs.Writer.Place.{AtomAt, TreeAt, zeroAt}
+use Rattle.canonical.specs.Writer.Place.{AtomAt, TreeAt}
 use Rattle.canonical.specs.Writer.Place.Laws.{at-name, at-end, atom-inside, at-atom, at-zero, at-piece}
-use Rattle.canonical.specs.Writer.Tidied.{optionalBy, placedAt, atomBy, markedBy}
-use Rattle.canonical.specs.Writer.Keeps.{KeepsTree, Proper, LeastAt}
+use Rattle.canonical.specs.Writer.Tidied.{atomBy, markedBy}
+use Rattle.canonical.specs.Writer.Keeps.{KeepsTree}
 use Rattle.canonical.specs.Writer.Keeps.Laws.{keeps-placed, keeps-optional}
 use Rattle.canonical.specs.Writer.Stack.{stacked, treesOn, HeadsFit}
-use Rattle.canonical.specs.Writer.Recursion.{TidyReady, OnStack, TidiedAt, Tidies}
+use Rattle.canonical.specs.Writer.Recursion.{OnStack, TidiedAt}
 use Rattle.canonical.specs.Writer.Recursion.Place.{atom-stands, atom-mark}
 
 -- an atom without its mark

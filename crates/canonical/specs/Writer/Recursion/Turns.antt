@@ -1,7 +1,7 @@
 -- A turn of the loop keeps what is known.
-use mathlib.Core.{Path._≡_, Path.refl, Path.sym, Path.ap, Path._∙_, Path.subst, Logic._⊎_, Logic.inl, Logic.inr, Logic.⊎-elim}
-use mathlib.Core.{Bool.Bool, Bool.true, Bool.false, Bool._||_, Bool.false≢true, List.List, List.[], List._∷_, List._++_}
-use Prim.Native.{Nat.ℕ, Nat.zero, Nat.suc, Nat._+_, Nat._-_, Nat._≤_, Nat._<_, Char.code}
+use mathlib.Core.{Path._≡_, Path.refl, Path.sym, Path.ap, Path._∙_, Path.subst, Logic._⊎_, Logic.inr, Logic.⊎-elim}
+use mathlib.Core.{Bool.true, Bool.false, Bool.false≢true, List.List, List.[], List._∷_}
+use Prim.Native.{Nat.ℕ, Nat.suc, Nat._+_, Nat._-_, Nat._≤_, Nat._<_}
 use native.Mathlib.Omega.{arith}
 use lib.ListN.{length, drop, getD}
 use Rattle.fields.specs.{Bytes.Text, Tests.by-test}
@@ -11,13 +11,13 @@ use Rattle.model.specs.Tree.{leaf, group, marked, Members, none, _▹_, size, n
 use Rattle.model.specs.Flatten.{_⧺_, isNil, merges, membersOf, gathered}
 use Rattle.model.specs.Flatten.Merges.{merged}
 use Rattle.model.specs.Syntax.{Spelling, Syntax, text}
-use Rattle.canonical.specs.{declared.tidy.Tidied.Tidied, declared.tidy.Gathered.Gathered, Tidy.stripped, Tidy.gives, Tidy.someGives, Tidy.tidy, Tidy.tidyAll}
+use Rattle.canonical.specs.{declared.tidy.Tidied.Tidied, declared.tidy.Gathered.Gathered, Tidy.stripped, Tidy.tidy}
 use Rattle.canonical.specs.Writer.Tidied.{FitsOn, withMemberBy, StackedBy, signAfter, memberAfter}
-use Rattle.canonical.specs.Writer.Keeps.{signByte, signCode, Proper, KeepsTree, KeepsMembers}
-use Rattle.canonical.specs.Writer.Keeps.Member.{size-append, weight-append, stripped-nil, stripped-some, stripped-nodes, keeps-member}
+use Rattle.canonical.specs.Writer.Keeps.{signByte, signCode, Proper, KeepsTree}
+use Rattle.canonical.specs.Writer.Keeps.Member.{weight-append, stripped-nil, stripped-some, stripped-nodes, keeps-member}
 use Rattle.canonical.specs.Writer.Stack.{stacked, treesOn}
 use Rattle.canonical.specs.Writer.Stack.Laws.{append-none}
-use Rattle.canonical.specs.Writer.Recursion.{TidiedAt, Walking, Looping, gatheredOf}
+use Rattle.canonical.specs.Writer.Recursion.{TidiedAt, Looping, gatheredOf}
 use Rattle.canonical.specs.Writer.Recursion.Place.{drop-behind}
 use Rattle.canonical.specs.Writer.Recursion.Stepped.{append-assoc, gathered-more, given-more, Stepped, stepped}
 use Rattle.canonical.specs.Writer.Recursion.Group.{Turn, PastMember, behind-member, behindGroup, size-parts, weight-parts, more-signed, last-signed, splits-here, sign-some, tree-begins, member-stands, formed-others}

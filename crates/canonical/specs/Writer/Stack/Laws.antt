@@ -1,14 +1,12 @@
 -- Laws of the trees on the stack.
 use mathlib.Core.{Path._≡_, Path.refl, Path.sym, Path.ap, Path._∙_, List.List, List.[], List._∷_}
-use Prim.Native.Nat.{ℕ, zero, suc, _+_, _≤_}
+use Prim.Native.Nat.{ℕ, suc, _+_}
 use native.Mathlib.{Omega.arith, Nat.add-zero, Nat.zero-add}
 use lib.ListN.{length, take, drop}
-use lib.Seq.{drop-drop}
-use Rattle.fields.specs.Bytes.{Text}
-use Rattle.model.specs.Tree.{Members, none, _▹_, size, nodes, membersWeight}
+use Rattle.model.specs.Tree.{Members, none, _▹_, size}
 use Rattle.model.specs.Flatten.{_⧺_}
 use Rattle.model.specs.Syntax.{Spelling, Syntax}
-use Rattle.canonical.specs.Writer.Stack.{turned, stacked, treesOn, HeadsFit}
+use Rattle.canonical.specs.Writer.Stack.{turned, stacked}
 
 pub stacked-append : (ts us : Members Spelling) (l : List Syntax) → stacked (ts ⧺ us) l ≡ stacked us (stacked ts l)
 stacked-append none us l = refl

@@ -2,12 +2,12 @@
 use mathlib.Core.{Path._≡_, Path.refl, Path.sym, Path.ap, Path.ap₂, Path._∙_, Path.subst, Bool.Bool, Bool.true, Bool.false, Bool.true≢false, Bool.false≢true, List.List, List._∷_, List.[]}
 use Prim.Native.Nat.{ℕ, _≤_, _<_}
 use native.Mathlib.Omega.{arith}
-use lib.{Dec.eqb, ListN.length, ListN.take, ListN.drop}
+use lib.{Dec.eqb, ListN.drop}
 use borrow.Author.Tests.{eq-eqb}
 use Rattle.fields.specs.Bytes.{Text}
 use Rattle.model.specs.{declared.rule.Sign.Sign, Fault.nameFrom}
 use Rattle.model.specs.declared.rule.Sign.the-variants.{None, Sequence, Choice, Interleaving}
-use Rattle.model.specs.Tree.{leaf, group, marked, Members, none, _▹_, size, nodes}
+use Rattle.model.specs.Tree.{leaf, group, marked, size, nodes}
 use Rattle.model.specs.Flatten.{membersOf}
 use Rattle.model.specs.Syntax.{Spelling, Syntax, nodeText, signText, writtenNames}
 use Rattle.judge.specs.Packed.{signBy}

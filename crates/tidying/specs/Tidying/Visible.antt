@@ -1,0 +1,94 @@
+-- A model text has neither tab nor line feed, and what is put together with such a separator is parted there again.
+use mathlib.Core.{Path._≡_, Path.refl, Bool.Bool, Bool.false, List.[], List._∷_, List._++_}
+use Prim.Native.{Nat.ℕ, Nat._≤_, Char.code}
+use native.Mathlib.Omega.{arith}
+use lib.Dec.{T, ltb, eqb}
+use mir.Facts.{and-yes, yes-and}
+use borrow.Author.Tests.{ltb-true, ltb-false, lt-leb, eq-eqb, ne-eqb, not-true}
+use Rattle.fields.specs.{Tests.by-test, Bytes.Text, Bytes.bytes, Bytes.isLetter, Bytes.isDigit, Bytes.isInner, Bytes.isName, Bytes.isNumeral, Bytes.all}
+use Rattle.fields.specs.{Bytes.Laws.T-true, Bytes.Laws.letter-inner, Split.split, Split.other}
+use Rattle.fields.specs.Bytes.Runs.{digit-inner, all-map, all-append, numeral-digits}
+use Rattle.model.specs.declared.rule.{Sign.Sign, Mark.Mark}
+use Rattle.model.specs.declared.rule.Sign.the-variants.{None, Sequence, Choice, Interleaving}
+use Rattle.model.specs.declared.rule.Mark.the-variants.{Plain, Optional}
+use Rattle.model.specs.Tree.{Node, leaf, group, marked, Members, none, _▹_, NodeFormed, Formed, MembersFormed}
+use Rattle.model.specs.Syntax.{Count, unwritten, between, onward, Spelling, Syntax, CountFormed, SpellingFormed, countText, signText, markText}
+use Rattle.model.specs.Syntax.{nodeText, text, membersText, moreText}
+
+-- above the space
+abbrev visible : ℕ → Bool
+visible b = ltb 32 b
+
+abbrev pub Visible : Text → Type 0
+Visible x = T (all visible x)
+
+inner-visible : (b : ℕ) → T (isInner b) → T (visible b)
+inner-visible b h =
+    by-test (visible b) (λ e. rw e tt)
+    (λ e.
+    let k = ltb-false 32 b e in
+    absurd (rw (lt-leb (code "a") b (omega arith), lt-leb (code "0") b (omega arith), ne-eqb b (code "-") (λ q. omega (arith, q))) at h))
+
+numeral-visible : (n : Text) → T (isNumeral n) → Visible n
+numeral-visible n h = all-map isDigit visible (λ b d. inner-visible b (digit-inner b d)) n (numeral-digits n h)
+
+pub name-visible : (n : Text) → T (isName n) → Visible n
+name-visible [] h = absurd h
+name-visible (b ∷ n) h =
+    let q = and-yes (isLetter b) (all isInner n) h in
+    all-map isInner visible inner-visible (b ∷ n) (yes-and (isInner b) (all isInner n) (letter-inner b (q .0)) (q .1))
+
+count-visible : (c : Count) → CountFormed c → Visible (countText c)
+count-visible unwritten h = tt
+count-visible (between m n) h =
+    all-append visible m (bytes ".." ++ (n ++ bytes "]")) (numeral-visible m (h .0)) (all-append visible n (bytes "]") (numeral-visible n (h .1)) tt)
+count-visible (onward m) h = all-append visible m (bytes "..*]") (numeral-visible m h) tt
+
+sign-visible : (s : Sign) → Visible (signText s)
+sign-visible None = tt
+sign-visible Sequence = tt
+sign-visible Choice = tt
+sign-visible Interleaving = tt
+
+mark-visible : (m : Mark) → Visible (markText m)
+mark-visible Plain = tt
+mark-visible Optional = tt
+
+mutual
+  node-visible : (n : Node Spelling) → NodeFormed SpellingFormed n → Visible (nodeText n)
+  node-visible (leaf a) h = all-append visible (a .name) (countText (a .count)) (name-visible (a .name) (h .0)) (count-visible (a .count) (h .1))
+  node-visible (group s ts) h = all-append visible (membersText ts s) (bytes ")") (members-visible ts s (h .1)) tt
+
+  pub text-visible : (t : Syntax) → Formed SpellingFormed t → Visible (text t)
+  text-visible (marked m n) h = all-append visible (nodeText n) (markText m) (node-visible n h) (mark-visible m)
+
+  members-visible : (ts : Members Spelling) (s : Sign) → MembersFormed SpellingFormed ts → Visible (membersText ts s)
+  members-visible none s h = tt
+  members-visible (t ▹ ts) s h = all-append visible (text t) (moreText ts s) (text-visible t (h .0)) (more-visible ts s (h .1))
+
+  more-visible : (ts : Members Spelling) (s : Sign) → MembersFormed SpellingFormed ts → Visible (moreText ts s)
+  more-visible none s h = tt
+  more-visible (t ▹ ts) s h =
+      all-append visible (signText s) (text t ++ moreText ts s) (sign-visible s)
+      (all-append visible (text t) (moreText ts s) (text-visible t (h .0)) (more-visible ts s (h .1)))
+
+-- a separator is none of these bytes
+pub visible-free : (s : ℕ) → s ≤ 32 → (x : Text) → Visible x → T (all (other s) x)
+visible-free s k = all-map visible (other s) free
+  where
+    free : (b : ℕ) → T (visible b) → T (other s b)
+    free b h = rw (ne-eqb b s (λ q. omega (arith, q, ltb-true 32 b (T-true (visible b) h)))) tt
+
+module _ (s : ℕ) where
+  free-first : (b : ℕ) (u : Text) → T (all (other s) (b ∷ u)) → (eqb b s ≡ false) × T (all (other s) u)
+  free-first b u h =
+      let q = and-yes (other s b) (all (other s) u) h in
+      (not-true (eqb b s) (T-true (other s b) (q .0)), q .1)
+
+  pub split-behind : (u y : Text) → T (all (other s) u) → split s (u ++ (s ∷ y)) ≡ u ∷ split s y
+  split-behind [] y h = rw (eq-eqb s s refl)
+  split-behind (b ∷ u) y h = let q = free-first b u h in rw (q .0, split-behind u y (q .1))
+
+  pub split-free-of : (u : Text) → T (all (other s) u) → split s u ≡ u ∷ []
+  split-free-of [] h = refl
+  split-free-of (b ∷ u) h = let q = free-first b u h in rw (q .0, split-free-of u (q .1))
