@@ -44,6 +44,9 @@ head-is : (p : tie.After-put)
     Put (a .buffer .now) (p .put .last .0) 0 (part (a .line .now) 0 (ends p .first-fields .result .second + 1)) (p .put .result)
 head-is p = put-fits _ _ _ _ _ (rw (length-take, length-drop) (omega (arith, room (ends p)))) (p .put .ensures .0) (p .put .ensures .1)
 
+head-inside : (p : tie.After-put) → p .put .result ≤ length (p .put .last .0)
+head-inside p = omega (arith, put-ends (head-is p), head-is p .fits)
+
 sub-put-model-2 : tie.Need-sub-put-model-2
 sub-put-model-2 c = omega (arith, three (ends (c .before .before .before)) .ascending)
 
@@ -84,8 +87,8 @@ write-rule-spec =
     (λ c. search needs)
     part-put-end
     (λ c κs. search needs)
-    (λ c. search needs)
-    (λ c. search needs)
+    (λ c. head-inside (c .before .before))
+    (λ c. head-inside (c .before .before))
     (λ c. search needs)
     sub-put-model-2
     part-put-model-start-2
