@@ -5,7 +5,8 @@ ghost use Prim.Native.Nat.{_+_, _≤_, _<_};
 ghost use lib.ListN.{length};
 ghost use Rattle.model.specs.Syntax.{Spelling};
 ghost use Rattle.canonical.specs.Writer.Place.{AtomAt};
-ghost use Rattle.canonical.specs.Writer.Tidied.{remarkedBy, placedAt, optionalBy, zeroBetween, atomBy, nothingBy, noMembers, withoutBy, leastBy, nullableBy};
+ghost use Rattle.canonical.specs.Writer.Tidied.{remarkedBy, headOf, placedAt, optionalBy, zeroBetween, atomBy, nothingBy, noMembers, withoutBy};
+ghost use Rattle.canonical.specs.Writer.Tidied.{leastBy, nullableBy};
 ghost use Rattle.canonical.specs.Writer.Tidied.{FitsOn, withMemberBy, StackedBy, groupedBy, groupClosedBy, markedBy, signAfter, memberAfter};
 ghost use Rattle.canonical.specs.Writer.Recursion.{TidyReady, Tidies};
 use crate::head::Head;
@@ -53,6 +54,19 @@ fn remarked(t: Tidied, marked: bool) -> Tidied
         least: t.least,
         top: t.top,
         next: t.next,
+    }
+}
+
+// The head of a tree, with a mark or without one.
+pub(crate) fn head_of(t: Tidied, marked: bool) -> Head
+    ensures { λ r. ⌜ r ≡ headOf marked t ⌝ }
+{
+    Head {
+        sign: t.sign,
+        marked: marked,
+        members: t.members,
+        size: t.size,
+        least: t.least,
     }
 }
 
@@ -185,14 +199,8 @@ fn nullable_with(members: u8, sign: u8, nullable: bool, own: bool) -> bool
     }
 }
 
-// One member more for a group of the sign: `()` is dropped, an unmarked group of the same sign joinsBy, and a choice takes its member's `?`.
-fn with_member(
-    text: &[u8],
-    stack: &mut [u64; MAX_NODES],
-    g: Gathered,
-    sign: u8,
-    t: Tidied,
-) -> Gathered
+// One member more for a group of the sign: `()` is dropped, an unmarked group of the same sign joins, and a choice takes its member's `?`.
+fn gather(text: &[u8], stack: &mut [u64; MAX_NODES], g: Gathered, sign: u8, t: Tidied) -> Gathered
     requires { ⌜ FitsOn (now text) (now stack) g t ⌝ }
     ensures { λ r. ⌜ r ≡ withMemberBy (now (text .entry)) g sign t ⌝ }
     ensures { λ r. ⌜ StackedBy (now (stack .entry)) (now (stack .exit)) sign t ⌝ }
@@ -217,13 +225,8 @@ fn with_member(
         };
     }
     let top = t.top - 1;
-    stack[top] = packed(Head {
-        sign: t.sign,
-        marked: marked,
-        members: t.members,
-        size: t.size,
-        least: t.least,
-    });
+    let head = head_of(t, marked);
+    stack[top] = packed(head);
     Gathered {
         last: last,
         given: given,
@@ -319,7 +322,7 @@ pub(crate) fn tidy(text: &[u8], stack: &mut [u64; MAX_NODES], at: usize, top: us
         let behind = text[next];
         sign = sign_by(sign, behind);
         p = member_by(next, behind);
-        g = with_member(text, stack, g, sign, t);
+        g = gather(text, stack, g, sign, t);
     }
     let t = closed(g, sign, p + 1);
     with_mark(text, t)

@@ -7,15 +7,15 @@ ghost use Rattle.fields.specs.Put.{Put};
 ghost use Rattle.model.specs.{Answer.answer, Fault.accepted, Syntax.Syntax, Syntax.markText};
 ghost use Rattle.fields.specs.Bytes.{bytes};
 ghost use Rattle.canonical.specs.Canonical.{writeFitting, writeReply, writtenOf, bufferWritten};
-ghost use Rattle.canonical.specs.Writer.Accepted.{textAt, OneTree};
+ghost use Rattle.canonical.specs.Writer.Accepted.{treeReply, OneTree};
 ghost use Rattle.canonical.specs.Writer.{Stack.markIf, Stack.treesOn, Length.LengthReady, Length.signedLength, Lists.PutReady, Lists.TreePut};
 use crate::atom::kept_end;
 use crate::atom::put_atom;
 use crate::fault::WriteFault;
-use crate::head::Head;
 use crate::head::packed;
 use crate::head::unpacked;
 use crate::order::members;
+use crate::tidy::head_of;
 use crate::tidy::tidy;
 use judge::reading::Outcome;
 use judge::reading::read_model;
@@ -71,7 +71,8 @@ fn put_tree(
     to: usize,
 ) -> usize
     requires { ⌜ PutReady (now text) (now stack) (now list) (now buffer) at start to ⌝ }
-    ensures { λ r. ⌜ TreePut (now (text .entry)) (now (stack .entry)) (now (list .entry)) (now (list .exit)) (now (buffer .entry)) (now (buffer .exit)) at start to r ⌝ }
+    ensures { λ r. ⌜ TreePut (now (text .entry)) (now (stack .entry)) (now (list .entry)) (now (list .exit)) (now (buffer .entry))
+        (now (buffer .exit)) at start to r ⌝ }
 {
     let head = unpacked(stack[at]);
     if head.sign == 1 {
@@ -109,8 +110,9 @@ fn write_nothing(buffer: &mut [u8]) -> Written
 // The one tree on the stack, if the buffer has room for its text.
 fn write_tree(text: &[u8], stack: &[u64; MAX_NODES], top: usize, buffer: &mut [u8]) -> Written
     requires { ⌜ OneTree (now text) (now stack) top ⌝ }
-    ensures { λ r. ⌜ r ≡ writtenOf (writeFitting (textAt (now (text .entry)) (now (stack .entry)) top) (length (now (buffer .entry)))) ⌝ }
-    ensures { λ r. ⌜ now (buffer .exit) ≡ bufferWritten (writeFitting (textAt (now (text .entry)) (now (stack .entry)) top) (length (now (buffer .entry)))) (now (buffer .entry)) ⌝ }
+    ensures { λ r. ⌜ r ≡ writtenOf (treeReply (now (text .entry)) (now (stack .entry)) top (length (now (buffer .entry)))) ⌝ }
+    ensures { λ r. ⌜ now (buffer .exit) ≡ bufferWritten (treeReply (now (text .entry)) (now (stack .entry)) top (length (now (buffer .entry))))
+        (now (buffer .entry)) ⌝ }
 {
     let length = signed_length(text, stack, top) - 1;
     if buffer.len() < length {
@@ -133,13 +135,8 @@ fn write_accepted(text: &[u8], buffer: &mut [u8]) -> Written
         return write_nothing(buffer);
     }
     let top = t.top - 1;
-    stack[top] = packed(Head {
-        sign: t.sign,
-        marked: t.marked,
-        members: t.members,
-        size: t.size,
-        least: t.least,
-    });
+    let head = head_of(t, t.marked);
+    stack[top] = packed(head);
     write_tree(text, &stack, top, buffer)
 }
 

@@ -6,19 +6,24 @@ use native.Mathlib.{Decide.decLe, Omega.arith}
 use lib.ListN.{length, drop, set, getD, replicate, length-set}
 use borrow.Author.Tests.{le-leb, lt-leb}
 use Rattle.fields.specs.{Bytes.Text, Bytes.bytes, Limits.maxText, Limits.maxNodes}
-use Rattle.model.specs.{declared.fault.ModelFault.the-variants.Size, Tree.leaf, Tree.group, Tree.marked, Tree.nodes, declared.rule.Mark.Mark, Flatten.nil, Flatten.membersOf, Answer.answer, Answer.answered}
-use Rattle.model.specs.{Fault.Answer, Fault.Answers, Fault.refused, Fault.accepted, declared.fault.ModelFault.ModelFault, Accept.Within, Accept.Laws.accepted-within, Syntax.Syntax, Syntax.text, Syntax.writtenNames}
+use Rattle.model.specs.{declared.fault.ModelFault.the-variants.Size, Tree.leaf, Tree.group, Tree.marked, Tree.nodes, declared.rule.Mark.Mark, Flatten.nil}
+use Rattle.model.specs.{Flatten.membersOf, Answer.answer, Answer.answered}
+use Rattle.model.specs.{Fault.Answer, Fault.Answers, Fault.refused, Fault.accepted, declared.fault.ModelFault.ModelFault, Accept.Within}
+use Rattle.model.specs.{Accept.Laws.accepted-within, Syntax.Syntax, Syntax.text, Syntax.writtenNames}
 use Rattle.canonical.specs.declared.write.Written.the-variants.{Length, Refused}
 use Rattle.canonical.specs.declared.fault.WriteFault.the-variants.{Model, LongText}
 use Rattle.judge.specs.Reading.{readingBy}
 use Rattle.judge.specs.declared.reading.Outcome.the-variants.{Read, Refused as IsRefused}
 use Rattle.canonical.specs.declared.write.Written.{Written}
 use Rattle.canonical.specs.{declared.tidy.Tidied.Tidied, Tidy.tidy, Order.order, Order.Kept.order-length}
-use Rattle.canonical.specs.Canonical.{canonicalText, writeFitting, writeBy, writtenOf, bufferWritten}
+use Rattle.canonical.specs.Canonical.{WriteReply, canonicalText, writeFitting, writeBy, writtenOf, bufferWritten}
 use Rattle.canonical.specs.Canonical.Fixed.{canonical-tidy}
-use Rattle.canonical.specs.Writer.{Head.headIn, Place.TreeAt, Keeps.KeepsTree, Keeps.Proper, Keeps.LeastAt, Keeps.signCode, Stack.treesOn, Stack.HeadsFit, Lists.treeAt, Lists.PutReady}
-use Rattle.canonical.specs.Writer.{Length.LengthReady, Length.signedLength, Recursion.TidyReady, Recursion.TidiedAt, Recursion.Stepped.on-top, Recursion.Stepped.mark-kept}
-use Rattle.canonical.specs.Writer.{Stack.stacked, Stack.markIf, Stack.Push.headOf, Stack.Push.push, Stack.Skip.trees-none, Stack.Skip.some-node, Keeps.Laws.withMark}
+use Rattle.canonical.specs.Writer.{Head.headIn, Place.TreeAt, Keeps.KeepsTree, Keeps.Proper, Keeps.LeastAt, Keeps.signCode, Stack.treesOn}
+use Rattle.canonical.specs.Writer.{Stack.HeadsFit, Lists.treeAt, Lists.PutReady}
+use Rattle.canonical.specs.Writer.{Length.LengthReady, Length.signedLength, Recursion.TidyReady, Recursion.TidiedAt, Recursion.Stepped.on-top}
+use Rattle.canonical.specs.Writer.{Recursion.Stepped.mark-kept}
+use Rattle.canonical.specs.Writer.{Stack.stacked, Stack.markIf, Tidied.headOf, Stack.Push.push, Stack.Skip.trees-none, Stack.Skip.some-node}
+use Rattle.canonical.specs.Writer.{Keeps.Laws.withMark}
 
 -- the text of the tree on top
 abbrev pub textAt : Text → List ℕ → ℕ → Text
@@ -30,6 +35,10 @@ proper-signed x (marked m (group s ts)) p h e = absurd (omega (arith, e, h .1))
 
 marked-same : {x : Text} (u : Syntax) {r : Tidied} → KeepsTree x u r → withMark (markIf (r .marked)) u ≡ u
 marked-same (marked m n) {r} k = ap (λ (j : Mark). marked j n) (mark-kept (r .marked) m (k .marked-is))
+
+-- what is answered where it is written into a buffer of k bytes
+abbrev pub treeReply : Text → List ℕ → ℕ → ℕ → WriteReply
+treeReply x stack top k = writeFitting (textAt x stack top) k
 
 -- one tree stands on the stack
 pub record OneTree (x : Text) (stack : List ℕ) (top : ℕ) : Type 0 where
@@ -45,7 +54,8 @@ pub has-room : (y b new : Text) → length y ≤ length b → new ≡ y ++ drop 
     → (Length (length y) ≡ writtenOf (writeFitting y (length b))) × (new ≡ bufferWritten (writeFitting y (length b)) b)
 has-room y b new h e = rw (le-leb (length y) (length b) h) (refl, e)
 
-pub no-room : (y b : Text) → length b < length y → (Refused LongText 0 ≡ writtenOf (writeFitting y (length b))) × (b ≡ bufferWritten (writeFitting y (length b)) b)
+pub no-room : (y b : Text) → length b < length y
+    → (Refused LongText 0 ≡ writtenOf (writeFitting y (length b))) × (b ≡ bufferWritten (writeFitting y (length b)) b)
 no-room y b h = rw (lt-leb (length y) (length b) h) (refl, refl)
 
 pub two-bytes : (b : Text) → 2 ≤ length b → set (set b 0 (code "(")) 1 (code ")") ≡ bytes "()" ++ drop 2 b
@@ -104,7 +114,8 @@ module _ (x : Text) (t : Syntax) (e : answer x ≡ accepted t) where
     pub nil-text : r .sign ≡ 0 → canonicalText t ≡ bytes "()"
     nil-text z =
         ap text (canonical-tidy t)
-        ∙ ⊎-elim (λ i. ap (λ (u : Syntax). text (order u)) i) (λ (p, n). absurd (proper-signed x (tidy t) (r .least) p (sym (k .keeps .sign-is) ∙ z))) (k .keeps .kind-is)
+        ∙ ⊎-elim (λ i. ap (λ (u : Syntax). text (order u)) i) (λ (p, n). absurd (proper-signed x (tidy t) (r .least) p (sym (k .keeps .sign-is) ∙ z)))
+        (k .keeps .kind-is)
 
     -- any other stands on the stack by its head
     module _ (z : r .sign ≡ 0 → ⊥) where

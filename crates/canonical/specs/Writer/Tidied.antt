@@ -20,6 +20,9 @@ remarkedBy m t =
       next = t .next;
     }
 
+abbrev pub headOf : Bool → Tidied → Head
+headOf m t = record { sign = t .sign; marked = m; members = t .members; size = t .size; least = t .least }
+
 -- at another place of the stack and of the text
 abbrev pub placedAt : ℕ → ℕ → Tidied → Tidied
 placedAt top next t =
@@ -85,7 +88,7 @@ abbrev pub joinsBy : ℕ → Tidied → Bool
 joinsBy sign t = eqb (t .sign) sign && not (keeps sign t)
 
 abbrev pub headBy : ℕ → Tidied → Head
-headBy sign t = record { sign = t .sign; marked = keeps sign t; members = t .members; size = t .size; least = t .least }
+headBy sign t = headOf (keeps sign t) t
 
 -- of a choice one member has to hold the empty row, of another group each
 abbrev pub bothBy : ℕ → Bool → Bool → Bool

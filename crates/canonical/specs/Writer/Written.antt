@@ -14,7 +14,8 @@ use Rattle.judge.specs.Packed.{signBy}
 use Rattle.canonical.specs.Order.{order, orderAll, arrange, Kept.order-length, Kept.order-size, Sorted.arrange-order}
 use Rattle.canonical.specs.Writer.{Place.pieceAt, Stack.turned, Stack.markIf, Stack.treeWith, Stack.treesOn, Stack.HeadFits}
 use Rattle.canonical.specs.Writer.Stack.Skip.{each-counts, nodes-with, heads-from, tree-at, fits-at}
-use Rattle.canonical.specs.Writer.Lists.{treeAt, headAt, treesListed, MembersReady, MembersListed, PutReady, TreePut, Laws.nothing-behind, Laws.listed-less}
+use Rattle.canonical.specs.Writer.Lists.{treeAt, headAt, treesListed, MembersReady, MembersListed, PutReady, TreePut, Laws.nothing-behind}
+use Rattle.canonical.specs.Writer.Lists.{Laws.listed-less}
 
 pub put-nothing : (old : Text) (at : ℕ) → at ≤ length old → Put old old at [] at
 put-nothing old at h =

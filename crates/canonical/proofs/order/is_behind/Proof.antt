@@ -6,9 +6,13 @@ use borrow.Author.Needs.{needs}
 use Rattle.canonical.proofs.order.is_behind.Statement.{statement}
 use Rattle.canonical.proofs.order.is_behind.Tie as tie
 
+-- the start, from where both heads are read
+abbrev start : tie.After-struct-known2 → tie.Start
+start c = c .before .before .before .before .before .before .before
+
 is-after-requires : tie.Need-is-after-requires
 is-after-requires c κs =
-    let e = c .before .before .before .before .before .before .before in
+    let e = start c in
     let p = e .pre in
     let x = e .args .text .now in
     let stack = e .args .stack .now in (
@@ -19,7 +23,7 @@ is-after-requires c κs =
 returns : tie.Need-returns
 returns c =
     let f = c .before .before .before in
-    let e = f .before .before .before .before .before in
+    let e = start (c .before) in
     let p = e .pre in
     let x = e .args .text .now in
     let stack = e .args .stack .now in

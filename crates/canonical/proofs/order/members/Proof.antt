@@ -54,7 +54,7 @@ element-copy-out-unpacked-2 : tie.Need-element-copy-out-unpacked-2 Inv-loop μ-l
 element-copy-out-unpacked-2 c = omega (arith, next (c .before .before))
 
 add-m-2 : tie.Need-add-m-2 Inv-loop μ-loop
-add-m-2 c = omega (arith, next (c .before .before .before .before .before), c .before .before .before .before .struct-known2 .given)
+add-m-2 c = let k = c .before .before in omega (arith, next (k .before .before .before), k .before .before .struct-known2 .given)
 
 loop-again : tie.Need-loop-again Inv-loop μ-loop
 loop-again c =

@@ -50,7 +50,8 @@ returns-2 c =
     let f = c .before .before .before in
     let e = f .before .before in
     let h = f .if1 .taken in
-    narrowed-above (narrowed-none refl (e .pre .range .0)) (e .args .end - 1) (omega (arith, h)) (c .before .is-behind .ensures) (omega (arith, h)) (c .if2 .left)
+    narrowed-above (narrowed-none refl (e .pre .range .0)) (e .args .end - 1) (omega (arith, h)) (c .before .is-behind .ensures) (omega (arith, h))
+    (c .if2 .left)
 
 loop-holds : tie.Need-loop-holds Inv-loop μ-loop
 loop-holds c =

@@ -22,7 +22,7 @@ use Rattle.canonical.proofs.tidy.member_by.Reads as member-by-reads
 use Rattle.canonical.proofs.tidy.no_members.Reads as no-members-reads
 use Rattle.canonical.proofs.tidy.sign_by.Reads as sign-by-reads
 use Rattle.canonical.proofs.tidy.with_mark.Reads as with-mark-reads
-use Rattle.canonical.proofs.tidy.with_member.Reads as with-member-reads
+use Rattle.canonical.proofs.tidy.gather.Reads as gather-reads
 
 abbrev μ-tidy : Measures 2 tidy-kinds.ps ℕ
 μ-tidy κs a = length (a .0 .now) - a .1 .1 .0
@@ -47,8 +47,8 @@ claims t = (
   sign-by-reads.Learnt,
   member-by-reads.Asked,
   member-by-reads.Learnt,
-  with-member-reads.Asked,
-  with-member-reads.Learnt,
+  gather-reads.Asked,
+  gather-reads.Learnt,
   closed-reads.Asked,
   closed-reads.Learnt,
 )
@@ -69,6 +69,9 @@ module _ (t : ℕ) where
 
   abbrev head : lts.After-tidy (claims t) (at t) tidy.Post Inv-loop μ-loop → lts.At-loop (claims t) (at t) tidy.Post Inv-loop μ-loop
   head c = c .before .before .before .before
+
+  abbrev past : lts.After-gather (claims t) (at t) tidy.Post Inv-loop μ-loop → lts.After-tidy (claims t) (at t) tidy.Post Inv-loop μ-loop
+  past c = c .before .before .before .before .before
 
   here : (c : lts.Then1 (claims t) (at t) tidy.Post Inv-loop μ-loop)
       → AtomHere (c .before .before .before .args .text .now) (c .before .before .before .args .at)
@@ -93,9 +96,11 @@ module _ (t : ℕ) where
   returns c =
       let s = atom-start c in
       let h = here (c .before .before) in
-      every-tree (λ (u : Syntax). TidiedAt (s .args .text .now) (s .args .stack .now) (s .args .stack .now) (s .args .at) (s .args .top) (c .with-mark .result) u)
+      let x = s .args .text .now in
+      let stack = s .args .stack .now in
+      every-tree (λ (u : Syntax). TidiedAt x stack stack (s .args .at) (s .args .top) (c .with-mark .result) u)
       (h .stands)
-      (subst (λ (y : Tidied). TidiedAt (s .args .text .now) (s .args .stack .now) (s .args .stack .now) (s .args .at) (s .args .top) y (marked (h .mark) (leaf (h .atom))))
+      (subst (λ (y : Tidied). TidiedAt x stack stack (s .args .at) (s .args .top) y (marked (h .mark) (leaf (h .atom))))
       (sym (c .with-mark .ensures ∙ ap (markedBy (s .args .text .now)) (c .before .atom .ensures)))
       (atom-tidied (s .args .stack .now) (s .args .top) (h .stands) (s .pre .1 .heads)))
 
@@ -124,14 +129,14 @@ module _ (t : ℕ) where
       let b = c .before .before in
       omega (arith, next-inside (head b .loop .inv) (member b) (b .tidy .last .1 .0) (b .tidy .result) (tidied b), head b .loop .inv .short)
 
-  with-member-requires : lts.Need-with-member-requires (claims t) (at t) tidy.Post Inv-loop μ-loop
-  with-member-requires c κs =
+  gather-requires : lts.Need-gather-requires (claims t) (at t) tidy.Post Inv-loop μ-loop
+  gather-requires c κs =
       let b = c .before .before .before .before in
       member-fits (head b .loop .inv) (member b) (b .tidy .last .1 .0) (b .tidy .result) (tidied b)
 
   loop-less : lts.Need-loop-less (claims t) (at t) tidy.Post Inv-loop μ-loop
   loop-less c =
-      let b = c .before .before .before .before .before in
+      let b = past c in
       omega (
         arith,
         c .before .before .member-by .ensures,
@@ -141,10 +146,10 @@ module _ (t : ℕ) where
 
   loop-again : lts.Need-loop-again (claims t) (at t) tidy.Post Inv-loop μ-loop
   loop-again c =
-      let b = c .before .before .before .before .before in
-      rw (c .with-member .ensures .0, c .before .before .member-by .ensures, c .before .before .before .sign-by .ensures)
-      (goes-on (head b .loop .inv) (member b) (b .tidy .last .1 .0) (b .tidy .result) (tidied b) (c .with-member .last .1 .0)
-      (rw (c .before .before .before .sign-by .ensures) at (c .with-member .ensures .1)))
+      let b = past c in
+      rw (c .gather .ensures .0, c .before .before .member-by .ensures, c .before .before .before .sign-by .ensures)
+      (goes-on (head b .loop .inv) (member b) (b .tidy .last .1 .0) (b .tidy .result) (tidied b) (c .gather .last .1 .0)
+      (rw (c .before .before .before .sign-by .ensures) at (c .gather .ensures .1)))
 
   add-closed : lts.Need-add-closed (claims t) (at t) tidy.Post Inv-loop μ-loop
   add-closed c = let i = c .before .before .loop .inv in omega (arith, place-inside i, i .short)
@@ -182,7 +187,7 @@ pub +tidy-spec : {M : Type 1} → statement M
     (shared-slice-read-behind t)
     (λ c κs. search needs)
     (member-by-requires t)
-    (with-member-requires t)
+    (gather-requires t)
     (loop-less t)
     (loop-again t)
     (add-closed t)

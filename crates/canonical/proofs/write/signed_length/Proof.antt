@@ -84,7 +84,7 @@ loop-holds : tie.Need-loop-holds Inv-loop μ-loop
 loop-holds c = (omega arith, search needs, omega arith, rw zero-add (words-length _ _ (c .before .pre .heads)))
 
 kept-end-requires : tie.Need-kept-end-requires Inv-loop μ-loop
-kept-end-requires c κs = inside (c .before .before .before .before .before) (head-is (c .before .before))
+kept-end-requires c κs = let k = c .before .before in inside (k .before .before .before) (head-is k)
 
 sub-own : tie.Need-sub-own Inv-loop μ-loop
 sub-own c =

@@ -1,9 +1,11 @@
 -- The tree of the text is tidied; `()` is written as it is, any other tree by its head on the stack.
 use borrow.Author.Needs.{needs}
+use mathlib.Core.Path.{_≡_, ap, _∙_}
 use Prim.Native.Nat.{_≤_, _<_}
 use native.Mathlib.Omega.{arith}
 use lib.ListN.{replicate}
 use Rattle.fields.specs.Limits.{maxNodes}
+use Rattle.canonical.specs.{declared.head.Head.Head, Writer.Head.headIn, Writer.Tidied.headOf}
 use Rattle.canonical.specs.{Tidy.tidy, Writer.Recursion.TidiedAt, Writer.Recursion.Turns.sign-small}
 use Rattle.canonical.specs.Writer.Accepted.{whole-stands, whole-ready, nil-text, head-room, one-tree, tree-text}
 use Rattle.canonical.proofs.write.write_accepted.Statement.{statement}
@@ -18,6 +20,9 @@ known c = let p = start c .pre in c .tidy .ensures (p .0) (whole-stands (start c
 
 abbrev tidied : tie.Else1 → tie.After-tidy
 tidied c = c .before .before
+
+abbrev from-nothing : tie.After-write-nothing → tie.After-tidy
+from-nothing c = c .before .before .before .before
 
 -- there is room for the head
 room : (c : tie.Else1) → (0 < tidied c .tidy .result .top) × (tidied c .tidy .result .top ≤ maxNodes)
@@ -34,27 +39,41 @@ same-length c = search needs
 
 returns : tie.Need-returns
 returns c =
-    let t = c .before .before .before .before .before .before in
+    let t = from-nothing (c .before .before) in
     let s = start t in
-    rw (s .pre .1, nil-text (s .args .text .now) (s .pre .0) (s .pre .1) (known t) (c .before .before .before .before .if1 .taken)) (c .before .before .write-nothing .ensures)
+    rw (s .pre .1, nil-text (s .args .text .now) (s .pre .0) (s .pre .1) (known t) (c .before .before .before .before .if1 .taken))
+    (c .before .before .write-nothing .ensures)
 
 sub-top : tie.Need-sub-top
 sub-top c = omega (arith, room (c .before))
 
 packed-requires : tie.Need-packed-requires
-packed-requires c κs = let t = tidied (c .before) in omega (arith, known t .keeps .sign-is, sign-small (tidy (start t .pre .0)))
+packed-requires c κs =
+    let t = tidied (c .before .before) in
+    omega (arith, ap (λ (d : Head). d .sign) (c .head-of .ensures), known t .keeps .sign-is, sign-small (tidy (start t .pre .0)))
 
 mul-stack : tie.Need-mul-stack
-mul-stack c = omega (arith, room (c .before .before))
+mul-stack c = omega (arith, room (c .before .before .before))
 
 array-write-stack : tie.Need-array-write-stack
-array-write-stack c = omega (arith, room (c .before .before))
+array-write-stack c = omega (arith, room (c .before .before .before))
+
+-- the head stands on the stack
+abbrev headed : tie.After-packed → tie.After-head-of
+headed p = p .before
+
+abbrev other : tie.After-packed → tie.Else1
+other p = headed p .before .before
+
+head-is : (p : tie.After-packed) → headIn (p .packed .result) ≡ headOf (tidied (other p) .tidy .result .marked) (tidied (other p) .tidy .result)
+head-is p = p .packed .ensures ∙ headed p .head-of .ensures
 
 write-tree-requires : tie.Need-write-tree-requires
 write-tree-requires c κs =
-    let l = c .before .before .before .before in
+    let p = c .before .before in
+    let l = other p in
     let s = start (tidied l) in
-    one-tree (s .args .text .now) (s .pre .0) (s .pre .1) (known (tidied l)) (l .if1 .left) (c .before .before .packed .result) (c .before .before .packed .ensures)
+    one-tree (s .args .text .now) (s .pre .0) (s .pre .1) (known (tidied l)) (l .if1 .left) (p .packed .result) (head-is p)
 
 same-length-2 : tie.Need-same-length-2
 same-length-2 c = search needs
@@ -63,9 +82,10 @@ returns-2 : tie.Need-returns-2
 returns-2 c =
     let w = c .before .before in
     let p = w .before .before .before in
-    let l = p .before .before in
+    let l = other p in
     let s = start (tidied l) in
-    rw (s .pre .1, ← tree-text (s .args .text .now) (s .pre .0) (s .pre .1) (known (tidied l)) (l .if1 .left) (p .packed .result) (p .packed .ensures)) (w .write-tree .ensures)
+    rw (s .pre .1, ← tree-text (s .args .text .now) (s .pre .0) (s .pre .1) (known (tidied l)) (l .if1 .left) (p .packed .result) (head-is p))
+    (w .write-tree .ensures)
 
 pub write-accepted-spec : {M : Type 1} → statement M
 write-accepted-spec =
@@ -76,6 +96,7 @@ write-accepted-spec =
     same-length
     returns
     sub-top
+    (λ c κs. search needs)
     packed-requires
     mul-stack
     array-write-stack

@@ -19,7 +19,9 @@ same-length : tie.Need-same-length
 same-length c = search needs
 
 returns-2 : tie.Need-returns-2
-returns-2 c = has-room (bytes "()") (c .before .args .buffer .now) _ (omega (arith, c .if1 .left)) (two-bytes (c .before .args .buffer .now) (omega (arith, c .if1 .left)))
+returns-2 c =
+    let b = c .before .args .buffer .now in
+    has-room (bytes "()") b _ (omega (arith, c .if1 .left)) (two-bytes b (omega (arith, c .if1 .left)))
 
 pub write-nothing-spec : {M : Type 1} → statement M
 write-nothing-spec = tie.close (tie.spec returns slice-write-buffer slice-write-buffer-2 same-length returns-2)

@@ -1,6 +1,7 @@
 -- One member more of a group keeps what is known.
 use mathlib.Core.{Path._≡_, Path.refl, Path.sym, Path.ap, Path._∙_, Path.subst, Logic._⊎_, Logic.inl, Logic.inr, Logic.⊎-elim}
-use mathlib.Core.{Bool.Bool, Bool.true, Bool.false, Bool.cond, Bool.not, Bool._&&_, Bool._||_, Bool.or-true, Bool.or-false, Bool.and-true, Bool.false≢true, List.List, List.[], List._∷_, List._++_, List.map, List.map-append, List.append-nil}
+use mathlib.Core.{Bool.Bool, Bool.true, Bool.false, Bool.cond, Bool.not, Bool._&&_, Bool._||_, Bool.or-true, Bool.or-false, Bool.and-true, Bool.false≢true}
+use mathlib.Core.{List.List, List.[], List._∷_, List._++_, List.map, List.map-append, List.append-nil}
 use Prim.Native.{Nat.ℕ, Nat.suc, Nat._+_, Nat._-_, Nat._≤_, Nat._<_}
 use native.Mathlib.Omega.{arith}
 use lib.{Dec.eqb, ListN.length}
@@ -107,11 +108,12 @@ module _ {x : Text} (s : Sign) {us : Members Spelling} {v : Bool} {g : Gathered}
 
     least-inside : p ≤ length x → more .least ≤ length x
     least-inside e =
-        smaller-inside′ (eqb (g .members) 0) (smallerBy x (g .least) p) (smaller-inside (notAfter (nameFrom x (g .least)) (nameFrom x p)) (g .least) (h .within) e) e
+        first-inside (eqb (g .members) 0) (smallerBy x (g .least) p)
+        (smaller-inside (notAfter (nameFrom x (g .least)) (nameFrom x p)) (g .least) (h .within) e) e
       where
-        smaller-inside′ : (c : Bool) (q : ℕ) → q ≤ length x → p ≤ length x → cond c p q ≤ length x
-        smaller-inside′ true q i j = j
-        smaller-inside′ false q i j = i
+        first-inside : (c : Bool) (q : ℕ) → q ≤ length x → p ≤ length x → cond c p q ≤ length x
+        first-inside true q i j = j
+        first-inside false q i j = i
 
     keeps-more : n ≡ size ws → k ≡ membersWeight 1 1 ws → b ≡ groupNullable ws s → p ≤ length x
         → LeastAt x p (map (λ a. a .name) (membersLeaves ws)) → ((u : Syntax) → us ⧺ ws ≡ u ▹ none → KeepsTree x u last) → KeepsMembers x s (us ⧺ ws) w more
@@ -255,7 +257,7 @@ module _ {x : Text} (s : Sign) {us : Members Spelling} {v : Bool} {g : Gathered}
       (rw (append-nil, stripped-leaves s u) l)
       (λ w i. subst (λ (y : Syntax). KeepsTree x y (remarkedBy (keeps (signByte s) t) t)) (only-one (stripped s u) w i) (stripped-keeps s u k)))
 
-  -- a group that joinsBy
+  -- a group that joins
   merges-in : (u : Syntax) → KeepsTree x u t → Proper x u (t .least) → LeastAt x (t .least) (writtenNames u) → merges s (stripped s u) ≡ true → Added u
   merges-in u k p l e =
       let w = stripped s u in

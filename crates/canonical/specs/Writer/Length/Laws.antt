@@ -11,7 +11,8 @@ use Rattle.model.specs.Syntax.{Spelling, Syntax, text, membersText, moreText, s
 use Rattle.judge.specs.Packed.{signBy}
 use Rattle.canonical.specs.{declared.head.Head.Head, Writer.Head.headIn, Writer.Length.signedText, Writer.Length.signedLength, Writer.Lists.headAt}
 use Rattle.canonical.specs.Writer.{Place.keptEnd, Place.Ends.piece-length}
-use Rattle.canonical.specs.Writer.Stack.{turned, markIf, treeWith, treesOn, HeadFits, HeadsFit, Skip.sum-rest, Skip.sum-turned, Skip.trees-none, Skip.trees-more}
+use Rattle.canonical.specs.Writer.Stack.{turned, markIf, treeWith, treesOn, HeadFits, HeadsFit, Skip.sum-rest, Skip.sum-turned, Skip.trees-none}
+use Rattle.canonical.specs.Writer.Stack.{Skip.trees-more}
 
 -- beside its members, each with one byte behind it: an atom is what is kept of it, a group has the bracket before them
 abbrev pub plainLength : Text → Head → ℕ

@@ -1,4 +1,4 @@
--- The members of a group are treesListed, the last first: each begins behind those that are treesListed.
+-- The members of a group are listed, the last first: each begins behind those that are listed.
 use mathlib.Core.{Path._≡_, Path.refl, Path.sym, Path.ap, Path.subst, Path._∙_, Logic._⊎_, Logic.⊎-elim, List.List, List.[], List._∷_}
 use Prim.Native.{Nat.ℕ, Nat.suc, Nat._+_, Nat._-_, Nat._≤_, Nat._<_, Char.code}
 use native.Mathlib.Omega.{arith}

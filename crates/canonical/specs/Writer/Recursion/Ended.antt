@@ -96,7 +96,8 @@ module _ {x : Text} {old new : List ℕ} {p top place sign : ℕ} {g : Gathered}
   sign-known : sign ≡ signByte (h .group-sign)
   sign-known =
       ⊎-elim
-      (λ (d, z). z ∙ sym (no-sign (h .group-sign) (subst (λ (ts : Members Spelling). SignFits (h .group-sign) (size ts)) (all-done ∙ d) (h .stands .formed .0))))
+      (λ (d, z). z ∙ sym (no-sign (h .group-sign)
+      (subst (λ (ts : Members Spelling). SignFits (h .group-sign) (size ts)) (all-done ∙ d) (h .stands .formed .0))))
       (λ z. z)
       (w .sign-is)
 

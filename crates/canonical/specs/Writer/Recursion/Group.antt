@@ -1,4 +1,4 @@
--- The walk walked-over the members of a group: it begins behind the bracket, goes on by one member, and ends before the other bracket.
+-- The walk over the members of a group: it begins behind the bracket, goes on by one member, and ends before the other bracket.
 use mathlib.Core.{Path._≡_, Path.refl, Path.sym, Path.ap, Path._∙_, Path.subst, Logic._⊎_, Logic.inl, Logic.⊎-elim}
 use mathlib.Core.{Bool.false, List.List, List.[], List._∷_, List._++_, List.append-assoc}
 use Prim.Native.{Nat.ℕ, Nat.suc, Nat._+_, Nat._-_, Nat._≤_, Nat._<_, Char.code}
@@ -118,7 +118,7 @@ sign-stops Sequence r h = (tt, refl, λ z. absurd (omega (arith, z)))
 sign-stops Choice r h = (tt, refl, λ z. absurd (omega (arith, z)))
 sign-stops Interleaving r h = (tt, refl, λ z. absurd (omega (arith, z)))
 
--- PastMember a member u, where the members l are left, at place q.
+-- Behind a member u, where the members l are left, at place q.
 module _ (x : Text) (s : Sign) (behind : Text) where
   abbrev pub AfterMember : Members Spelling → Text
   AfterMember l = moreText l s ++ (code ")" ∷ behind)
@@ -202,7 +202,9 @@ module _ {x : Text} {old new : List ℕ} {p top place sign : ℕ} {g : Gathered}
     u = t .member
 
     pub size-parts : size (h .members) ≡ size (h .walking .done) + suc (size (t .others))
-    size-parts = ap size (h .walking .parts) ∙ size-append (h .walking .done) (h .walking .left) ∙ ap (λ (l : Members Spelling). size (h .walking .done) + size l) (t .left-is)
+    size-parts =
+        ap size (h .walking .parts) ∙ size-append (h .walking .done) (h .walking .left)
+        ∙ ap (λ (l : Members Spelling). size (h .walking .done) + size l) (t .left-is)
 
     pub weight-parts : membersWeight 1 1 (h .members) ≡ membersWeight 1 1 (h .walking .done) + (nodes u + membersWeight 1 1 (t .others))
     weight-parts =

@@ -1,6 +1,7 @@
 -- One member more on the stack.
 use mathlib.Core.{Path._≡_, Path.refl, Path.sym, Path.ap, Path._∙_, Path.subst, Logic._⊎_, Logic.⊎-elim}
-use mathlib.Core.{Bool.Bool, Bool.true, Bool.false, Bool.cond, Bool.not, Bool._||_, Bool.true≢false, Bool.false≢true, List.List, List.[], List._∷_, List._++_, List.map, List.map-append}
+use mathlib.Core.{Bool.Bool, Bool.true, Bool.false, Bool.cond, Bool.not, Bool._||_, Bool.true≢false, Bool.false≢true, List.List, List.[], List._∷_}
+use mathlib.Core.{List._++_, List.map, List.map-append}
 use Prim.Native.{Nat.ℕ, Nat.suc, Nat._+_, Nat._-_, Nat._≤_, Nat._<_}
 use native.Mathlib.Omega.{arith}
 use lib.{Dec.eqb, ListN.length, ListN.drop, ListN.set, ListN.length-set}
@@ -17,7 +18,8 @@ use Rattle.canonical.specs.Tidy.{stripped, gives, someGives, tidy, tidyA
 use Rattle.canonical.specs.Writer.Tidied.{withMemberBy, keeps, StackedBy}
 use Rattle.canonical.specs.Writer.Keeps.{signByte, signCode, Proper, LeastAt, KeepsTree}
 use Rattle.canonical.specs.Writer.Keeps.Laws.{withMark, choice-byte}
-use Rattle.canonical.specs.Writer.Keeps.Member.{stripped-nil, stripped-some, stripped-members, stripped-nodes, signed, joins-merges, merged-nodes, weight-append, kept-marked}
+use Rattle.canonical.specs.Writer.Keeps.Member.{stripped-nil, stripped-some, stripped-members, stripped-nodes, signed, joins-merges, merged-nodes}
+use Rattle.canonical.specs.Writer.Keeps.Member.{weight-append, kept-marked}
 use Rattle.canonical.specs.Writer.Stack.{stacked, markIf, treesOn, HeadsFit}
 use Rattle.canonical.specs.Writer.Stack.Laws.{append-none, stacked-append}
 use Rattle.canonical.specs.Writer.Stack.Push.{push}
@@ -106,7 +108,8 @@ module _ (x : Text) (s : Sign) (us : Members Spelling) (g : Gathered) (t : Tidie
         heads = rw (n, ← q) (h .known);
       }
 
-  joined-stepped : (u : Syntax) → KeepsTree x u t → Proper x u (t .least) → merges s (stripped s u) ≡ true → Beside x us l mid u (g .top) (t .top) → StackedBy mid new (signByte s) t → AfterStep u
+  joined-stepped : (u : Syntax) → KeepsTree x u t → Proper x u (t .least) → merges s (stripped s u) ≡ true
+      → Beside x us l mid u (g .top) (t .top) → StackedBy mid new (signByte s) t → AfterStep u
   joined-stepped u k p e h st =
       let z = signed s u k p in
       let j = joins-merges s u k ∙ e in
@@ -136,7 +139,8 @@ module _ (x : Text) (s : Sign) (us : Members Spelling) (g : Gathered) (t : Tidie
         heads = subst (HeadsFit x) (sym d) (q .1);
       }
 
-  pub stepped : (u : Syntax) → KeepsTree x u t → 0 < t .top → t .top ≤ length mid → Beside x us l mid u (g .top) (t .top) → StackedBy mid new (signByte s) t → AfterStep u
+  pub stepped : (u : Syntax) → KeepsTree x u t → 0 < t .top → t .top ≤ length mid
+      → Beside x us l mid u (g .top) (t .top) → StackedBy mid new (signByte s) t → AfterStep u
   stepped u k i r h st =
       ⊎-elim
       (λ e. nil-stepped u k e h st)

@@ -20,7 +20,8 @@ use Rattle.canonical.specs.Writer.Stack.Laws.{append-none}
 use Rattle.canonical.specs.Writer.Recursion.{TidiedAt, Looping, gatheredOf}
 use Rattle.canonical.specs.Writer.Recursion.Place.{drop-behind}
 use Rattle.canonical.specs.Writer.Recursion.Stepped.{append-assoc, gathered-more, given-more, Stepped, stepped}
-use Rattle.canonical.specs.Writer.Recursion.Group.{Turn, PastMember, behind-member, behindGroup, size-parts, weight-parts, more-signed, last-signed, splits-here, sign-some, tree-begins, member-stands, formed-others}
+use Rattle.canonical.specs.Writer.Recursion.Group.{Turn, PastMember, behind-member, behindGroup, size-parts, weight-parts, more-signed, last-signed}
+use Rattle.canonical.specs.Writer.Recursion.Group.{splits-here, sign-some, tree-begins, member-stands, formed-others}
 
 -- nodes are no fewer than members
 size-weight : (ts : Members Spelling) → size ts ≤ membersWeight 1 1 ts
@@ -49,7 +50,7 @@ sign-small (marked m (group Sequence ts)) = omega arith
 sign-small (marked m (group Choice ts)) = omega arith
 sign-small (marked m (group Interleaving ts)) = omega arith
 
--- one member is several only where it joinsBy a group that has a sign
+-- one member is several only where it joins a group that has a sign
 joined-signed : (x : Text) (s : Sign) (u : Syntax) (p : ℕ) → Proper x u p → merges s (stripped s u) ≡ true → 0 < signByte s
 joined-signed x s (marked m (leaf a)) p h e = absurd (false≢true e)
 joined-signed x s (marked m (group r ts)) p h e = subst (λ (q : Sign). 0 < signByte q) (ap groupSign (merged s (stripped s (marked m (group r ts))) e)) (h .1)

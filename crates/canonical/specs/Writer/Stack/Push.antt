@@ -1,5 +1,6 @@
 -- A tree whose members stand on the stack is put on top of them by its head.
-use mathlib.Core.{Path._≡_, Path.refl, Path.sym, Path.ap, Path.ap₂, Path._∙_, Path.subst, Bool.Bool, Bool.true, Bool.false, Bool.true≢false, Bool.false≢true, List.List, List._∷_, List.[]}
+use mathlib.Core.{Path._≡_, Path.refl, Path.sym, Path.ap, Path.ap₂, Path._∙_, Path.subst, Bool.Bool, Bool.true, Bool.false, Bool.true≢false}
+use mathlib.Core.{Bool.false≢true, List.List, List._∷_, List.[]}
 use Prim.Native.Nat.{ℕ, _≤_, _<_}
 use native.Mathlib.Omega.{arith}
 use lib.{Dec.eqb, ListN.drop}
@@ -13,6 +14,7 @@ use Rattle.model.specs.Syntax.{Spelling, Syntax, nodeText, signText, writtenNam
 use Rattle.judge.specs.Packed.{signBy}
 use Rattle.canonical.specs.{declared.head.Head.Head, declared.tidy.Tidied.Tidied, Order.smallest, Order.smallestName, Writer.Head.headIn}
 use Rattle.canonical.specs.{Tidy.tidyAtom, Writer.Place.atomAt, Writer.Place.pieceAt}
+use Rattle.canonical.specs.Writer.Tidied.{headOf}
 use Rattle.canonical.specs.Writer.Keeps.{signByte, Proper, LeastAt, KeepsTree}
 use Rattle.canonical.specs.Writer.Keeps.Laws.{withMark}
 use Rattle.canonical.specs.Writer.Stack.{stacked, markIf, treeWith, treesOn, HeadFits, HeadsFit}
@@ -40,10 +42,6 @@ sign-bytes Interleaving h = refl
 least-name : (x : Text) (p : ℕ) (l : List Text) → LeastAt x p l → nameFrom x p ≡ smallest l
 least-name x p [] h = absurd h
 least-name x p (n ∷ l) h = h
-
--- what a head holds of a tree, with another mark
-abbrev pub headOf : Bool → Tidied → Head
-headOf b r = record { sign = r .sign; marked = b; members = r .members; size = r .size; least = r .least }
 
 marked-nodes : (b : Bool) (u : Syntax) → nodes (withMark (markIf b) u) ≡ nodes u
 marked-nodes b (marked m n) = refl
@@ -74,13 +72,15 @@ module _ {x : Text} {r : Tidied} (b : Bool) (f l : List Syntax) where
       atom (marked m (leaf a)) k p h = (k .members-is, p .1 ∙ ap (λ (a : Spelling). nodeText (leaf a)) (p .0))
       atom (marked m (group s ts)) k p h = absurd (false≢true (sym (rw (k .sign-is) (group-byte s)) ∙ h))
 
-      group-of : (u : Syntax) → KeepsTree x u r → Proper x u (r .least) → eqb (r .sign) 1 ≡ false → (2 ≤ r .members) × (signText (signBy (r .sign)) ≡ r .sign ∷ [])
+      group-of : (u : Syntax) → KeepsTree x u r → Proper x u (r .least) → eqb (r .sign) 1 ≡ false
+          → (2 ≤ r .members) × (signText (signBy (r .sign)) ≡ r .sign ∷ [])
       group-of (marked m (leaf a)) k p h = absurd (true≢false (sym (eq-eqb (r .sign) 1 (k .sign-is)) ∙ h))
       group-of (marked m (group s ts)) k p h = (omega (arith, k .members-is, p .0), rw (k .sign-is, sign-back s) (sign-bytes s (p .1)))
 
 -- on the stack
 module _ {x : Text} {r : Tidied} (b : Bool) (w : ℕ) (h : headIn w ≡ headOf b r) (l : List ℕ) (f : List Syntax) where
-  pub push : (u : Syntax) → KeepsTree x u r → Proper x u (r .least) → LeastAt x (r .least) (writtenNames u) → treesOn x l ≡ stacked (membersOf u) f → HeadsFit x l
+  pub push : (u : Syntax) → KeepsTree x u r → Proper x u (r .least) → LeastAt x (r .least) (writtenNames u) → treesOn x l ≡ stacked (membersOf u) f
+      → HeadsFit x l
       → (treesOn x (w ∷ l) ≡ withMark (markIf b) u ∷ f) × HeadsFit x (w ∷ l)
   push u k p n e i = (
     trees-more x w l ∙ ap (λ (d : Head). treeWith x d (treesOn x l) ∷ drop (d .members) (treesOn x l)) h

@@ -1,9 +1,9 @@
 -- The tests of `withMemberBy`, in its order.
-use mathlib.Core.Path.{refl}
+use mathlib.Core.Path.{refl, _∙_}
 use native.Mathlib.Omega.{arith}
 use borrow.Author.{Needs.needs, Tests.eq-eqb, Tests.ne-eqb}
-use Rattle.canonical.proofs.tidy.with_member.Statement.{statement}
-use Rattle.canonical.proofs.tidy.with_member.Tie as tie
+use Rattle.canonical.proofs.tidy.gather.Statement.{statement}
+use Rattle.canonical.proofs.tidy.gather.Tie as tie
 
 -- behind the calls, and where the member is known to be no `()`
 abbrev called : tie.After-struct-known6 → tie.After-least-with
@@ -15,24 +15,27 @@ some c = c .before .before .before .before .before
 abbrev entry : tie.After-struct-known6 → tie.Start
 entry c = some (called c) .before .before .before
 
--- where the member joinsBy, and where its head is put on the stack
+-- where the member joins, and where its head is put on the stack
 abbrev joined : tie.After-struct-known8 → tie.Then2
 joined c = c .before .before
 
-abbrev put : tie.After-packed → tie.Else2
-put c = c .before .before
+abbrev headed : tie.After-head-of → tie.Else2
+headed c = c .before .before
+
+abbrev put : tie.After-packed → tie.After-head-of
+put c = c .before
 
 returns : tie.Need-returns
 returns c = rw (eq-eqb _ _ (c .before .if1 .taken)) (c .without .ensures, refl)
 
-add-t15 : tie.Need-add-t15
-add-t15 c = omega (arith, entry (joined c .before) .pre)
+add-t16 : tie.Need-add-t16
+add-t16 c = omega (arith, entry (joined c .before) .pre)
 
-sub-t16 : tie.Need-sub-t16
-sub-t16 c = omega (arith, entry (joined (c .before) .before) .pre)
+sub-t17 : tie.Need-sub-t17
+sub-t17 c = omega (arith, entry (joined (c .before) .before) .pre)
 
-add-t17 : tie.Need-add-t17
-add-t17 c = omega (arith, entry (joined (c .before .before) .before) .pre)
+add-t18 : tie.Need-add-t18
+add-t18 c = omega (arith, entry (joined (c .before .before) .before) .pre)
 
 returns-2 : tie.Need-returns-2
 returns-2 c =
@@ -45,31 +48,32 @@ sub-top : tie.Need-sub-top
 sub-top c = omega (arith, entry (c .before .before) .pre)
 
 packed-requires : tie.Need-packed-requires
-packed-requires c κs = entry (c .before .before) .pre .small
+packed-requires c κs = rw (c .head-of .ensures) (entry (headed c .before) .pre .small)
 
 mul-stack : tie.Need-mul-stack
-mul-stack c = omega (arith, entry (put c .before) .pre)
+mul-stack c = omega (arith, entry (headed (put c) .before) .pre)
 
 element-write-stack : tie.Need-element-write-stack
-element-write-stack c = omega (arith, entry (put c .before) .pre)
+element-write-stack c = omega (arith, entry (headed (put c) .before) .pre)
 
 add-t23 : tie.Need-add-t23
-add-t23 c = omega (arith, entry (put (c .before) .before) .pre)
+add-t23 c = omega (arith, entry (headed (put (c .before)) .before) .pre)
 
 add-t24 : tie.Need-add-t24
-add-t24 c = omega (arith, entry (put (c .before .before .before) .before) .pre)
+add-t24 c = omega (arith, entry (headed (put (c .before .before .before)) .before) .pre)
 
 returns-3 : tie.Need-returns-3
 returns-3 c =
     let p = c .before .before .before in
-    let k = called (put p .before) in
-    rw (ne-eqb _ _ (some k .if1 .left), put p .if2 .left) (
+    let h = headed (put p) in
+    let k = called (h .before) in
+    rw (ne-eqb _ _ (some k .if1 .left), h .if2 .left) (
       cc (k .before .before .before .remarked .ensures, k .before .nullable-with .ensures, k .least-with .ensures),
-      (p .packed .result, p .packed .ensures, refl),
+      (p .packed .result, p .packed .ensures ∙ put p .head-of .ensures, refl),
     )
 
-pub with-member-spec : {M : Type 1} → statement M
-with-member-spec =
+pub gather-spec : {M : Type 1} → statement M
+gather-spec =
     tie.close
     (tie.spec
     (λ c κs. search needs)
@@ -77,11 +81,12 @@ with-member-spec =
     (λ c κs. search needs)
     (λ c κs. search needs)
     (λ c κs. search needs)
-    add-t15
-    sub-t16
-    add-t17
+    add-t16
+    sub-t17
+    add-t18
     returns-2
     sub-top
+    (λ c κs. search needs)
     packed-requires
     mul-stack
     element-write-stack
