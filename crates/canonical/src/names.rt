@@ -45,29 +45,21 @@ pub(crate) fn count_end(text: &[u8], at: usize) -> usize
     i
 }
 
-// Does the name at a come after the name at b, in byte order?
-pub(crate) fn is_after(text: &[u8], a: usize, b: usize) -> bool
-    requires { ⌜ (a ≤ length (now text)) × (b ≤ length (now text)) ⌝ }
+// Does the name from a to `end` come after the name at b, in byte order?
+pub(crate) fn is_after(text: &[u8], a: usize, end: usize, b: usize) -> bool
+    requires { ⌜ (a ≤ length (now text)) × (end ≡ behindName (now text) a) × (b ≤ length (now text)) ⌝ }
     ensures { λ r. ⌜ r ≡ not (notAfter (nameFrom (now (text .entry)) a) (nameFrom (now (text .entry)) b)) ⌝ }
 {
     let mut i: usize = 0;
-    while i < text.len() - a {
-        let c = text[a + i];
-        if is_inner(c) {} else {
-            return false;
-        }
+    while i < end - a {
         if i < text.len() - b {} else {
             return true;
         }
+        let c = text[a + i];
         let d = text[b + i];
-        if is_inner(d) {} else {
-            return true;
-        }
-        if c < d {
-            return false;
-        }
-        if d < c {
-            return true;
+        if c != d {
+            let inner = is_inner(d);
+            return (d < c) | !inner;
         }
         i += 1;
     }

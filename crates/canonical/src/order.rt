@@ -4,16 +4,17 @@ ghost use mathlib.Core.Path.{_≡_};
 ghost use Rattle.canonical.specs.Writer.Lists.{isBehind, TwoMembers, Narrowed, InsertReady, Inserted, MembersReady, MembersListed};
 use crate::head::unpacked;
 use crate::names::is_after;
+use crate::names::name_end;
 use model::rule::MAX_NODES;
 
-// Does the member at m have a smallest name that comes after that of the member at `other`?
-fn is_behind(text: &[u8], stack: &[u64; MAX_NODES], m: usize, other: usize) -> bool
-    requires { ⌜ TwoMembers (now text) (now stack) m other ⌝ }
+// Does the member at m have a smallest name, with its end at `name`, that comes after that of the member at `other`?
+fn is_behind(text: &[u8], stack: &[u64; MAX_NODES], m: usize, name: usize, other: usize) -> bool
+    requires { ⌜ TwoMembers (now text) (now stack) m name other ⌝ }
     ensures { λ r. ⌜ r ≡ isBehind (now (text .entry)) (now (stack .entry)) m other ⌝ }
 {
     let head = unpacked(stack[m]);
     let before = unpacked(stack[other]);
-    is_after(text, head.least as usize, before.least as usize)
+    is_after(text, head.least as usize, name, before.least as usize)
 }
 
 // Where the member at m goes in a list whose names fall: from this place on they are smaller than its own.
@@ -31,9 +32,11 @@ fn place_of(
     if start < end {} else {
         return end;
     }
+    let head = unpacked(stack[m]);
+    let name = name_end(text, head.least as usize);
     // a member that is written in order has the smallest name so far
     let last = list[end - 1];
-    if is_behind(text, stack, m, last as usize) {} else {
+    if is_behind(text, stack, m, name, last as usize) {} else {
         return end;
     }
     let mut low = start;
@@ -41,7 +44,7 @@ fn place_of(
     while low < high {
         let mid = low + (high - low) / 2;
         let other = list[mid];
-        if is_behind(text, stack, m, other as usize) {
+        if is_behind(text, stack, m, name, other as usize) {
             high = mid;
         } else {
             low = mid + 1;

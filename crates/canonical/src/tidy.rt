@@ -178,7 +178,8 @@ fn least_with(text: &[u8], members: u8, least: u16, at: u16) -> u16
     if members == 0 {
         return at;
     }
-    if is_after(text, least as usize, at as usize) {
+    let end = name_end(text, least as usize);
+    if is_after(text, least as usize, end, at as usize) {
         at
     } else {
         least

@@ -9,7 +9,7 @@ use Rattle.fields.specs.{Bytes.Text, Limits.maxNodes, Put.Put}
 use Rattle.model.specs.{Tree.Members, Tree.none, Tree.nodes, Flatten.nil, Syntax.Spelling, Syntax.Syntax, Syntax.text}
 use Rattle.judge.specs.Packed.{signBy}
 use Rattle.canonical.specs.{declared.head.Head.Head, Order.notAfter, Order.smallestName, Order.insert, Order.arrange, Order.order}
-use Rattle.canonical.specs.Writer.{Head.headIn, Stack.turned, Stack.treesOn, Stack.HeadsFit}
+use Rattle.canonical.specs.Writer.{Head.headIn, Place.behindName, Stack.turned, Stack.treesOn, Stack.HeadsFit}
 
 -- the tree whose head stands at p
 abbrev pub treeAt : Text → List ℕ → ℕ → Syntax
@@ -35,13 +35,14 @@ isBehind x stack p q = not (notAfter (smallestName (treeAt x stack p)) (smallest
 abbrev pub Falling : Text → List ℕ → List ℕ → ℕ → ℕ → Type 0
 Falling x stack list start end = (i j : ℕ) → start ≤ i → i ≤ j → j < end → isBehind x stack (getD list j 0) (getD list i 0) ≡ false
 
--- heads stand at both places
-pub record TwoMembers (x : Text) (stack : List ℕ) (p q : ℕ) : Type 0 where
+-- heads stand at both places, and the smallest name of the first ends at e
+pub record TwoMembers (x : Text) (stack : List ℕ) (p e q : ℕ) : Type 0 where
   pub low : ℕ
   pub heads : HeadsFit x (drop low stack)
   pub entries : length stack ≡ maxNodes
   pub first : (low ≤ p) × (p < maxNodes)
   pub second : (low ≤ q) × (q < maxNodes)
+  pub name-end : e ≡ behindName x (headAt stack p .least)
 
 -- the member at m is behind those that are listed from high on, and not behind the one before low
 pub record Narrowed (x : Text) (stack list : List ℕ) (start end m low high : ℕ) : Type 0 where

@@ -17,6 +17,7 @@ is-after-requires c κs =
     let x = e .args .text .now in
     let stack = e .args .stack .now in (
       least-inside x stack (p .first .0) (omega (arith, p .entries, p .first)) (p .heads) (c .before .before .before .before .unpacked .ensures),
+      rw (c .before .before .before .before .unpacked .ensures) (p .name-end),
       least-inside x stack (p .second .0) (omega (arith, p .entries, p .second)) (p .heads) (c .before .before .unpacked2 .ensures),
     )
 

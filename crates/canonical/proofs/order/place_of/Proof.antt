@@ -1,22 +1,37 @@
 -- Each turn leaves half of the places.
-use mathlib.Core.Path.{_≡_, refl, subst}
+use mathlib.Core.Path.{_≡_, refl, ap, _∙_, subst}
 use Prim.Native.Nat.{ℕ, _+_, _-_, _/_, _≤_, _<_}
 use native.Mathlib.Omega.{arith}
 use lib.ListN.{getD}
-use Rattle.canonical.specs.Writer.Lists.{TwoMembers, Narrowed}
+use Rattle.canonical.specs.{declared.head.Head.Head, Writer.Place.behindName, Writer.Stack.Skip.least-inside}
+use Rattle.canonical.specs.Writer.Lists.{headAt, TwoMembers, Narrowed}
 use Rattle.canonical.specs.Writer.Lists.Narrow.{two-members, narrowed-none, narrowed-below, narrowed-above}
 use borrow.Author.Needs.{needs}
 use Rattle.canonical.proofs.order.place_of.Statement.{statement}
 use Rattle.canonical.proofs.order.place_of.Tie as tie
 
 abbrev Inv-loop : tie.InvT-loop
-Inv-loop text stack list start end m last low₀ high₀ low high = Narrowed text stack list start end m low high
+Inv-loop text stack list start end m name last low₀ high₀ low high = Narrowed text stack list start end m low high
 
 abbrev μ-loop : tie.MeasureT-loop
-μ-loop text stack list start end m last low₀ high₀ low high = high - low
+μ-loop text stack list start end m name last low₀ high₀ low high = high - low
+
+-- where the end of the name is known: there are members, and the start
+abbrev some : tie.After-name-end Inv-loop μ-loop → tie.Then1 Inv-loop μ-loop
+some c = c .before .before .before .before
+
+abbrev begin : tie.After-name-end Inv-loop μ-loop → tie.Start Inv-loop μ-loop
+begin c = some c .before .before
+
+abbrev named : tie.At-loop Inv-loop μ-loop → tie.After-name-end Inv-loop μ-loop
+named l = l .before .before .before .before
 
 abbrev entry : tie.At-loop Inv-loop μ-loop → tie.Start Inv-loop μ-loop
-entry l = l .before .before .before .before .before .before
+entry l = begin (named l)
+
+own-end : (c : tie.After-name-end Inv-loop μ-loop)
+    → c .name-end .result ≡ behindName (begin c .args .text .now) (headAt (begin c .args .stack .now) (begin c .args .m) .least)
+own-end c = c .name-end .ensures ∙ ap (λ (h : Head). behindName (begin c .args .text .now) (h .least)) (c .before .before .unpacked .ensures)
 
 abbrev mid : tie.At-loop Inv-loop μ-loop → ℕ
 mid l = l .loop .low + (l .loop .high - l .loop .low) / 2
@@ -32,15 +47,25 @@ returns c =
     let r = c .before .before .pre .range in
     narrowed-none (omega (arith, r, c .if1 .left)) (r .0)
 
+name-end-requires : tie.Need-name-end-requires Inv-loop μ-loop
+name-end-requires c κs =
+    let u = c .before in
+    let s = u .before .before .before .before in
+    let p = s .pre in
+    least-inside (s .args .text .now) (s .args .stack .now) (p .place .0) (omega (arith, p .entries, p .place)) (p .heads) (u .unpacked .ensures)
+
 element-copy-out-last : tie.Need-element-copy-out-last Inv-loop μ-loop
-element-copy-out-last c = omega (arith, c .before .before .pre .range)
+element-copy-out-last c = omega (arith, begin c .pre .range)
 
 module _ (c : tie.After-last Inv-loop μ-loop) where
   abbrev first : tie.Start Inv-loop μ-loop
-  first = c .before .before .before
+  first = begin (c .before)
 
-  last-place : TwoMembers (first .args .text .now) (first .args .stack .now) (first .args .m) (getD (first .args .list .now) (first .args .end - 1) 0)
-  last-place = two-members (first .pre) (first .args .end - 1) (omega (arith, c .before .if1 .taken)) (omega (arith, c .before .if1 .taken))
+  last-place : TwoMembers (first .args .text .now) (first .args .stack .now) (first .args .m) (c .before .name-end .result)
+      (getD (first .args .list .now) (first .args .end - 1) 0)
+  last-place =
+      let h = some (c .before) .if1 .taken in
+      two-members (first .pre) (own-end (c .before)) (first .args .end - 1) (omega (arith, h)) (omega (arith, h))
 
 cast-is-behind : tie.Need-cast-is-behind Inv-loop μ-loop
 cast-is-behind c = omega (arith, last-place c .second)
@@ -48,16 +73,16 @@ cast-is-behind c = omega (arith, last-place c .second)
 returns-2 : tie.Need-returns-2 Inv-loop μ-loop
 returns-2 c =
     let f = c .before .before .before in
-    let e = f .before .before in
-    let h = f .if1 .taken in
+    let e = begin f in
+    let h = some f .if1 .taken in
     narrowed-above (narrowed-none refl (e .pre .range .0)) (e .args .end - 1) (omega (arith, h)) (c .before .is-behind .ensures) (omega (arith, h))
     (c .if2 .left)
 
 loop-holds : tie.Need-loop-holds Inv-loop μ-loop
 loop-holds c =
     let f = c .before .before .before in
-    let e = f .before .before in
-    narrowed-below (narrowed-none refl (e .pre .range .0)) (e .args .end - 1) (omega (arith, f .if1 .taken)) (c .before .is-behind .ensures) (e .pre .falling)
+    let e = begin f in
+    narrowed-below (narrowed-none refl (e .pre .range .0)) (e .args .end - 1) (omega (arith, some f .if1 .taken)) (c .before .is-behind .ensures) (e .pre .falling)
     (c .if2 .taken)
 
 add-mid : tie.Need-add-mid Inv-loop μ-loop
@@ -70,8 +95,9 @@ module _ (c : tie.After-other Inv-loop μ-loop) where
   abbrev at : tie.At-loop Inv-loop μ-loop
   at = c .before .before
 
-  mid-place : TwoMembers (entry at .args .text .now) (entry at .args .stack .now) (entry at .args .m) (getD (entry at .args .list .now) (mid at) 0)
-  mid-place = two-members (entry at .pre) (mid at) (mid-listed (c .before) .0) (mid-listed (c .before) .1)
+  mid-place : TwoMembers (entry at .args .text .now) (entry at .args .stack .now) (entry at .args .m) (named at .name-end .result)
+      (getD (entry at .args .list .now) (mid at) 0)
+  mid-place = two-members (entry at .pre) (own-end (named at)) (mid at) (mid-listed (c .before) .0) (mid-listed (c .before) .1)
 
 cast-is-behind-2 : tie.Need-cast-is-behind-2 Inv-loop μ-loop
 cast-is-behind-2 c = omega (arith, mid-place c .second)
@@ -113,6 +139,11 @@ place-of-spec =
     Inv-loop
     μ-loop
     returns
+    (λ c. search needs)
+    (λ c. omega (arith, c .before .before .pre .place))
+    (λ c κs. tt)
+    (λ c. search needs)
+    name-end-requires
     (λ c. search needs)
     element-copy-out-last
     cast-is-behind

@@ -7,7 +7,8 @@ use borrow.Author.Tests.{not-true, not-false}
 use Rattle.fields.specs.{Bytes.Text, Tests.by-test}
 use Rattle.model.specs.{Tree._▹_, Syntax.Syntax}
 use Rattle.canonical.specs.Order.{notAfter, smallestName, insert, Smallest.not-after-itself, Smallest.not-after-trans, Sorted.Rising}
-use Rattle.canonical.specs.Writer.Lists.{treeAt, treesListed, isBehind, Falling, TwoMembers, Narrowed, InsertReady, Inserted}
+use Rattle.canonical.specs.Writer.Lists.{headAt, treeAt, treesListed, isBehind, Falling, TwoMembers, Narrowed, InsertReady, Inserted}
+use Rattle.canonical.specs.Writer.Place.{behindName}
 use Rattle.canonical.specs.Writer.Lists.Laws.{Moved, listed-less, BehindInserted, behind-none, behind-more, stops-there, stops-first, inserted}
 
 module _ (x : Text) (stack : List ℕ) where
@@ -42,8 +43,10 @@ module _ (x : Text) (stack : List ℕ) where
         (λ p. let g : i ≡ n = omega arith in rw g (ap not (not-after-itself (smallestName (treeAt x stack (getD list n 0))))))))
 
 module _ {x : Text} {stack list : List ℕ} {start end m : ℕ} where
-  pub two-members : InsertReady x stack list start end m → (k : ℕ) → start ≤ k → k < end → TwoMembers x stack m (getD list k 0)
-  two-members r k h i = record { low = r .low; heads = r .heads; entries = r .entries; first = r .place; second = r .places k h i }
+  pub two-members : InsertReady x stack list start end m → {e : ℕ} → e ≡ behindName x (headAt stack m .least)
+      → (k : ℕ) → start ≤ k → k < end → TwoMembers x stack m e (getD list k 0)
+  two-members r n k h i =
+      record { low = r .low; heads = r .heads; entries = r .entries; first = r .place; second = r .places k h i; name-end = n }
 
   pub narrowed-none : {low : ℕ} → low ≡ start → start ≤ end → Narrowed x stack list start end m low end
   narrowed-none e h = record { inside = omega (arith, e); behind = λ j i k. absurd (omega arith); stops = λ i. absurd (omega (arith, e)) }

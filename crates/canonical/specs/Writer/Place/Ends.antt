@@ -1,9 +1,9 @@
 -- Where names, counts and atoms end: a byte more, for the loops that run over them, and bounds.
-use mathlib.Core.{Path._≡_, Path.ap, Path._∙_, List.[], List._∷_}
-use mathlib.Core.Bool.{true, false, cond, not, _&&_, _||_, and-false}
+use mathlib.Core.{Path._≡_, Path.refl, Path.ap, Path._∙_, Logic.by-cases, List.[], List._∷_}
+use mathlib.Core.Bool.{true, false, cond, not, _&&_, _||_, and-false, or-false, or-true}
 use Prim.Native.Nat.{ℕ, _+_, _-_, _≤_, _<_}
 use Prim.Native.Char.{code}
-use native.Mathlib.{Omega.arith, Numerals.add-one}
+use native.Mathlib.{Omega.arith, Decide.decLt, Numerals.add-one}
 use lib.Dec.{eqb, leb, ltb}
 use lib.ListN.{length, take, drop, getD, set, length-take, length-drop, length-set, drop-of-length-le, List·getD-eq-default}
 use lib.Seq.{drop-cons}
@@ -24,6 +24,25 @@ module _ (x : Text) (i : ℕ) where
 
   pub name-out : length x ≤ i → behindName x i ≡ i
   name-out h = omega (arith, ap length (front-out isInner x i h))
+
+-- a name goes on at p
+pub record Inner (x : Text) (p : ℕ) : Type 0 where
+  pub inside : p < length x
+  pub inner : isInner (getD x p 0) ≡ true
+
+module _ (x : Text) (p : ℕ) where
+  pub name-goes : p < behindName x p → Inner x p
+  name-goes h =
+      by-cases (decLt p (length x))
+      (λ i. record { inside = i; inner = by-test (isInner (getD x p 0)) (λ e. e) (λ e. absurd (omega (arith, name-stop x p i e))) })
+      (λ n. absurd (omega (arith, name-out x p (omega arith))))
+
+  pub name-over : behindName x p ≤ p → nameFrom x p ≡ []
+  name-over h = none (nameFrom x p) (omega arith)
+    where
+      none : (y : Text) → length y ≤ 0 → y ≡ []
+      none [] i = refl
+      none (c ∷ y) i = absurd (omega arith)
 
 -- a byte more of a count, the last one, or none
 abbrev pub countFrom : Text → ℕ → ℕ
@@ -48,11 +67,6 @@ module _ (x : Text) (i : ℕ) where
   pub count-out : length x ≤ i → i ≡ behindCount x i
   count-out h = rw (List·getD-eq-default x 0 {n = i} h)
 
--- a name goes on at p
-pub record Inner (x : Text) (p : ℕ) : Type 0 where
-  pub inside : p < length x
-  pub inner : isInner (getD x p 0) ≡ true
-
 -- two names, byte by byte
 module _ (x : Text) (p q : ℕ) where
   pub after-over : nameFrom x p ≡ [] → false ≡ not (notAfter (nameFrom x p) (nameFrom x q))
@@ -67,15 +81,22 @@ module _ (x : Text) (p q : ℕ) where
           ≡ ltb (getD x p 0) (getD x q 0) || (eqb (getD x p 0) (getD x q 0) && notAfter (nameFrom x (p + 1)) (nameFrom x (q + 1)))
       both-go = rw (front-step isInner x p (h .inside) (h .inner), front-step isInner x q (k .inside) (k .inner))
 
-      pub after-less : getD x p 0 < getD x q 0 → false ≡ not (notAfter (nameFrom x p) (nameFrom x q))
-      after-less l = rw (both-go, lt-ltb (getD x p 0) (getD x q 0) l)
+      pub after-same : getD x p 0 ≡ getD x q 0 → notAfter (nameFrom x p) (nameFrom x q) ≡ notAfter (nameFrom x (p + 1)) (nameFrom x (q + 1))
+      after-same e = rw (both-go, le-ltb (getD x p 0) (getD x q 0) (omega arith), eq-eqb (getD x p 0) (getD x q 0) e)
 
-      pub after-more : getD x q 0 < getD x p 0 → true ≡ not (notAfter (nameFrom x p) (nameFrom x q))
-      after-more l = rw (both-go, le-ltb (getD x p 0) (getD x q 0) (omega arith), ne-eqb (getD x p 0) (getD x q 0) (λ e. omega arith))
+      after-other : (getD x p 0 ≡ getD x q 0 → ⊥) → ltb (getD x q 0) (getD x p 0) ≡ not (notAfter (nameFrom x p) (nameFrom x q))
+      after-other n =
+          by-test (ltb (getD x q 0) (getD x p 0))
+          (λ e. rw (both-go, e, le-ltb (getD x p 0) (getD x q 0) (omega (arith, ltb-true (getD x q 0) (getD x p 0) e)), ne-eqb (getD x p 0) (getD x q 0) n))
+          (λ e. rw (both-go, e, lt-ltb (getD x p 0) (getD x q 0) (omega (arith, ltb-false (getD x q 0) (getD x p 0) e, n))))
 
-      pub after-same : getD x p 0 ≤ getD x q 0 → getD x q 0 ≤ getD x p 0
-          → notAfter (nameFrom x p) (nameFrom x q) ≡ notAfter (nameFrom x (p + 1)) (nameFrom x (q + 1))
-      after-same l m = rw (both-go, le-ltb (getD x p 0) (getD x q 0) m, eq-eqb (getD x p 0) (getD x q 0) (omega arith))
+    -- the first name goes on with another byte than the text at q
+    pub after-differs : q < length x → (getD x p 0 ≡ getD x q 0 → ⊥)
+        → ltb (getD x q 0) (getD x p 0) || not (isInner (getD x q 0)) ≡ not (notAfter (nameFrom x p) (nameFrom x q))
+    after-differs i n =
+        by-test (isInner (getD x q 0))
+        (λ e. rw (e, or-false) (after-other (record { inside = i; inner = e }) n))
+        (λ e. rw (e, or-true) (after-longer (front-stop isInner x q i e)))
 
 -- all ends are inside
 up-short : (b : ℕ) (y : Text) → length (upTo b y) ≤ length y
