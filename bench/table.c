@@ -26,7 +26,7 @@ static const struct table OF_ROWS[] = {
 
 static const struct table OF_MODELS[] = {
     {"desk ns", "twin ns", 0, 0, 0},
-    {"desk ns", "read ns", 0, 0, 0},
+    {"desk ns", "read ns", 10, 0, 0},
 };
 
 /* What one program measures. */

@@ -6,13 +6,14 @@ pub mod Fixed
 pub mod Depth
 pub mod Accepted
 pub mod Reply
-use mathlib.Core.{Path._≡_, Bool.cond, List.List, List._++_, List.map}
+use mathlib.Core.{Path._≡_, Bool.cond, List.List, List._++_}
 use Prim.Native.Nat.{ℕ, _≤_, _<_}
 use lib.{Dec.leb, ListN.length, ListN.drop}
 use Rattle.fields.specs.Bytes.{Text}
 use Rattle.model.specs.{Answer.answer, Types.Holds, Model.modelOf, Model.typeOf, Flatten.flatten}
 use Rattle.model.specs.Fault.{Answer, Answers, refused, accepted, modelNumber}
-use Rattle.model.specs.Syntax.{Syntax, text, writtenNames, numberIn}
+use Rattle.model.specs.Syntax.{Syntax, text, writtenNames}
+use Rattle.judge.specs.Named.{rowOf}
 use Rattle.canonical.specs.{declared.fault.WriteFault.WriteFault, declared.write.Written.Written, Tidy.tidy, Order.order}
 use Rattle.canonical.specs.declared.fault.WriteFault.the-variants.{Model, LongText}
 use Rattle.canonical.specs.declared.write.Written.the-variants.{Length, Refused}
@@ -24,11 +25,11 @@ canonical t = order (tidy (flatten t))
 abbrev pub canonicalText : Syntax → Text
 canonicalText t = text (canonical t)
 
--- a row of names as written is held
+-- a row of names as written is held, as the judge numbers it
 abbrev pub HoldsNames : Syntax → List Text → Type 0
-HoldsNames t w = Holds (typeOf (modelOf t)) (map (numberIn (writtenNames t)) w)
+HoldsNames t w = Holds (typeOf (modelOf t)) (rowOf (writtenNames t) w)
 
--- document 01's numbers, and document 02's 51
+-- the numbers of documents 01 and 02
 abbrev pub writeNumber : WriteFault → ℕ
 writeNumber (Model f) = modelNumber f
 writeNumber LongText = 51

@@ -1,6 +1,5 @@
--- Counts and marks in one way, and the flattening that goes on by them: document 02, W4, but for the order of members. The pieces are those of
--- `Flatten`.
-pub mod Meaning
+-- Counts and marks in one form, and flattening with them: document 02, W4, but for the order of members. Built from the pieces of `Flatten`.
+pub mod Append
 pub mod Nullable
 pub mod Rows
 pub mod Flattened
@@ -8,12 +7,12 @@ pub mod Form
 pub mod Flat
 pub mod Leaves
 pub mod Formed
-use mathlib.Core.{Bool.Bool, Bool.true, Bool.false, Bool.cond, Bool.not, Bool._&&_, Bool._||_, List.List, List.[], List._∷_, List.map}
+use mathlib.Core.{Bool.Bool, Bool.true, Bool.false, Bool.cond, Bool._&&_, Bool._||_, List.List, List.[], List._∷_, List.map}
 use lib.Dec.{eqb, leb}
 use Rattle.fields.specs.Bytes.{Text, bytes, value}
 use Rattle.model.specs.{declared.rule.Sign.Sign, declared.rule.Mark.Mark}
 use Rattle.model.specs.declared.rule.Mark.the-variants.{Plain, Optional}
-use Rattle.model.specs.Tree.{Node, leaf, group, marked, Members, none, _▹_, isPlain}
+use Rattle.model.specs.Tree.{Node, leaf, group, marked, Members, none, _▹_}
 use Rattle.model.specs.Syntax.{Count, unwritten, between, onward, Spelling, Syntax}
 use Rattle.model.specs.Flatten.{isChoice, isNil, gathered, grouped, droppedMark}
 
@@ -35,6 +34,11 @@ tidyCount (onward m) = onward (raised m)
 abbrev pub tidyAtom : Spelling → Spelling
 tidyAtom a = record { name = a .name; count = tidyCount (a .count) }
 
+-- the mark is `?`
+abbrev pub isOptional : Mark → Bool
+isOptional Plain = false
+isOptional Optional = true
+
 -- the empty row is held
 abbrev mutual
   pub nodeNullable : Node Spelling → Bool
@@ -46,7 +50,7 @@ abbrev mutual
   groupNullable (t ▹ ts) s = cond (isChoice s) (treeNullable t || someNullable ts) (treeNullable t && allNullable ts)
 
   pub treeNullable : Syntax → Bool
-  treeNullable (marked m n) = not (isPlain m) || nodeNullable n
+  treeNullable (marked m n) = isOptional m || nodeNullable n
 
   pub allNullable : Members Spelling → Bool
   allNullable none = true
@@ -63,11 +67,11 @@ marking Optional (marked m n) = marked (cond (nodeNullable n) Plain Optional) n
 
 -- in a choice, a member's `?` is moved to the choice
 abbrev pub stripped : Sign → Syntax → Syntax
-stripped s (marked m n) = marked (cond (isChoice s) Plain m) n
+stripped s (marked m n) = marked (cond (isChoice s && isOptional m) Plain m) n
 
--- a member that is `()`, or has a `?`
+-- a member that leaves its choice a `?`: it is `()`, or has one
 abbrev pub gives : Syntax → Bool
-gives (marked m n) = isNil (marked m n) || not (isPlain m)
+gives (marked m n) = isNil (marked m n) || isOptional m
 
 abbrev pub someGives : List Syntax → Bool
 someGives [] = false

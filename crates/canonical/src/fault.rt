@@ -11,7 +11,7 @@ pub enum WriteFault {
     LongText,
 }
 
-// The number of a refusal: document 02's 51, and document 01's of the model text.
+// The number of a refusal in the tables of documents 01 and 02.
 pub fn write_number(fault: WriteFault) -> u32
     ensures { λ r. ⌜ r ≡ writeNumber fault ⌝ }
 {

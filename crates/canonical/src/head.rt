@@ -4,7 +4,12 @@ ghost use mathlib.Core.Path.{_≡_};
 ghost use Prim.Native.Nat.{_<_};
 ghost use Rattle.canonical.specs.Writer.Head.{headIn, lowByte};
 
-// `sign` is the byte of a group's sign, or 1 for an atom; `size` is the number of nodes; the smallest name begins at `least`.
+// What stands for the sign: of an atom, and of `()` or a group of which no sign is known yet.
+pub(crate) const ATOM: u8 = 1;
+
+pub(crate) const NO_SIGN: u8 = 0;
+
+// `sign` is the byte of a group's sign, or ATOM; `size` is the number of nodes; the smallest name begins at `least`.
 pub(crate) struct Head {
     pub(crate) sign: u8,
     pub(crate) marked: bool,

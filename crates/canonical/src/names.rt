@@ -58,6 +58,7 @@ pub(crate) fn is_after(text: &[u8], a: usize, end: usize, b: usize) -> bool
         let c = text[a + i];
         let d = text[b + i];
         if c != d {
+            // the name at b may have ended
             let inner = is_inner(d);
             return (d < c) | !inner;
         }

@@ -3,20 +3,23 @@
 ghost use mathlib.Core.Path.{_≡_};
 ghost use Prim.Native.Nat.{_+_, _≤_, _<_};
 ghost use lib.ListN.{length};
+ghost use Rattle.fields.specs.Limits.{maxNodes};
 ghost use Rattle.model.specs.Syntax.{Spelling};
 ghost use Rattle.canonical.specs.Writer.Place.{AtomAt};
 ghost use Rattle.canonical.specs.Writer.Tidied.{remarkedBy, headOf, placedAt, optionalBy, zeroBetween, atomBy, nothingBy, noMembers, withoutBy};
 ghost use Rattle.canonical.specs.Writer.Tidied.{leastBy, nullableBy};
 ghost use Rattle.canonical.specs.Writer.Tidied.{FitsOn, withMemberBy, StackedBy, groupedBy, groupClosedBy, markedBy, signAfter, memberAfter};
 ghost use Rattle.canonical.specs.Writer.Recursion.{TidyReady, Tidies};
+use crate::head::ATOM;
 use crate::head::Head;
+use crate::head::NO_SIGN;
 use crate::head::packed;
 use crate::names::count_end;
 use crate::names::is_after;
 use crate::names::name_end;
 use model::rule::MAX_NODES;
 
-// A tidied tree: what a head holds of it, with 0 for the sign of `()`; whether it holds the empty row without its mark; from where on the stack holds its
+// A tidied tree: what a head holds of it, with NO_SIGN for `()`; whether it holds the empty row without its mark; from where on the stack holds its
 // members, the last first; and where the text goes on behind it.
 pub(crate) struct Tidied {
     pub(crate) sign: u8,
@@ -113,7 +116,7 @@ fn atom(text: &[u8], at: usize, top: usize) -> Tidied
     let end = count_end(text, name);
     let zero = is_zero(text, name, end);
     Tidied {
-        sign: 1,
+        sign: ATOM,
         marked: zero,
         nullable: false,
         members: 0,
@@ -129,7 +132,7 @@ fn nothing(top: usize, next: usize) -> Tidied
     ensures { λ r. ⌜ r ≡ nothingBy top next ⌝ }
 {
     Tidied {
-        sign: 0,
+        sign: NO_SIGN,
         marked: false,
         nullable: true,
         members: 0,
@@ -206,7 +209,7 @@ fn gather(text: &[u8], stack: &mut [u64; MAX_NODES], g: Gathered, sign: u8, t: T
     ensures { λ r. ⌜ r ≡ withMemberBy (now (text .entry)) g sign t ⌝ }
     ensures { λ r. ⌜ StackedBy (now (stack .entry)) (now (stack .exit)) sign t ⌝ }
 {
-    if t.sign == 0 {
+    if t.sign == NO_SIGN {
         return without(g);
     }
     let marked = t.marked & (sign != b'|');
@@ -241,7 +244,7 @@ fn gather(text: &[u8], stack: &mut [u64; MAX_NODES], g: Gathered, sign: u8, t: T
 
 // A group of no members is `()`, and a group of one dissolves.
 fn grouped(g: Gathered, sign: u8, next: usize) -> Tidied
-    requires { ⌜ (g .top < 1000) × (g .size < 255) ⌝ }
+    requires { ⌜ (g .top ≤ maxNodes) × (g .size ≤ maxNodes) ⌝ }
     ensures { λ r. ⌜ r ≡ groupedBy g sign next ⌝ }
 {
     if g.members == 0 {
@@ -265,7 +268,7 @@ fn grouped(g: Gathered, sign: u8, next: usize) -> Tidied
 
 // A choice takes the `?` of its members, and one for a `()` that was dropped.
 fn closed(g: Gathered, sign: u8, next: usize) -> Tidied
-    requires { ⌜ (g .top < 1000) × (g .size < 255) ⌝ }
+    requires { ⌜ (g .top ≤ maxNodes) × (g .size ≤ maxNodes) ⌝ }
     ensures { λ r. ⌜ r ≡ groupClosedBy g sign next ⌝ }
 {
     let t = grouped(g, sign, next);
@@ -315,7 +318,7 @@ pub(crate) fn tidy(text: &[u8], stack: &mut [u64; MAX_NODES], at: usize, top: us
         return with_mark(text, a);
     }
     let mut g = no_members(top);
-    let mut sign: u8 = 0;
+    let mut sign: u8 = NO_SIGN;
     let mut p = at + 1;
     while text[p] != b')' {
         let t = tidy(text, stack, p, g.top);

@@ -12,8 +12,11 @@ ghost use Rattle.canonical.specs.Writer.{Stack.markIf, Stack.treesOn, Le
 use crate::atom::kept_end;
 use crate::atom::put_atom;
 use crate::fault::WriteFault;
+use crate::head::ATOM;
+use crate::head::NO_SIGN;
 use crate::head::packed;
 use crate::head::unpacked;
+use crate::names::name_end;
 use crate::order::members;
 use crate::tidy::head_of;
 use crate::tidy::tidy;
@@ -21,6 +24,7 @@ use judge::reading::Outcome;
 use judge::reading::read_model;
 use model::rule::MAX_NODES;
 
+// The length of the text that was written, or why there is none, and the place.
 pub enum Written {
     Length(usize),
     Refused(WriteFault, usize),
@@ -36,9 +40,10 @@ fn signed_length(text: &[u8], stack: &[u64; MAX_NODES], top: usize) -> usize
     while i < MAX_NODES {
         let head = unpacked(stack[i]);
         let mut own: usize = 1;
-        if head.sign == 1 {
+        if head.sign == ATOM {
             let at = head.least as usize;
-            own = kept_end(text, at) - at;
+            let name = name_end(text, at);
+            own = kept_end(text, at, name) - at;
         }
         if head.marked {
             own += 1;
@@ -75,7 +80,7 @@ fn put_tree(
         (now (buffer .exit)) at start to r ⌝ }
 {
     let head = unpacked(stack[at]);
-    if head.sign == 1 {
+    if head.sign == ATOM {
         let end = put_atom(text, buffer, head.least as usize, to);
         return put_mark(buffer, end, head.marked);
     }
@@ -131,7 +136,7 @@ fn write_accepted(text: &[u8], buffer: &mut [u8]) -> Written
 {
     let mut stack = [0u64; MAX_NODES];
     let t = tidy(text, &mut stack, 0, MAX_NODES);
-    if t.sign == 0 {
+    if t.sign == NO_SIGN {
         return write_nothing(buffer);
     }
     let top = t.top - 1;

@@ -6,7 +6,7 @@ use fields::limits::MAX_FILE;
 // The number of a file that cannot be opened or read to its end.
 pub const NO_FILE: u32 = 60;
 
-// `whole` is false where the file could not be read to its end.
+// `whole`: read to its end, or longer than MAX_FILE.
 pub struct FileRead {
     pub whole: bool,
     pub length: usize,
@@ -24,7 +24,7 @@ fn is_whole(fd: i32, n: usize) -> bool {
     MAX_FILE < n || at_end(fd)
 }
 
-// Reads a file to the start of the buffer.
+// Reads a file into the start of the buffer.
 pub fn read_file(name: &[u8], buffer: &mut [u8]) -> FileRead
     ensures { λ r. ⌜ Counts (r .length) (now (buffer .exit)) ⌝ }
 {

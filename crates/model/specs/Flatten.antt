@@ -1,4 +1,5 @@
 -- Flattening a tree, from the inside out, and its depth: document 02, W3. Atoms may be of any kind.
+pub mod Append
 pub mod Merges
 pub mod Solid
 pub mod Depth

@@ -16,8 +16,8 @@ use sheet::sheet::SheetFault;
 use sheet::sheet::SheetOutcome;
 use sheet::sheet::read_sheet;
 
-// How long the tidied sheet is that was written; or what is wrong with the sheet, and on which line; or that the tidied sheet is longer than the buffer
-// (`tidiedNumber` in specs/Tidying.antt).
+// The length of the tidied sheet; or what is wrong with the sheet, and on which line; or that the tidied sheet is longer than the buffer (`tidiedNumber`
+// in specs/Tidying.antt).
 pub enum SheetTidied {
     Written(usize),
     Refused(SheetFault, usize),

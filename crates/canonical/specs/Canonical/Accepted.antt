@@ -1,10 +1,10 @@
 -- The canonical text of an accepted model is accepted, and spells the canonical tree.
-use mathlib.Core.{Path._≡_, Path.refl, Path.sym, Path.ap, Path._∙_, Path.subst, Logic.⊎-elim, Logic.by-cases}
+use mathlib.Core.{Path._≡_, Path.refl, Path.sym, Path.ap, Path._∙_, Path.subst, Logic._↔_, Logic.⊎-elim, Logic.by-cases}
 use mathlib.Core.Bool.{false, _&&_, _||_}
 use mathlib.Core.List.{List, [], _∷_, List·Memᴰ}
-use Prim.Native.Nat.{ℕ, zero, suc, _+_, _*_, _≤_, _<_}
+use Prim.Native.Nat.{ℕ, zero, suc, _+_, _*_, _≤_}
 use native.Mathlib.{Decide.decLe, Omega.arith}
-use lib.{Dec.T, Dec.eqb, Dec.leb, Dec.ltb, ListN.length, ListN.getD}
+use lib.{Dec.T, Dec.eqb, Dec.leb, Dec.ltb, ListN.length}
 use borrow.Author.Tests.{eqb-false, le-ltb}
 use Rattle.fields.specs.{Bytes.Text, Bytes.isNumeral, Bytes.value, Bytes.sameText, Bytes.Laws.same-text, Limits.maxName, Limits.maxCount}
 use Rattle.fields.specs.{Limits.maxNesting, Limits.maxNodes, Tests.by-test, Tests.neither}
@@ -12,8 +12,9 @@ use Rattle.model.specs.declared.rule.{Sign.Sign, Mark.the-variants.Plain}
 use Rattle.model.specs.Tree.{Node, leaf, group, marked, Members, none, _▹_, size, nodeWeight, membersWeight, atoms, nodes, nesting, Formed}
 use Rattle.model.specs.Tree.Leaves.{formed-each, each-formed}
 use Rattle.model.specs.Syntax.{Count, unwritten, between, onward, Spelling, Syntax, CountFormed, SpellingFormed, writtenNames}
-use Rattle.model.specs.{Fault.wrong, Fault.accepted, Fault.Answers, Flatten.flatten, Flatten.Solid.Solid, Flatten.Solid.SolidAll}
+use Rattle.model.specs.{Fault.wrong, Fault.accepted, Fault.Answers, Flatten.nil, Flatten.flatten, Flatten.Solid.Solid, Flatten.Solid.SolidAll}
 use Rattle.model.specs.{Accept.Within, Accept.Laws.member-at, Accept.Laws.member-place, Accept.Laws.within-accepted, Accept.Laws.accepted-within}
+use Rattle.judge.specs.Reading.Table.{Distinct}
 use Rattle.canonical.specs.Tidy.{raised, tidyCount, tidyAtom, tidy, Form.tidy-neat, Flat.neat-solid, Formed.tidy-formed, Leaves.tidy-names}
 use Rattle.canonical.specs.Tidy.Leaves.{tidy-atoms}
 use Rattle.canonical.specs.{Order.Smallest.occurs, Order.Smallest.occurs-here, Order.Smallest.occurs-in, Order.Smallest.SameNames}
@@ -89,14 +90,17 @@ mutual
   all-nodes none s h = omega arith
   all-nodes (t ▹ ts) s h = omega (arith, solid-nodes t (h .0), all-nodes ts s (h .2))
 
--- names that are apart are those of which none occurs twice
-abbrev Apart : List Text → Type 0
-Apart l = (i j : ℕ) → i < j → j < length l → getD l i [] ≡ getD l j [] → ⊥
+pub canonical-nil : (t : Syntax) → (canonical t ≡ nil) ↔ (atoms t ≡ 0)
+canonical-nil t = (
+  λ e. sym (canonical-atoms t) ∙ ap atoms e,
+  λ z. ⊎-elim (λ e. e) (λ h. absurd (omega (arith, solid-nodes (canonical t) (neat-solid (canonical t) h), canonical-atoms t, z))) (canonical-neat t),
+)
 
-apart-once : (l : List Text) → Apart l → (x : Text) → occurs x l ≤ 1
-apart-once [] f x = omega arith
-apart-once (y ∷ l) f x =
-    let k = apart-once l (λ i j h b e. f (suc i) (suc j) (omega arith) (omega arith) e) x in
+-- names are distinct where none occurs twice
+distinct-once : (l : List Text) → Distinct l → (x : Text) → occurs x l ≤ 1
+distinct-once [] f x = omega arith
+distinct-once (y ∷ l) f x =
+    let k = distinct-once l (λ i j h b e. f (suc i) (suc j) (omega arith) (omega arith) e) x in
     by-test (sameText y x)
     (λ e. by-cases (decLe 1 (occurs x l))
     (λ h.
@@ -105,15 +109,15 @@ apart-once (y ∷ l) f x =
     (λ h. rw e (omega arith)))
     (λ e. rw e (omega (arith, k)))
 
-once-apart : (l : List Text) → ((x : Text) → occurs x l ≤ 1) → Apart l
-once-apart [] f i j h b e = omega arith
-once-apart (y ∷ l) f i zero h b e = omega arith
-once-apart (y ∷ l) f zero (suc j) h b e =
+once-distinct : (l : List Text) → ((x : Text) → occurs x l ≤ 1) → Distinct l
+once-distinct [] f i j h b e = omega arith
+once-distinct (y ∷ l) f i zero h b e = omega arith
+once-distinct (y ∷ l) f zero (suc j) h b e =
     let m : List·Memᴰ y l = subst (λ (x : Text). List·Memᴰ x l) (sym e) (member-at [] l j (omega arith)) in
     let k : 1 + occurs y l ≤ 1 = rw (same-text y y .1 refl) at (f y) in
     omega (arith, k, occurs-here y l m)
-once-apart (y ∷ l) f (suc i) (suc j) h b e =
-    once-apart l (λ x. by-test (sameText y x) (λ s. omega (arith, rw s at (f x))) (λ s. omega (arith, rw s at (f x)))) i j (omega arith) (omega arith) e
+once-distinct (y ∷ l) f (suc i) (suc j) h b e =
+    once-distinct l (λ x. by-test (sameText y x) (λ s. omega (arith, rw s at (f x))) (λ s. omega (arith, rw s at (f x)))) i j (omega arith) (omega arith) e
 
 pub canonical-names : (t : Syntax) → SameNames (writtenNames (canonical t)) (writtenNames t)
 canonical-names t x = ap (λ (u : Syntax). occurs x (writtenNames u)) (canonical-tidy t) ∙ order-names (tidy t) x ∙ ap (occurs x) (tidy-names t)
@@ -137,7 +141,7 @@ module _ (t : Syntax) (formed : Formed SpellingFormed t) (within : Within t) whe
       (canonical-neat t)
 
   few-times : (x : Text) → occurs x (writtenNames (canonical t)) ≤ 1
-  few-times x = omega (arith, canonical-names t x, apart-once (writtenNames t) (within .apart) x)
+  few-times x = omega (arith, canonical-names t x, distinct-once (writtenNames t) (within .apart) x)
 
 pub canonical-within : (t : Syntax) → Formed SpellingFormed t → Within t → Within (canonical t)
 canonical-within t h w = record {
@@ -147,7 +151,7 @@ canonical-within t h w = record {
   shallow = omega (arith, canonical-depth t, w .shallow);
   few-atoms = omega (arith, canonical-atoms t, w .few-atoms);
   few-nodes = few-nodes t h w;
-  apart = once-apart (writtenNames (canonical t)) (few-times t h w);
+  apart = once-distinct (writtenNames (canonical t)) (few-times t h w);
 }
 
 pub canonical-accepted : (x : Text) (t : Syntax) → Answers x (accepted t) → Answers (canonicalText t) (accepted (canonical t))

@@ -12,7 +12,7 @@ use Rattle.model.specs.Tree.{Node, leaf, group, marked, Members, none, _▹_, n
 use Rattle.model.specs.Syntax.{Spelling, Syntax}
 use Rattle.model.specs.Types.{Ty, ε, atom, join, Operator, sequence, choice, interleaving, Under, Holds}
 use Rattle.model.specs.Model.{countsOf, operator, countedType, joinedFrom, markedType, nodeTypeWith, typeWith, typesWith}
-use Rattle.canonical.specs.Tidy.{Meaning.meaning}
+use Rattle.canonical.specs.Meaning.{meaning}
 
 module _ (ν μ : Text → ℕ) where
   abbrev Carried : Ty → Ty → Type 0

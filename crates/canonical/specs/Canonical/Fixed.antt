@@ -1,7 +1,7 @@
 -- The canonical tree is flat, and neat, and its own canonical tree: to write again what is written gives the same.
 use mathlib.Core.{Path._≡_, Path.refl, Path.ap, Path._∙_, Logic._⊎_, Logic.inl, Logic.inr, Logic.⊎-elim}
 use Rattle.model.specs.{Syntax.Syntax, Flatten.nil, Flatten.flatten}
-use Rattle.canonical.specs.{Tidy.tidy, Tidy.Form.Neat, Tidy.Form.tidy-neat, Tidy.Form.neat-same, Tidy.Flat.neat-flat, Tidy.Flattened.tidy-flatten}
+use Rattle.canonical.specs.{Tidy.tidy, Neat.Neat, Tidy.Form.tidy-neat, Tidy.Form.neat-same, Tidy.Flat.neat-flat, Tidy.Flattened.tidy-flatten}
 use Rattle.canonical.specs.{Order.order, Order.Sorted.order-twice, Order.Sorted.order-neat, Canonical.canonical}
 
 -- the tree as it stands may be tidied at once

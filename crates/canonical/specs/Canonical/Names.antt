@@ -12,7 +12,7 @@ use Rattle.model.specs.Types.{Ty}
 use Rattle.model.specs.Model.{Counts, countsOf, modelOf, operator, countedType, joinedType, markedType, typeBy, foldNode, fold, foldAll, typeOf}
 use Rattle.model.specs.Model.{nodeTypeWith, typeWith, typesWith}
 use Rattle.judge.specs.{Reading.Table.Distinct, Reading.Laws.number-of-name}
-use Rattle.canonical.specs.{Tidy.Meaning.meaning, Canonical.canonical, Canonical.HoldsNames, Canonical.Rows.canonical-rows}
+use Rattle.canonical.specs.{Meaning.meaning, Canonical.canonical, Canonical.HoldsNames, Canonical.Rows.canonical-rows}
 use Rattle.canonical.specs.{Canonical.Carried.rows-carried}
 
 abbrev nameOf : Spelling → Text

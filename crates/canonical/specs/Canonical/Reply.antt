@@ -43,11 +43,11 @@ pub writes-is : (x : Text) (k : ℕ) (r : WriteReply) → Writes x k r ↔ (r �
 writes-is x k r = (writes-once x k r, λ e. subst (Writes x k) (sym e) (writes-some x k (answer x) (answered x)))
 
 -- the canonical text is accepted as the canonical tree, whose text it is
-pub again : (x y : Text) (k : ℕ) → wrote y ≡ writeReply x k → wrote y ≡ writeReply y k
-again x y k e =
-    let (t, h, i, l) = writes-is x k (wrote y) .1 e in
+pub again : (x y : Text) (k j : ℕ) → wrote y ≡ writeReply x k → length y ≤ j → wrote y ≡ writeReply y j
+again x y k j e l =
+    let (t, h, i, m) = writes-is x k (wrote y) .1 e in
     let a = canonical-accepted x t h in
-    writes-once y k (wrote y) (canonical t, subst (λ (z : Text). Answers z (accepted (canonical t))) (sym i) a, i ∙ ap text (sym (canonical-twice t)), l)
+    writes-once y j (wrote y) (canonical t, subst (λ (z : Text). Answers z (accepted (canonical t))) (sym i) a, i ∙ ap text (sym (canonical-twice t)), l)
 
 -- what is written is no longer than a model text may be
 pub written-short : (x y : Text) (k : ℕ) → wrote y ≡ writeReply x k → length y ≤ maxText

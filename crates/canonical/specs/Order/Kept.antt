@@ -1,7 +1,7 @@
 -- What is the same in whichever order the members stand: nodes, brackets, the depth, the names, the length of the text, the empty row, and what holds of
 -- each atom.
-use mathlib.Core.{Path._≡_, Path.refl, Path.sym, Path.ap, Path.ap₂, Path._∙_, Path.fun-ext}
-use mathlib.Core.Bool.{Bool, true, false, cond, not, _&&_, _||_}
+use mathlib.Core.{Path._≡_, Path.refl, Path.sym, Path.ap, Path.ap₂, Path._∙_}
+use mathlib.Core.Bool.{Bool, true, false, cond, _&&_, _||_}
 use mathlib.Core.List.{List, [], _∷_, _++_, map}
 use Prim.Native.Nat.{ℕ, zero, suc, _+_, max}
 use native.Mathlib.Omega.{arith}
@@ -9,11 +9,11 @@ use lib.ListN.{length, length-append}
 use Rattle.fields.specs.{Bytes.Text, Bytes.bytes, Bytes.sameText, Tests.by-test}
 use Rattle.model.specs.{declared.rule.Sign.Sign, declared.rule.Mark.Mark}
 use Rattle.model.specs.declared.rule.Sign.the-variants.{None, Sequence, Choice, Interleaving}
-use Rattle.model.specs.Tree.{Node, leaf, group, marked, Members, none, _▹_, size, isPlain, nodeLeaves, leaves, membersLeaves, nodeWeight, weight, membersWeight}
-use Rattle.model.specs.Tree.{nodeNesting, nesting, membersNesting, highest, NodeFormed, Formed, MembersFormed}
+use Rattle.model.specs.Tree.{Node, leaf, group, marked, Members, none, _▹_, size, nodeLeaves, leaves, membersLeaves, nodeWeight, weight, membersWeight}
+use Rattle.model.specs.Tree.{nodeNesting, nesting, membersNesting, NodeFormed, Formed, MembersFormed}
 use Rattle.model.specs.Syntax.{Spelling, Syntax, signText, markText, nodeText, text, membersText, moreText, writtenNames}
-use Rattle.model.specs.Flatten.{isChoice, nodeAround, groupsAround, membersAround, Depth.highest-append}
-use Rattle.canonical.specs.Tidy.{nodeNullable, groupNullable, treeNullable, allNullable, someNullable}
+use Rattle.model.specs.Flatten.{isChoice}
+use Rattle.canonical.specs.Tidy.{isOptional, nodeNullable, groupNullable, treeNullable, allNullable, someNullable}
 use Rattle.canonical.specs.Order.{notAfter, smallestName, insert, sort, arrange, orderNode, order, orderAll, Smallest.occurs}
 use Rattle.canonical.specs.Order.Smallest.{SameNames, smallest-same}
 
@@ -71,14 +71,6 @@ order-nesting =
     tree-kept nodeNesting nesting membersNesting (λ s n. suc n) (λ m n. n) max
     (λ s ts. refl) (λ m n. refl) (λ t ts. refl) (λ a b c. omega arith)
 
--- with d groups around the tree
-pub order-deepest : (t : Syntax) (d : ℕ) → highest (groupsAround (order t) d) ≡ highest (groupsAround t d)
-order-deepest t d =
-    ap (λ (f : ℕ → ℕ). f d) (tree-kept {A = ℕ → ℕ} {B = ℕ → ℕ}
-    (λ n k. highest (nodeAround n k)) (λ u k. highest (groupsAround u k)) (λ ts k. highest (membersAround ts k))
-    (λ s f k. f (suc k)) (λ m f. f) (λ f g k. max (f k) (g k)) (λ s ts. refl) (λ m n. refl)
-    (λ u ts. fun-ext (λ k. highest-append (groupsAround u k) (membersAround ts k))) (λ f g h. fun-ext (λ k. omega arith)) t)
-
 -- the atoms, up to their order: a sum over them is the same, whatever each one counts
 abbrev pub total : (Spelling → ℕ) → List Spelling → ℕ
 total f [] = 0
@@ -130,11 +122,11 @@ order-length =
     (λ t ts. refl) (λ a b c. ap {B = ℕ × ℕ} (λ k. (k, suc (suc (c .1)))) (omega arith))
 
 -- The empty row.
-abbrev noMembers : Members Spelling → Bool
-noMembers none = true
-noMembers (t ▹ ts) = false
+abbrev isEmpty : Members Spelling → Bool
+isEmpty none = true
+isEmpty (t ▹ ts) = false
 
-group-nullable : (s : Sign) (ts : Members Spelling) → groupNullable ts s ≡ noMembers ts || cond (isChoice s) (someNullable ts) (allNullable ts)
+group-nullable : (s : Sign) (ts : Members Spelling) → groupNullable ts s ≡ isEmpty ts || cond (isChoice s) (someNullable ts) (allNullable ts)
 group-nullable s none = refl
 group-nullable s (t ▹ ts) = refl
 
@@ -151,8 +143,8 @@ and-swap false false c = refl
 pub order-nullable : (n : Node Spelling) → nodeNullable (orderNode n) ≡ nodeNullable n
 order-nullable =
     node-kept {A = Bool} {B = Bool × Bool × Bool}
-    nodeNullable treeNullable (λ ts. (noMembers ts, someNullable ts, allNullable ts))
-    (λ s b. b .0 || cond (isChoice s) (b .1) (b .2)) (λ m b. not (isPlain m) || b) (λ a b. (false, a || b .1, a && b .2))
+    nodeNullable treeNullable (λ ts. (isEmpty ts, someNullable ts, allNullable ts))
+    (λ s b. b .0 || cond (isChoice s) (b .1) (b .2)) (λ m b. isOptional m || b) (λ a b. (false, a || b .1, a && b .2))
     group-nullable (λ m n. refl) (λ t ts. refl)
     (λ a b c. ap₂ {C = Bool × Bool × Bool} (λ x y. (false, x, y)) (or-swap a b (c .1)) (and-swap a b (c .2)))
 

@@ -12,18 +12,18 @@ use Rattle.model.specs.Flatten.Rows.{Together, from-together, marked-same}
 use Rattle.canonical.specs.Order.{notAfter, smallestName, insert, sort, arrange, orderNode, order, orderAll}
 
 -- all but sequence
-abbrev Free : Operator → Type 0
-Free sequence = ⊥
-Free choice = Unit {0}
-Free interleaving = Unit {0}
+abbrev Turns : Operator → Type 0
+Turns sequence = ⊥
+Turns choice = Unit {0}
+Turns interleaving = Unit {0}
 
-joined-swap : (o : Operator) → Free o → (P Q : Language) → Same (Joined o P Q) (Joined o Q P)
+joined-swap : (o : Operator) → Turns o → (P Q : Language) → Same (Joined o P Q) (Joined o Q P)
 joined-swap sequence f P Q w = absurd f
 joined-swap choice f P Q w = (⊎-elim inr inl, ⊎-elim inr inl)
 joined-swap interleaving f P Q w = (λ (u, v, e, p, q). (v, u, shuffle-swap e, q, p), λ (u, v, e, p, q). (v, u, shuffle-swap e, q, p))
 
 -- a member is taken to the front
-joined-front : (o : Operator) → Free o → (P Q R : Language) → Same (Joined o P (Joined o Q R)) (Joined o Q (Joined o P R))
+joined-front : (o : Operator) → Turns o → (P Q R : Language) → Same (Joined o P (Joined o Q R)) (Joined o Q (Joined o P R))
 joined-front o f P Q R = thus (back (joined-assoc o P Q R)) (thus (joined-same o (joined-swap o f P Q) (itself R)) (joined-assoc o Q P R))
 
 module _ (f : Spelling → Ty) where
@@ -34,14 +34,14 @@ module _ (f : Spelling → Ty) where
   abbrev Rows : Operator → Members Spelling → Language
   Rows o ts = Together o (typesWith f ts)
 
-  insert-rows : (o : Operator) → Free o → (t : Syntax) (ts : Members Spelling) → Same (Rows o (insert t ts)) (Joined o (rows t) (Rows o ts))
+  insert-rows : (o : Operator) → Turns o → (t : Syntax) (ts : Members Spelling) → Same (Rows o (insert t ts)) (Joined o (rows t) (Rows o ts))
   insert-rows o h t none = itself (Rows o (t ▹ none))
   insert-rows o h t (u ▹ us) =
       by-test (notAfter (smallestName t) (smallestName u))
       (λ e. rw e (itself (Rows o (t ▹ u ▹ us))))
       (λ e. rw e (thus (joined-same o (itself (rows u)) (insert-rows o h t us)) (joined-front o h (rows u) (rows t) (Rows o us))))
 
-  sort-rows : (o : Operator) → Free o → (ts : Members Spelling) → Same (Rows o (sort ts)) (Rows o ts)
+  sort-rows : (o : Operator) → Turns o → (ts : Members Spelling) → Same (Rows o (sort ts)) (Rows o ts)
   sort-rows o h none = itself (Neutral o)
   sort-rows o h (t ▹ ts) = thus (insert-rows o h t (sort ts)) (joined-same o (itself (rows t)) (sort-rows o h ts))
 

@@ -1,24 +1,15 @@
--- Members are put in one order: to order them again changes nothing, and a neat tree stays neat.
+-- Members are put in order: to order them again changes nothing, and a neat tree stays neat.
 use mathlib.Core.{Path._≡_, Path.refl, Path.sym, Path.ap, Path.ap₂, Path._∙_, Path.subst, Bool.true}
 use Rattle.fields.specs.Tests.{by-test}
 use Rattle.model.specs.declared.rule.Sign.{Sign}
 use Rattle.model.specs.declared.rule.Sign.the-variants.{None, Sequence, Choice, Interleaving}
 use Rattle.model.specs.Tree.{Node, leaf, group, marked, Members, none, _▹_}
 use Rattle.model.specs.Syntax.{Spelling, Syntax}
-use Rattle.canonical.specs.Tidy.Form.{Needed, Stays, NeatNode, Neat, NeatAll}
+use Rattle.canonical.specs.Neat.{Needed, Stays, NeatNode, Neat, NeatAll, BeforeFirst, Rising, InTurn, OrderedNode, Ordered, OrderedAll}
 use Rattle.canonical.specs.Order.{notAfter, smallestName, insert, sort, arrange, orderNode, order, orderAll, Smallest.not-after-other}
 use Rattle.canonical.specs.Order.Kept.{order-smallest, order-nullable, order-size, arrange-all}
 
--- each member's smallest name is not after that of the next
-abbrev pub BeforeAll : Syntax → Members Spelling → Type 0
-BeforeAll t none = Unit {0}
-BeforeAll t (u ▹ us) = notAfter (smallestName t) (smallestName u) ≡ true
-
-abbrev pub Rising : Members Spelling → Type 0
-Rising none = Unit {0}
-Rising (t ▹ ts) = BeforeAll t ts × Rising ts
-
-insert-before : (u t : Syntax) (ts : Members Spelling) → notAfter (smallestName u) (smallestName t) ≡ true → BeforeAll u ts → BeforeAll u (insert t ts)
+insert-before : (u t : Syntax) (ts : Members Spelling) → notAfter (smallestName u) (smallestName t) ≡ true → BeforeFirst u ts → BeforeFirst u (insert t ts)
 insert-before u t none e h = e
 insert-before u t (v ▹ ts) e h = by-test (notAfter (smallestName t) (smallestName v)) (λ f. rw f e) (λ f. rw f h)
 
@@ -33,7 +24,7 @@ pub sort-rising : (ts : Members Spelling) → Rising (sort ts)
 sort-rising none = tt
 sort-rising (t ▹ ts) = insert-rising t (sort ts) (sort-rising ts)
 
-insert-same : (t : Syntax) (ts : Members Spelling) → BeforeAll t ts → insert t ts ≡ t ▹ ts
+insert-same : (t : Syntax) (ts : Members Spelling) → BeforeFirst t ts → insert t ts ≡ t ▹ ts
 insert-same t none h = refl
 insert-same t (u ▹ us) h = rw h refl
 
@@ -98,3 +89,24 @@ mutual
   all-neat : (ts : Members Spelling) (s : Sign) → NeatAll ts s → NeatAll (orderAll ts) s
   all-neat none s h = tt
   all-neat (t ▹ ts) s h = (order-neat t (h .0), order-stays s t (h .1), all-neat ts s (h .2))
+
+turn-arranged : (s : Sign) (ts : Members Spelling) → InTurn s (arrange s ts)
+turn-arranged None ts = tt
+turn-arranged Sequence ts = tt
+turn-arranged Choice ts = sort-rising ts
+turn-arranged Interleaving ts = sort-rising ts
+
+mutual
+  node-ordered : (n : Node Spelling) → OrderedNode (orderNode n)
+  node-ordered (leaf a) = tt
+  node-ordered (group s ts) = (
+    turn-arranged s (orderAll ts),
+    arrange-all OrderedAll Ordered (λ t us h. h) (λ t us h k. (h, k)) s (orderAll ts) (all-ordered ts),
+  )
+
+  pub order-ordered : (t : Syntax) → Ordered (order t)
+  order-ordered (marked m n) = node-ordered n
+
+  all-ordered : (ts : Members Spelling) → OrderedAll (orderAll ts)
+  all-ordered none = tt
+  all-ordered (t ▹ ts) = (order-ordered t, all-ordered ts)

@@ -1,4 +1,4 @@
--- A neat tree is one that flattening leaves as it is.
+-- Flattening leaves a neat tree as it is.
 use mathlib.Core.{Path._≡_, Path.refl, Path.ap₂, Bool.false, Bool.and-false}
 use mathlib.Core.List.{List, _∷_}
 use Rattle.model.specs.{declared.rule.Sign.Sign, declared.rule.Mark.Mark}
@@ -6,7 +6,8 @@ use Rattle.model.specs.declared.rule.Mark.the-variants.{Plain, Optional}
 use Rattle.model.specs.Tree.{Node, leaf, group, marked, Members, none, _▹_}
 use Rattle.model.specs.Syntax.{Spelling, Syntax}
 use Rattle.model.specs.Flatten.{isChoice, someNil, gathered, over, flattenNode, flatten, flattenAll, Solid.Solid, Solid.SolidAll, Solid.solid-not-nil}
-use Rattle.canonical.specs.Tidy.Form.{NeatNode, Neat, NeatAll, neat-not-nil, listOf, grouped-same}
+use Rattle.model.specs.Flatten.Append.{grouped-several}
+use Rattle.canonical.specs.{Neat.NeatNode, Neat.Neat, Neat.NeatAll, Tidy.Form.neat-not-nil, Tidy.Form.listOf}
 
 mutual
   node-solid : (n : Node Spelling) → NeatNode n → Solid (marked Plain n)
@@ -36,7 +37,7 @@ mutual
   node-flat : (n : Node Spelling) → NeatNode n → flattenNode n ≡ marked Plain n
   node-flat (leaf a) h = refl
   node-flat (group s ts) h =
-      rw (all-flat ts s (h .1), none-nil s ts (h .1), gathered-flat s ts (h .1), and-false (isChoice s)) (grouped-same s ts (h .0))
+      rw (all-flat ts s (h .1), none-nil s ts (h .1), gathered-flat s ts (h .1), and-false (isChoice s)) (grouped-several s ts (h .0))
 
   pub neat-flat : (t : Syntax) → Neat t → flatten t ≡ t
   neat-flat (marked m n) h = rw (node-flat n (h .1)) (over-flat m n (h .1))

@@ -1,20 +1,22 @@
 -- To flatten first changes nothing for tidying: so what tidying does goes on from the flattening of `Flatten`.
 use mathlib.Core.{Path._≡_, Path.refl, Path.sym, Path.ap, Path.ap₂, Path._∙_, Path.subst, Logic.inl, Logic.inr}
-use mathlib.Core.Bool.{Bool, true, false, cond, not, _&&_, _||_, true≢false, or-true, or-false, or-assoc}
-use mathlib.Core.List.{List, [], _∷_, _++_, map}
+use mathlib.Core.Bool.{Bool, true, false, cond, _&&_, _||_, true≢false, or-true, or-false, or-assoc}
+use mathlib.Core.List.{List, [], _∷_, _++_, map, map-append}
 use Prim.Native.Nat.{_≤_}
 use native.Mathlib.Omega.{arith}
 use Rattle.fields.specs.Tests.{by-test}
 use Rattle.model.specs.{declared.rule.Sign.Sign, declared.rule.Mark.Mark}
 use Rattle.model.specs.declared.rule.Sign.the-variants.{None, Sequence, Choice, Interleaving}
 use Rattle.model.specs.declared.rule.Mark.the-variants.{Plain, Optional}
-use Rattle.model.specs.Tree.{Node, leaf, group, marked, Members, none, _▹_, size, isPlain}
+use Rattle.model.specs.Tree.{Node, leaf, group, marked, Members, none, _▹_, size}
 use Rattle.model.specs.Syntax.{Spelling, Syntax}
 use Rattle.model.specs.Flatten.{isChoice, nil, isNil, someNil, merges, membersOf, withMember, gathered, grouped, over, droppedMark, _⧺_}
+use Rattle.model.specs.Flatten.Append.{append-none, gathered-append, grouped-several}
 use Rattle.model.specs.Flatten.{flattenNode, flatten, flattenAll, Merges.merged, Solid.Solid, Solid.solid-not-nil, Solid.AllFlattened, Solid.all-flattened}
-use Rattle.canonical.specs.Tidy.{nodeNullable, treeNullable, someNullable, marking, stripped, gives, someGives, settledGroup, tidyNode, tidy, tidyAll}
-use Rattle.canonical.specs.Tidy.Form.{Neat, NeatAll, NeatOrNil, AllNeatOrNil, neat-not-nil, gathered-neat, tidy-neat, all-tidied, stripped-same}
-use Rattle.canonical.specs.Tidy.Form.{stripped-neat, grouped-same}
+use Rattle.canonical.specs.{Neat.Neat, Neat.NeatAll}
+use Rattle.canonical.specs.Tidy.{isOptional, nodeNullable, someNullable, marking, stripped, gives, someGives, settledGroup, tidyNode, tidy, tidyAll}
+use Rattle.canonical.specs.Tidy.Form.{NeatOrNil, AllNeatOrNil, neat-not-nil, gathered-neat, tidy-neat, all-tidied, stripped-same}
+use Rattle.canonical.specs.Tidy.{Form.stripped-neat, Append.tidy-append, Append.gives-append, Append.some-append}
 
 -- of two marks the outer one stays
 marking-twice : (m : Mark) (t : Syntax) → marking Optional (marking m t) ≡ marking Optional t
@@ -44,31 +46,21 @@ over-tidy Optional (marked m n) =
 abbrev kept : Sign → List Syntax → Members Spelling
 kept s l = gathered s (map (stripped s) l)
 
-append-none : (ts : Members Spelling) → ts ⧺ none ≡ ts
-append-none none = refl
-append-none (t ▹ ts) = ap (λ (us : Members Spelling). t ▹ us) (append-none ts)
-
-append-assoc : (ts us vs : Members Spelling) → (ts ⧺ us) ⧺ vs ≡ ts ⧺ (us ⧺ vs)
-append-assoc none us vs = refl
-append-assoc (t ▹ ts) us vs = ap (λ (xs : Members Spelling). t ▹ xs) (append-assoc ts us vs)
-
-gathered-first : (s : Sign) (t : Syntax) (l : List Syntax) → gathered s (t ∷ l) ≡ gathered s (t ∷ []) ⧺ gathered s l
-gathered-first s t l =
-    by-test (isNil t) (λ e. rw e refl)
-    (λ e. by-test (merges s t) (λ j. rw (e, j, append-none (membersOf t)) refl) (λ j. rw (e, j) refl))
-
 kept-append : (s : Sign) (k l : List Syntax) → kept s (k ++ l) ≡ kept s k ⧺ kept s l
-kept-append s [] l = refl
-kept-append s (t ∷ k) l =
-    let u = stripped s t in
-    gathered-first s u (map (stripped s) (k ++ l)) ∙ ap (λ (us : Members Spelling). gathered s (u ∷ []) ⧺ us) (kept-append s k l)
-    ∙ sym (append-assoc (gathered s (u ∷ [])) (kept s k) (kept s l))
-    ∙ ap (λ (us : Members Spelling). us ⧺ kept s l) (sym (gathered-first s u (map (stripped s) k)))
+kept-append s k l = ap (gathered s) (map-append (stripped s) k l) ∙ gathered-append s (map (stripped s) k) (map (stripped s) l)
 
 -- the mark of a choice among the members of a choice makes no difference for the members
+mark-taken : (m : Mark) → cond (isOptional m) Plain m ≡ Plain
+mark-taken Plain = refl
+mark-taken Optional = refl
+
 stripped-marking : (s : Sign) (b : Bool) (t : Syntax) → stripped s (marking (droppedMark s b) t) ≡ stripped s t
 stripped-marking s b (marked m n) =
-    by-test (isChoice s) (λ c. by-test b (λ e. rw (c, e, c) refl) (λ e. rw (c, e, c) refl)) (λ c. rw (c, c) refl)
+    by-test (isChoice s)
+    (λ c. by-test b
+    (λ e. rw (c, e, c) (ap (λ (k : Mark). marked k n) (mark-taken (cond (nodeNullable n) Plain Optional) ∙ sym (mark-taken m))))
+    (λ e. rw (c, e, c) refl))
+    (λ c. rw (c, c) refl)
 
 nil-kept : (s : Sign) (l : List Syntax) → kept s (nil ∷ l) ≡ kept s l
 nil-kept s l = by-test (isChoice s) (λ c. rw c refl) (λ c. rw c refl)
@@ -97,7 +89,7 @@ regrouped s t h =
     rw (neat-not-nil t h) (by-test (merges s t)
     (λ e.
     let p = merged s t e in
-    rw (e, append-none (membersOf t)) (grouped-same s (membersOf t) (subst Neat p h .1 .0) ∙ sym p))
+    rw (e, append-none (membersOf t)) (grouped-several s (membersOf t) (subst Neat p h .1 .0) ∙ sym p))
     (λ e. rw e refl))
 
 remarked : (s : Sign) (t : Syntax) → Neat t → marking (droppedMark s (gives t || false)) (stripped s t) ≡ t
@@ -126,24 +118,16 @@ or-four true b c d = refl
 or-four false true c d = sym (or-true c)
 or-four false false c d = refl
 
-gives-append : (k l : List Syntax) → someGives (k ++ l) ≡ someGives k || someGives l
-gives-append [] l = refl
-gives-append (t ∷ k) l = rw (gives-append k l) (sym (or-assoc (gives t) (someGives k) (someGives l)))
-
-nullable-append : (ts us : Members Spelling) → someNullable (ts ⧺ us) ≡ someNullable ts || someNullable us
-nullable-append none us = refl
-nullable-append (t ▹ ts) us = rw (nullable-append ts us) (sym (or-assoc (treeNullable t) (someNullable ts) (someNullable us)))
-
 full-append : (s : Sign) (k l : List Syntax) → full s (k ++ l) ≡ full s k || full s l
 full-append s k l =
-    rw (gives-append k l, kept-append s k l, nullable-append (kept s k) (kept s l))
+    rw (gives-append k l, kept-append s k l, some-append (kept s k) (kept s l))
     (or-four (someGives k) (someGives l) (someNullable (kept s k)) (someNullable (kept s l)))
 
 not-none : {t : Syntax} {ts : Members Spelling} → t ▹ ts ≡ none → ⊥
 not-none e = omega (arith, ap size e)
 
 module _ (s : Sign) (choice : isChoice s ≡ true) where
-  no-mark : (m : Mark) → (isChoice s && not (isPlain m)) ≡ false → m ≡ Plain
+  no-mark : (m : Mark) → (isChoice s && isOptional m) ≡ false → m ≡ Plain
   no-mark Plain e = refl
   no-mark Optional e = absurd (true≢false (rw choice at e))
 
@@ -207,10 +191,6 @@ marking-or s a true t = rw (or-true a) (by-test (isChoice s) (λ c. rw c (markin
 marking-or s a false t = rw (or-false a) (by-test (isChoice s) (λ c. rw c refl) (λ c. rw c refl))
 
 -- Members that are flattened, then tidied.
-tidy-append : (ts us : Members Spelling) → tidyAll (ts ⧺ us) ≡ tidyAll ts ++ tidyAll us
-tidy-append none us = refl
-tidy-append (t ▹ ts) us = ap (λ (l : List Syntax). tidy t ∷ l) (tidy-append ts us)
-
 map-tidied : (l : List Syntax) → AllNeatOrNil (map tidy l)
 map-tidied [] = tt
 map-tidied (t ∷ l) = (tidy-neat t, map-tidied l)

@@ -1,44 +1,20 @@
 -- The form that tidying gives, and that a tree of this form is left as it is.
 use mathlib.Core.{Path._≡_, Path.refl, Path.ap, Path.ap₂, Path._∙_, Path.subst, Logic._⊎_, Logic.inl, Logic.inr, Logic.⊎-elim}
-use mathlib.Core.Bool.{Bool, true, false, cond, not, _&&_, true≢false}
+use mathlib.Core.Bool.{Bool, true, false, cond, _&&_, true≢false, and-false}
 use mathlib.Core.List.{List, [], _∷_, map}
-use Prim.Native.Nat.{_≤_}
 use native.Mathlib.Omega.{arith}
 use lib.Dec.{eqb, leb}
 use borrow.Author.Tests.{eqb-true}
 use Rattle.fields.specs.{Bytes.Text, Bytes.value, Tests.by-test}
 use Rattle.model.specs.{declared.rule.Sign.Sign, declared.rule.Mark.Mark}
 use Rattle.model.specs.declared.rule.Mark.the-variants.{Plain, Optional}
-use Rattle.model.specs.Tree.{Node, leaf, group, marked, Members, none, _▹_, size, isPlain}
+use Rattle.model.specs.Tree.{Node, leaf, group, marked, Members, none, _▹_}
 use Rattle.model.specs.Syntax.{Count, unwritten, between, onward, Spelling, Syntax}
 use Rattle.model.specs.Flatten.{isChoice, nil, isNil, merges, membersOf, withMember, gathered, grouped, droppedMark, _⧺_}
-use Rattle.model.specs.Flatten.{Merges.merged}
-use Rattle.canonical.specs.Tidy.{fromZero, raised, tidyCount, nodeNullable, marking, stripped, gives, someGives, settledGroup, tidyNode, tidy, tidyAll}
-
--- a `?` changes something
-abbrev pub Needed : Mark → Bool → Type 0
-Needed Plain nullable = Unit {0}
-Needed Optional nullable = nullable ≡ false
-
--- a member whose mark goes to the group around it
-abbrev pub strips : Sign → Syntax → Bool
-strips s (marked m n) = isChoice s && not (isPlain m)
-
--- a member that stays as it is in a group of the sign
-abbrev pub Stays : Sign → Syntax → Type 0
-Stays s t = (merges s t ≡ false) × (strips s t ≡ false)
-
-abbrev mutual
-  pub NeatNode : Node Spelling → Type 0
-  NeatNode (leaf a) = (fromZero (a .count) ≡ false) × (tidyCount (a .count) ≡ a .count)
-  NeatNode (group s ts) = (2 ≤ size ts) × NeatAll ts s
-
-  pub Neat : Syntax → Type 0
-  Neat (marked m n) = Needed m (nodeNullable n) × NeatNode n
-
-  pub NeatAll : Members Spelling → Sign → Type 0
-  NeatAll none s = Unit {0}
-  NeatAll (t ▹ ts) s = Neat t × Stays s t × NeatAll ts s
+use Rattle.model.specs.Flatten.{Merges.merged, Append.grouped-several}
+use Rattle.canonical.specs.Neat.{Needed, strips, NeatNode, Neat, NeatAll}
+use Rattle.canonical.specs.Tidy.{fromZero, raised, tidyCount, isOptional, nodeNullable, marking, stripped, gives, someGives, settledGroup}
+use Rattle.canonical.specs.Tidy.{tidyNode, tidy, tidyAll}
 
 abbrev pub NeatOrNil : Syntax → Type 0
 NeatOrNil t = (t ≡ nil) ⊎ Neat t
@@ -79,10 +55,12 @@ append-neat none us s h k = k
 append-neat (t ▹ ts) us s h k = (h .0, h .1, append-neat ts us s (h .2) k)
 
 pub stripped-neat : (s : Sign) (t : Syntax) → Neat t → Neat (stripped s t)
-stripped-neat s (marked m n) h = by-test (isChoice s) (λ e. rw e (tt, h .1)) (λ e. rw e h)
+stripped-neat s (marked Plain n) h = rw and-false h
+stripped-neat s (marked Optional n) h = by-test (isChoice s) (λ e. rw e (tt, h .1)) (λ e. rw e h)
 
 stripped-strips : (s : Sign) (t : Syntax) → strips s (stripped s t) ≡ false
-stripped-strips s (marked m n) = by-test (isChoice s) (λ e. rw e refl) (λ e. rw e refl)
+stripped-strips s (marked Plain n) = rw and-false (and-false (isChoice s))
+stripped-strips s (marked Optional n) = by-test (isChoice s) (λ e. rw e refl) (λ e. rw e refl)
 
 with-neat : (s : Sign) (t : Syntax) (us : Members Spelling) → Neat t → strips s t ≡ false → NeatAll us s → NeatAll (withMember s t us) s
 with-neat s t us h q k =
@@ -140,7 +118,7 @@ abbrev pub listOf : Members Spelling → List Syntax
 listOf none = []
 listOf (t ▹ ts) = t ∷ listOf ts
 
-keeps-mark : (b : Bool) (m : Mark) → (b && not (isPlain m)) ≡ false → cond b Plain m ≡ m
+keeps-mark : (b : Bool) (m : Mark) → (b && isOptional m) ≡ false → cond (b && isOptional m) Plain m ≡ m
 keeps-mark true Plain e = refl
 keeps-mark true Optional e = absurd (true≢false e)
 keeps-mark false m e = refl
@@ -160,16 +138,11 @@ none-gives : (s : Sign) (ts : Members Spelling) → isChoice s ≡ true → Neat
 none-gives s none c h = refl
 none-gives s (t ▹ ts) c h = rw (gives-nothing s t c (neat-not-nil t (h .0)) (h .1 .1)) (none-gives s ts c (h .2))
 
-pub grouped-same : (s : Sign) (ts : Members Spelling) → 2 ≤ size ts → grouped s ts ≡ marked Plain (group s ts)
-grouped-same s none h = absurd (omega arith)
-grouped-same s (t ▹ none) h = absurd (omega arith)
-grouped-same s (t ▹ u ▹ ts) h = refl
-
 unmarked : (s : Sign) (ts : Members Spelling) → NeatAll ts s → droppedMark s (someGives (listOf ts)) ≡ Plain
 unmarked s ts h = by-test (isChoice s) (λ c. rw (c, none-gives s ts c h) refl) (λ c. rw c refl)
 
 settled-same : (s : Sign) (ts : Members Spelling) → NeatNode (group s ts) → settledGroup s (listOf ts) ≡ marked Plain (group s ts)
-settled-same s ts h = rw (unmarked s ts (h .1), gathered-same s ts (h .1)) (grouped-same s ts (h .0))
+settled-same s ts h = rw (unmarked s ts (h .1), gathered-same s ts (h .1)) (grouped-several s ts (h .0))
 
 marking-same : (m : Mark) (n : Node Spelling) → Needed m (nodeNullable n) → marking m (marked Plain n) ≡ marked m n
 marking-same Plain n h = refl

@@ -1,4 +1,4 @@
--- Of a tree whose groups have the signs that their sizes ask for, tidying makes one; and what holds of each atom still does, if tidying an atom keeps it.
+-- Tidying keeps the signs fit for the sizes of groups, and what holds of each atom if tidying an atom keeps it.
 use mathlib.Core.{Path._≡_, Path.refl, Path.subst, Logic.inl, Logic.inr}
 use mathlib.Core.List.{List, [], _∷_, map}
 use Prim.Native.Nat.{_≤_}
@@ -12,7 +12,7 @@ use Rattle.model.specs.Tree.{Node, leaf, group, marked, Members, none, _▹_, s
 use Rattle.model.specs.Syntax.{Spelling, Syntax}
 use Rattle.model.specs.Flatten.{isNil, merges, membersOf, gathered, grouped, droppedMark, _⧺_, Merges.merged}
 use Rattle.canonical.specs.Tidy.{tidyAtom, marking, stripped, someGives, tidyNode, tidy, tidyAll}
-use Rattle.canonical.specs.Tidy.Form.{Neat, AllNeatOrNil, neat-not-nil, all-tidied}
+use Rattle.canonical.specs.{Neat.Neat, Tidy.Form.AllNeatOrNil, Tidy.Form.neat-not-nil, Tidy.Form.all-tidied}
 
 tidied-length : (ts : Members Spelling) → length (tidyAll ts) ≡ size ts
 tidied-length none = refl

@@ -1,5 +1,5 @@
 -- `nodeNullable` and `treeNullable` tell whether the empty row is held.
-use mathlib.Core.{Path._≡_, Path.refl, Path.sym, Path.subst, Logic.inl, Bool.Bool, Bool.true, Bool.false, Bool.cond, Bool.not, Bool._&&_, Bool._||_}
+use mathlib.Core.{Path._≡_, Path.refl, Path.sym, Path.subst, Logic.inl, Bool.Bool, Bool.true, Bool.false, Bool.cond, Bool._&&_, Bool._||_}
 use mathlib.Core.{Bool.false≢true, List.[], List._∷_, List._++_, List.nil≢cons}
 use Prim.Native.Nat.{ℕ, zero, suc}
 use native.Mathlib.Omega.{arith}
@@ -10,13 +10,14 @@ use Rattle.model.specs.{declared.rule.Upper.Upper, declared.rule.Sign.Sign, dec
 use Rattle.model.specs.declared.rule.Upper.the-variants.{Number, Unbounded}
 use Rattle.model.specs.declared.rule.Sign.the-variants.{None, Sequence, Choice, Interleaving}
 use Rattle.model.specs.declared.rule.Mark.the-variants.{Plain, Optional}
-use Rattle.model.specs.Tree.{Node, leaf, group, marked, Members, none, _▹_, isPlain}
+use Rattle.model.specs.Tree.{Node, leaf, group, marked, Members, none, _▹_}
 use Rattle.model.specs.Syntax.{Count, unwritten, between, onward, Spelling, Syntax}
 use Rattle.model.specs.Types.{Ty, Operator, sequence, choice, interleaving, Language, Joined, Holds}
 use Rattle.model.specs.Types.Languages.{Neutral}
 use Rattle.model.specs.Model.{countsOf, countedType, operator, markedType, nodeTypeWith, typeWith, typesWith}
 use Rattle.model.specs.Flatten.{isChoice, Rows.Together, Rows.from-together}
-use Rattle.canonical.specs.Tidy.{fromZero, nodeNullable, groupNullable, treeNullable, allNullable, someNullable, Meaning.meaning}
+use Rattle.canonical.specs.Tidy.{isOptional, fromZero, nodeNullable, groupNullable, treeNullable, allNullable, someNullable}
+use Rattle.canonical.specs.Meaning.{meaning}
 
 shuffle-nils : {u v : Word} → Shuffle u v [] → (u ≡ []) × (v ≡ [])
 shuffle-nils nothing = (refl, refl)
@@ -40,7 +41,7 @@ joined-nullable interleaving b c P Q f g =
     let t = tells-and b c f g in
     (λ e. let h = t .0 e in ([], [], nothing, h .0, h .1), λ (u, v, e, p, q). let i = shuffle-nils e in t .1 (subst P (i .0) p, subst Q (i .1) q))
 
-marked-nullable : (m : Mark) (b : Bool) (A : Ty) → Tells b (Holds A []) → Tells (not (isPlain m) || b) (Holds (markedType m A) [])
+marked-nullable : (m : Mark) (b : Bool) (A : Ty) → Tells b (Holds A []) → Tells (isOptional m || b) (Holds (markedType m A) [])
 marked-nullable Plain b A t = t
 marked-nullable Optional b A t = (λ e. inl refl, λ h. refl)
 

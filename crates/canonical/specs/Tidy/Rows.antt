@@ -20,7 +20,7 @@ use Rattle.model.specs.Flatten.Rows.{Together, from-together, Dropped, dropped-
 use Rattle.model.specs.Flatten.Rows.{left-rows, dropped-not, dropped-behind, nil-rows}
 use Rattle.canonical.specs.Tidy.{fromZero, tidyCount, nodeNullable, marking, stripped, gives, someGives, settledGroup, tidyNode, tidy, tidyAll}
 use Rattle.canonical.specs.Tidy.{Nullable.node-nullable}
-pub use Rattle.canonical.specs.Tidy.Meaning.{meaning}
+use Rattle.canonical.specs.Meaning.{meaning}
 
 -- an atom's type stays the very same
 counted-type : (k : ℕ) (c : Count)

@@ -1,17 +1,17 @@
 -- What the code keeps of a tidied tree, and of the members of a group so far.
 pub mod Laws
 pub mod Member
-use mathlib.Core.{Path._≡_, Logic._⊎_, Bool.Bool, Bool.not, List.List, List.[], List._∷_, List.map}
+use mathlib.Core.{Path._≡_, Logic._⊎_, Bool.Bool, List.List, List.[], List._∷_, List.map}
 use Prim.Native.{Nat.ℕ, Nat._≤_, Nat._<_, Char.code}
 use lib.ListN.{length}
 use Rattle.fields.specs.Bytes.{Text}
 use Rattle.model.specs.{declared.rule.Sign.Sign, Fault.nameFrom}
 use Rattle.model.specs.declared.rule.Sign.the-variants.{None, Sequence, Choice, Interleaving}
-use Rattle.model.specs.Tree.{leaf, group, marked, Members, none, _▹_, size, nodes, membersWeight, membersLeaves, isPlain}
+use Rattle.model.specs.Tree.{leaf, group, marked, Members, none, _▹_, size, nodes, membersWeight, membersLeaves}
 use Rattle.model.specs.Flatten.{nil, membersOf}
 use Rattle.model.specs.Syntax.{Spelling, Syntax, nodeText, writtenNames}
 use Rattle.canonical.specs.{declared.tidy.Tidied.Tidied, declared.tidy.Gathered.Gathered, Order.smallest}
-use Rattle.canonical.specs.Tidy.{tidyAtom, nodeNullable, groupNullable}
+use Rattle.canonical.specs.Tidy.{isOptional, tidyAtom, nodeNullable, groupNullable}
 use Rattle.canonical.specs.Writer.Place.{atomAt, pieceAt}
 
 -- the byte of a sign, 0 for none
@@ -27,7 +27,7 @@ signCode (marked m (leaf a)) = 1
 signCode (marked m (group s ts)) = signByte s
 
 abbrev pub isMarked : Syntax → Bool
-isMarked (marked m n) = not (isPlain m)
+isMarked (marked m n) = isOptional m
 
 abbrev pub nullableNode : Syntax → Bool
 nullableNode (marked m n) = nodeNullable n

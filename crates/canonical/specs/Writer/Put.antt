@@ -1,4 +1,4 @@
--- A byte of what was put is put anew.
+-- A byte that was put is overwritten.
 use mathlib.Core.{Path._≡_, Path.sym, Path.ap, Path._∙_, List.[], List._∷_, List._++_}
 use Prim.Native.Nat.{ℕ, _+_, _<_}
 use native.Mathlib.{Omega.arith, Nat.zero-add, Nat.suc-add}

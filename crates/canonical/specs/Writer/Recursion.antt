@@ -25,7 +25,7 @@ pub record TidyReady (x : Text) (stack : List ℕ) (p top : ℕ) : Type 0 where
   pub inside : top ≤ maxNodes
   pub heads : HeadsFit x (drop top stack)
 
--- the members of u stand on the stack, from top down to r .top
+-- the members of u stand on the stack, from top down to end
 pub record OnStack (x : Text) (u : Syntax) (old new : List ℕ) (top end : ℕ) : Type 0 where
   pub entries : length new ≡ length old
   pub top-is : end + nodes u ≡ top + 1

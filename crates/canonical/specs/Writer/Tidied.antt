@@ -2,7 +2,7 @@
 use mathlib.Core.{Path._≡_, Bool.Bool, Bool.true, Bool.false, Bool.cond, Bool.not, Bool._&&_, Bool._||_, List.List}
 use Prim.Native.{Nat.ℕ, Nat._+_, Nat._-_, Nat._≤_, Nat._<_, Char.code}
 use lib.{Dec.eqb, Dec.ltb, ListN.length, ListN.set}
-use Rattle.fields.specs.Bytes.{Text}
+use Rattle.fields.specs.{Bytes.Text, Limits.maxNodes}
 use Rattle.model.specs.Fault.{nameFrom, is}
 use Rattle.canonical.specs.{declared.tidy.Tidied.Tidied, declared.tidy.Gathered.Gathered, declared.head.Head.Head, Order.notAfter, Writer.Head.headIn}
 use Rattle.canonical.specs.Writer.Place.{atomEnd, zeroAt}
@@ -120,9 +120,9 @@ StackedBy old new sign t =
 
 -- what the step needs: room, and names inside the text
 pub record FitsOn (x : Text) (stack : List ℕ) (g : Gathered) (t : Tidied) : Type 0 where
-  pub entries : length stack ≡ 128
-  pub room : (0 < t .top) × (t .top ≤ 128)
-  pub few : (g .size + t .size ≤ 128) × (g .members + t .members < 128)
+  pub entries : length stack ≡ maxNodes
+  pub room : (0 < t .top) × (t .top ≤ maxNodes)
+  pub few : (g .size + t .size ≤ maxNodes) × (g .members + t .members < maxNodes)
   pub some : 0 < t .size
   pub inside : (g .least ≤ length x) × (t .least ≤ length x)
   pub small : t .sign < 128

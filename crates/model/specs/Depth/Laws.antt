@@ -17,6 +17,7 @@ use Rattle.model.specs.Flatten.{signNumber, sameSign, _⧺_, isNil, some
 use Rattle.model.specs.Flatten.{flattenNode, flatten, flattenAll, depth}
 use Rattle.model.specs.Flatten.Solid.{Solid, SolidAll, Flattened, AllFlattened, solid-not-nil, solid-append, gathered-solid, grouped-flattened}
 use Rattle.model.specs.Flatten.{Solid.node-flattened, Solid.all-flattened, Merges.merged}
+use Rattle.model.specs.Flatten.Append.{append-none, append-size, grouped-several}
 use Rattle.model.specs.{Syntax.Syntax, Model.countsOf, Model.modelOf, Flatten.Map.depth-map}
 use Rattle.model.specs.Flatten.Depth.{deepest, deepestOf, deepest-append, deepest-first, group-deepest}
 use Rattle.model.specs.{Rule.Laws.rule-eval, Model.Counts, Model.Model, Model.fold, Model.foldNode, Model.foldAll, Model.needed, Model.evalStep}
@@ -66,25 +67,12 @@ brings-kept s t h =
     (λ e. rw (merges-kept s t h, e) (omega (arith, deepest-first t none)))
 
 -- groups of two members or more
-size-append : (ts us : Members Counts) → size (ts ⧺ us) ≡ size ts + size us
-size-append none us = omega arith
-size-append (t ▹ ts) us = omega (arith, size-append ts us)
-
-append-none : (ts : Members Counts) → ts ⧺ none ≡ ts
-append-none none = refl
-append-none (t ▹ ts) = ap (λ us. t ▹ us) (append-none ts)
-
-several : (s : Sign) (ts : Members Counts) → 2 ≤ size ts → grouped s ts ≡ marked Plain (group s ts)
-several s none h = absurd (omega arith)
-several s (t ▹ none) h = absurd (omega arith)
-several s (t ▹ u ▹ ts) h = refl
-
 kept-group : (s : Sign) (ts : Members Counts) → 2 ≤ size ts → SolidAll ts s
     → kept (grouped s ts) ≡ record { sign = s; marked = false; empty = false; depth = min maxNesting (deepestOf ts) + 1 }
 kept-group s ts h k =
     let d = group-deepest Plain s ts (h, k) in
     let e : min (maxNesting + 1) (deepest (marked Plain (group s ts))) ≡ min maxNesting (deepestOf ts) + 1 = omega (arith, d) in
-    rw (several s ts h, e, solid-not-nil (marked Plain (group s ts)) (h, k))
+    rw (grouped-several s ts h, e, solid-not-nil (marked Plain (group s ts)) (h, k))
 
 -- some members make a group, which brings them all
 some-not-nil : (s : Sign) (u : Model) (us : Members Counts) → SolidAll (u ▹ us) s → isNil (grouped s (u ▹ us)) ≡ false
@@ -112,11 +100,11 @@ beside-kept s t none h k = ap kept alone ∙ sym (beside-nil s (kept t) (solid-n
     alone : grouped s (brought s t ⧺ none) ≡ t
     alone =
         by-test (merges s t)
-        (λ e. rw (e, append-none (membersOf t)) (several s (membersOf t) (subst Solid (merged s t e) h .0) ∙ sym (merged s t e)))
+        (λ e. rw (e, append-none (membersOf t)) (grouped-several s (membersOf t) (subst Solid (merged s t e) h .0) ∙ sym (merged s t e)))
         (λ e. rw e)
 beside-kept s t (u ▹ us) h k =
     let b = brought-solid s t h in
-    let n : 2 ≤ size (brought s t ⧺ (u ▹ us)) = omega (arith, size-append (brought s t) (u ▹ us), b .1) in
+    let n : 2 ≤ size (brought s t ⧺ (u ▹ us)) = omega (arith, append-size (brought s t) (u ▹ us), b .1) in
     rw (solid-not-nil t h, some-not-nil s u us k)
     (kept-group s (brought s t ⧺ (u ▹ us)) n (solid-append (brought s t) (u ▹ us) s (b .0) k)
     ∙ rw (

@@ -8,18 +8,18 @@ use borrow.Author.Needs.{needs}
 use Rattle.canonical.proofs.atom.kept_end.Statement.{statement}
 use Rattle.canonical.proofs.atom.kept_end.Tie as tie
 
--- behind the two calls
+-- behind the call
 abbrev entry : tie.After-count-end → tie.Start
-entry c = c .before .before .before
+entry c = c .before .before
 
-ends : (c : tie.After-count-end) → AtomEnds (entry c .args .text .now) (entry c .args .at) (c .before .name-end .result) (c .count-end .result)
-ends c = record { name-is = c .before .name-end .ensures; count-is = c .count-end .ensures }
+ends : (c : tie.After-count-end) → AtomEnds (entry c .args .text .now) (entry c .args .at) (entry c .args .name) (c .count-end .result)
+ends c = record { name-is = entry c .pre .1; count-is = c .count-end .ensures }
 
-inside : (c : tie.After-count-end) → (c .before .name-end .result ≤ c .count-end .result) × (c .count-end .result ≤ length (entry c .args .text .now))
-inside c = ended-inside (ends c) (entry c .pre)
+inside : (c : tie.After-count-end) → (entry c .args .name ≤ c .count-end .result) × (c .count-end .result ≤ length (entry c .args .text .now))
+inside c = ended-inside (ends c) (entry c .pre .0)
 
 count-end-requires : tie.Need-count-end-requires
-count-end-requires c κs = rw (c .name-end .ensures) (name-inside (c .before .before .args .text .now) (c .before .before .args .at) (c .before .before .pre))
+count-end-requires c κs = let s = c .before in rw (s .pre .1) (name-inside (s .args .text .now) (s .args .at) (s .pre .0))
 
 add-if1 : tie.Need-add-if1
 add-if1 c = omega (arith, inside c)
@@ -47,7 +47,6 @@ pub kept-end-spec : {M : Type 1} → statement M
 kept-end-spec =
     tie.close
     (tie.spec
-    (λ c κs. search needs)
     count-end-requires
     add-if1
     (λ c. search needs)

@@ -64,9 +64,10 @@ shared-slice-read-c c = turn-inner (c .before .before) .inside
 
 returns-2 : tie.Need-returns-2 Inv-loop μ-loop
 returns-2 c =
-    let f = c .before .before .before .before .before in
+    let t = c .before in
+    let f = t .before .before .before .before in
     let l = f .before in
-    told l (rw (c .is-inner .ensures) (after-differs (whole l) (first l) (second l) (turn-inner f) (omega arith) (c .before .if2 .taken)))
+    told l (rw (c .is-inner .ensures) (after-differs (whole l) (first l) (second l) (turn-inner f) (omega arith) (t .if2 .taken)))
 
 loop-again : tie.Need-loop-again Inv-loop μ-loop
 loop-again c =

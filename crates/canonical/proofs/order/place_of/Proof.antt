@@ -82,8 +82,8 @@ loop-holds : tie.Need-loop-holds Inv-loop μ-loop
 loop-holds c =
     let f = c .before .before .before in
     let e = begin f in
-    narrowed-below (narrowed-none refl (e .pre .range .0)) (e .args .end - 1) (omega (arith, some f .if1 .taken)) (c .before .is-behind .ensures) (e .pre .falling)
-    (c .if2 .taken)
+    narrowed-below (narrowed-none refl (e .pre .range .0)) (e .args .end - 1) (omega (arith, some f .if1 .taken)) (c .before .is-behind .ensures)
+    (e .pre .falling) (c .if2 .taken)
 
 add-mid : tie.Need-add-mid Inv-loop μ-loop
 add-mid c = omega (arith, mid-listed c, entry (c .before) .pre .range)

@@ -53,7 +53,7 @@ own-first : (j : tie.Joined1 Inv-loop μ-loop) → j .if1 .own ≡ plainLength (
 own-first j =
     let x = whole (turn (j .before)) in
     ⊎-elim
-    (λ (t, s, k, o). atom-own x (head-is (j .before)) (t .taken) (k .ensures) o)
+    (λ (t, s, n, k, o). atom-own x (head-is (j .before)) (t .taken) (k .ensures) o)
     (λ (t, o). group-own x (head-is (j .before)) (t .left) o)
     (j .if1 .came)
 
@@ -83,13 +83,14 @@ own-short j = ⊎-elim (λ (t, s, o). omega (arith, o, first-short (j .before)))
 loop-holds : tie.Need-loop-holds Inv-loop μ-loop
 loop-holds c = (omega arith, search needs, omega arith, rw zero-add (words-length _ _ (c .before .pre .heads)))
 
-kept-end-requires : tie.Need-kept-end-requires Inv-loop μ-loop
-kept-end-requires c κs = let k = c .before .before in inside (k .before .before .before) (head-is k)
+-- where the name begins, from its end
+known : (k : tie.After-struct-known Inv-loop μ-loop) → k .before .unpacked .result .least ≤ length (whole (turn k))
+known k = inside (k .before .before .before) (head-is k)
 
 sub-own : tie.Need-sub-own Inv-loop μ-loop
 sub-own c =
-    let k = c .before .before .before in
-    let i = inside (k .before .before .before) (head-is k) in
+    let k = c .before .before .before .before in
+    let i = known k in
     omega (arith, kept-inside {x = whole (turn k)} {p = k .before .unpacked .result .least} (record { name-is = refl; kept-is = c .kept-end .ensures }) i)
 
 add-own : tie.Need-add-own Inv-loop μ-loop
@@ -123,7 +124,8 @@ signed-length-spec =
     (λ c. search needs)
     (λ c κs. tt)
     (λ c. search needs)
-    kept-end-requires
+    (λ c κs. known (c .before .before))
+    (λ c κs. (known (c .before .before .before), c .name-end .ensures))
     sub-own
     add-own
     add-sum

@@ -9,11 +9,11 @@ use Rattle.fields.specs.{Bytes.Text, Tests.by-test}
 use Rattle.model.specs.{declared.rule.Sign.Sign, declared.rule.Mark.Mark}
 use Rattle.model.specs.declared.rule.Sign.the-variants.{None, Sequence, Choice, Interleaving}
 use Rattle.model.specs.declared.rule.Mark.the-variants.{Plain, Optional}
-use Rattle.model.specs.Tree.{leaf, group, marked, Members, none, _▹_, size, isPlain}
+use Rattle.model.specs.Tree.{leaf, group, marked, Members, none, _▹_, size}
 use Rattle.model.specs.Flatten.{nil, isChoice, sameSign, grouped, droppedMark}
 use Rattle.model.specs.Syntax.{Spelling, Syntax}
 use Rattle.canonical.specs.{declared.tidy.Tidied.Tidied, declared.tidy.Gathered.Gathered}
-use Rattle.canonical.specs.Tidy.{nodeNullable, marking}
+use Rattle.canonical.specs.Tidy.{isOptional, nodeNullable, marking}
 use Rattle.canonical.specs.Writer.Tidied.{optionalBy, placedAt, remarkedBy, nothingBy, noMembers, groupedBy, groupClosedBy}
 use Rattle.canonical.specs.Writer.Keeps.{signByte, nullableNode, KeepsTree, KeepsMembers}
 
@@ -77,7 +77,7 @@ keeps-nil x top next =
 abbrev pub withMark : Mark → Syntax → Syntax
 withMark m (marked k n) = marked m n
 
-module _ {x : Text} {r : Tidied} (m : Mark) (b : Bool) (e : b ≡ not (isPlain m)) where
+module _ {x : Text} {r : Tidied} (m : Mark) (b : Bool) (e : b ≡ isOptional m) where
   pub keeps-marked : (u : Syntax) → ((u ≡ nil) → m ≡ Plain) → KeepsTree x u r → KeepsTree x (withMark m u) (remarkedBy b r)
   keeps-marked (marked k (leaf a)) f h =
       record {
@@ -101,7 +101,7 @@ module _ {x : Text} {r : Tidied} (m : Mark) (b : Bool) (e : b ≡ not (isPlain m
       }
 
 -- `?` is left out where the empty row is held without it
-mark-if : (b : Bool) → not b ≡ not (isPlain (cond b Plain Optional))
+mark-if : (b : Bool) → not b ≡ isOptional (cond b Plain Optional)
 mark-if true = refl
 mark-if false = refl
 

@@ -11,16 +11,17 @@ use Rattle.model.specs.{declared.rule.Sign.Sign, declared.rule.Mark.Mark, Fault
 use Rattle.model.specs.declared.rule.Mark.the-variants.{Plain, Optional}
 use Rattle.model.specs.Tree.{leaf, group, marked, Members, none, _▹_, size, nodes, leaves, membersWeight, membersLeaves, isPlain}
 use Rattle.model.specs.Flatten.{_⧺_, nil, isNil, isChoice, merges, membersOf, gathered}
+use Rattle.model.specs.Flatten.Append.{append-none, append-size, append-weight}
 use Rattle.model.specs.Flatten.Leaves.{append-leaves, merged-leaves}
 use Rattle.model.specs.Flatten.Merges.{merged}
 use Rattle.model.specs.Syntax.{Spelling, Syntax, writtenNames}
-use Rattle.canonical.specs.{declared.tidy.Tidied.Tidied, declared.tidy.Gathered.Gathered, Order.notAfter, Order.smaller}
+use Rattle.canonical.specs.{declared.tidy.Tidied.Tidied, declared.tidy.Gathered.Gathered, Order.notAfter}
 use Rattle.canonical.specs.Order.Smallest.{smallest-append}
-use Rattle.canonical.specs.Tidy.{nodeNullable, treeNullable, someNullable, allNullable, groupNullable, stripped, gives}
+use Rattle.canonical.specs.Tidy.{Append.some-append, Append.all-append}
+use Rattle.canonical.specs.Tidy.{isOptional, nodeNullable, treeNullable, someNullable, allNullable, groupNullable, stripped, gives}
 use Rattle.canonical.specs.Writer.Tidied.{remarkedBy, smallerBy, bothBy, withMemberBy, keeps, joinsBy}
 use Rattle.canonical.specs.Writer.Keeps.{signByte, signCode, Proper, LeastAt, KeepsTree, KeepsMembers}
 use Rattle.canonical.specs.Writer.Keeps.Laws.{choice-byte, same-byte, no-atom, keeps-marked}
-use Rattle.canonical.specs.Writer.Stack.Laws.{append-none}
 
 -- the smaller of two names is that of both lists
 name-if : (x : Text) (b : Bool) (p q : ℕ) → nameFrom x (cond b p q) ≡ cond b (nameFrom x p) (nameFrom x q)
@@ -33,23 +34,6 @@ least-append x (n ∷ k) [] p q h i = absurd i
 least-append x (n ∷ k) (m ∷ l) p q h i =
     name-if x (notAfter (nameFrom x p) (nameFrom x q)) p q ∙ rw (h, i) (sym (smallest-append n k m l))
 
-pub size-append : (ts us : Members Spelling) → size (ts ⧺ us) ≡ size ts + size us
-size-append none us = omega arith
-size-append (t ▹ ts) us = omega (arith, size-append ts us)
-
-pub weight-append : (ts us : Members Spelling) → membersWeight 1 1 (ts ⧺ us) ≡ membersWeight 1 1 ts + membersWeight 1 1 us
-weight-append none us = omega arith
-weight-append (t ▹ ts) us = omega (arith, weight-append ts us)
-
--- members that hold the empty row, before others that are some
-some-append : (ts us : Members Spelling) → someNullable (ts ⧺ us) ≡ (someNullable ts || someNullable us)
-some-append none us = refl
-some-append (t ▹ ts) us = by-test (treeNullable t) (λ e. rw e) (λ e. rw e (some-append ts us))
-
-all-append : (ts us : Members Spelling) → allNullable (ts ⧺ us) ≡ (allNullable ts && allNullable us)
-all-append none us = refl
-all-append (t ▹ ts) us = by-test (treeNullable t) (λ e. rw e (all-append ts us)) (λ e. rw e)
-
 some-group : (s : Sign) (ts : Members Spelling) → 0 < size ts → groupNullable ts s ≡ cond (isChoice s) (someNullable ts) (allNullable ts)
 some-group s none h = absurd (omega arith)
 some-group s (t ▹ ts) h = refl
@@ -57,7 +41,7 @@ some-group s (t ▹ ts) h = refl
 nullable-append : (s : Sign) (ts us : Members Spelling) → 0 < size ts → 0 < size us
     → groupNullable (ts ⧺ us) s ≡ bothBy (signByte s) (groupNullable ts s) (groupNullable us s)
 nullable-append s ts us h k =
-    rw (choice-byte s, some-group s ts h, some-group s us k, some-group s (ts ⧺ us) (omega (arith, size-append ts us)), some-append ts us, all-append ts us)
+    rw (choice-byte s, some-group s ts h, some-group s us k, some-group s (ts ⧺ us) (omega (arith, append-size ts us)), some-append ts us, all-append ts us)
     (by-test (isChoice s) (λ e. rw e) (λ e. rw e))
 
 -- the members ws behind us, where n, k, b, p are kept of ws
@@ -120,8 +104,8 @@ module _ {x : Text} (s : Sign) {us : Members Spelling} {v : Bool} {g : Gathered}
     keeps-more n-is k-is b-is inside least-is last-is =
         record {
           given-is = refl;
-          members-are = omega (arith, h .members-are, n-is, size-append us ws);
-          nodes-are = omega (arith, h .nodes-are, k-is, weight-append us ws);
+          members-are = omega (arith, h .members-are, n-is, append-size us ws);
+          nodes-are = omega (arith, h .nodes-are, k-is, append-weight 1 1 us ws);
           within = least-inside inside;
           all-nullable = λ i. nullable-both b-is;
           all-least = λ i. least-both least-is;
@@ -129,13 +113,13 @@ module _ {x : Text} (s : Sign) {us : Members Spelling} {v : Bool} {g : Gathered}
         }
 
 -- What becomes of a member without the mark that a choice takes.
-kept-mark : (c : Bool) (m : Mark) → isPlain (cond c Plain m) ≡ not (not (isPlain m) && not c)
+kept-mark : (c : Bool) (m : Mark) → isPlain (cond (c && isOptional m) Plain m) ≡ not (isOptional m && not c)
 kept-mark true Plain = refl
 kept-mark true Optional = refl
 kept-mark false Plain = refl
 kept-mark false Optional = refl
 
-kept-nullable : (c : Bool) (m : Mark) (b : Bool) → (b || (not (isPlain m) && not c)) ≡ (not (isPlain (cond c Plain m)) || b)
+kept-nullable : (c : Bool) (m : Mark) (b : Bool) → (b || (isOptional m && not c)) ≡ (isOptional (cond (c && isOptional m) Plain m) || b)
 kept-nullable true Plain true = refl
 kept-nullable true Plain false = refl
 kept-nullable true Optional true = refl
@@ -145,14 +129,15 @@ kept-nullable false Plain false = refl
 kept-nullable false Optional true = refl
 kept-nullable false Optional false = refl
 
-pub kept-marked : (c : Bool) (m : Mark) → (not (isPlain m) && not c) ≡ not (isPlain (cond c Plain m))
+pub kept-marked : (c : Bool) (m : Mark) → (isOptional m && not c) ≡ isOptional (cond (c && isOptional m) Plain m)
 kept-marked true Plain = refl
 kept-marked true Optional = refl
 kept-marked false Plain = refl
 kept-marked false Optional = refl
 
-kept-plain : (c : Bool) (m : Mark) → m ≡ Plain → cond c Plain m ≡ Plain
-kept-plain true m e = refl
+kept-plain : (c : Bool) (m : Mark) → m ≡ Plain → cond (c && isOptional m) Plain m ≡ Plain
+kept-plain true Plain e = refl
+kept-plain true Optional e = refl
 kept-plain false m e = e
 
 abbrev markIn : Syntax → Mark
@@ -177,7 +162,7 @@ module _ {x : Text} (s : Sign) {t : Tidied} where
 
   stripped-keeps : (u : Syntax) → KeepsTree x u t → KeepsTree x (stripped s u) (remarkedBy (keeps (signByte s) t) t)
   stripped-keeps (marked m n) k =
-      keeps-marked (cond (isChoice s) Plain m) (keeps (signByte s) t)
+      keeps-marked (cond (isChoice s && isOptional m) Plain m) (keeps (signByte s) t)
       (rw (k .marked-is, choice-byte s) (kept-marked (isChoice s) m)) (marked m n) (λ e. kept-plain (isChoice s) m (ap markIn e)) k
 
 abbrev firstOf : Members Spelling → Syntax → Syntax
@@ -242,7 +227,7 @@ module _ {x : Text} (s : Sign) {us : Members Spelling} {v : Bool} {g : Gathered}
     where
       go : (ts : Members Spelling) → ts ⧺ (w ▹ none) ≡ u ▹ none → w ≡ u
       go none e = ap (λ (ts : Members Spelling). firstOf ts w) e
-      go (t ▹ ts) e = absurd (omega (arith, ap size e, size-append ts (w ▹ none)))
+      go (t ▹ ts) e = absurd (omega (arith, ap size e, append-size ts (w ▹ none)))
 
   -- a member that stays
   stays : (u : Syntax) → KeepsTree x u t → Proper x u (t .least) → LeastAt x (t .least) (writtenNames u) → merges s (stripped s u) ≡ false → Added u
@@ -272,7 +257,7 @@ module _ {x : Text} (s : Sign) {us : Members Spelling} {v : Bool} {g : Gathered}
       (nullable-kept s u k ∙ ap treeNullable (merged s w e) ∙ ap (λ (ts : Members Spelling). groupNullable ts s) (stripped-members s u))
       (k .least-inside)
       (rw (← stripped-members s u, merged-leaves s w e, stripped-leaves s u) l)
-      (λ y i. absurd (omega (arith, c, ap size i, size-append us (membersOf u)))))
+      (λ y i. absurd (omega (arith, c, ap size i, append-size us (membersOf u)))))
 
   pub keeps-member : (u : Syntax) → KeepsTree x u t → Added u
   keeps-member u k =

@@ -10,7 +10,7 @@ use Rattle.model.specs.declared.rule.Sign.{Sign}
 use Rattle.model.specs.declared.rule.Sign.the-variants.{None, Sequence, Choice, Interleaving}
 use Rattle.judge.specs.Packed.{signBy}
 use Rattle.canonical.specs.declared.head.Head.{Head}
-use Rattle.canonical.specs.Order.{insert, sort, arrange, Sorted.Rising, Sorted.sort-rising}
+use Rattle.canonical.specs.{Neat.Rising, Order.insert, Order.sort, Order.arrange, Order.Sorted.sort-rising}
 use Rattle.canonical.specs.Writer.Stack.{turned, HeadFits}
 use Rattle.canonical.specs.Writer.Stack.Skip.{treesBelow, placeBehind, tree-from, place-inside, place-next, few-from, fits-at, size-at, below, heads-from}
 use Rattle.canonical.specs.Writer.Lists.{treeAt, headAt, treesListed, Inserted, InsertReady, MembersReady, MembersListed}

@@ -6,7 +6,8 @@ use lib.ListN.{length, getD, set}
 use borrow.Author.Tests.{not-true, not-false}
 use Rattle.fields.specs.{Bytes.Text, Tests.by-test}
 use Rattle.model.specs.{Tree._▹_, Syntax.Syntax}
-use Rattle.canonical.specs.Order.{notAfter, smallestName, insert, Smallest.not-after-itself, Smallest.not-after-trans, Sorted.Rising}
+use Rattle.canonical.specs.Order.{notAfter, smallestName, insert, Smallest.not-after-itself, Smallest.not-after-trans}
+use Rattle.canonical.specs.Neat.{Rising}
 use Rattle.canonical.specs.Writer.Lists.{headAt, treeAt, treesListed, isBehind, Falling, TwoMembers, Narrowed, InsertReady, Inserted}
 use Rattle.canonical.specs.Writer.Place.{behindName}
 use Rattle.canonical.specs.Writer.Lists.Laws.{Moved, listed-less, BehindInserted, behind-none, behind-more, stops-there, stops-first, inserted}

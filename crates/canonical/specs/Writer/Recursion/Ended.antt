@@ -1,5 +1,5 @@
 -- The group at its end.
-use mathlib.Core.{Path._≡_, Path.refl, Path.sym, Path.ap, Path._∙_, Path.subst, Logic._⊎_, Logic.⊎-elim, Bool.Bool, Bool.false, Bool.not}
+use mathlib.Core.{Path._≡_, Path.refl, Path.sym, Path.ap, Path._∙_, Path.subst, Logic._⊎_, Logic.⊎-elim, Bool.Bool, Bool.false}
 use mathlib.Core.{Bool._&&_, List.List, List.[], List._∷_, List._++_, List.head-eq-of-cons-eq, List.tail-eq-of-cons-eq}
 use Prim.Native.{Nat.ℕ, Nat.suc, Nat._+_, Nat._-_, Nat._≤_, Char.code}
 use native.Mathlib.Omega.{arith}
@@ -9,16 +9,16 @@ use borrow.Author.Tests.{ne-eqb}
 use Rattle.fields.specs.{Bytes.Text, Tests.by-test}
 use Rattle.model.specs.{declared.rule.Sign.Sign, Fault.is}
 use Rattle.model.specs.declared.rule.Sign.the-variants.{None, Sequence, Choice, Interleaving}
-use Rattle.model.specs.Tree.{group, marked, Members, none, _▹_, size, nodes, membersWeight, isPlain, SignFits}
+use Rattle.model.specs.Tree.{group, marked, Members, none, _▹_, size, nodes, membersWeight, SignFits}
 use Rattle.model.specs.Flatten.{_⧺_, membersOf, grouped, droppedMark}
 use Rattle.model.specs.Syntax.{Spelling, Syntax, text, membersText, markText}
+use Rattle.model.specs.Flatten.Append.{append-none}
 use Rattle.canonical.specs.{declared.tidy.Tidied.Tidied, declared.tidy.Gathered.Gathered, declared.head.Head.Head, Writer.Head.headIn}
-use Rattle.canonical.specs.Tidy.{someGives, settledGroup, tidy, tidyAll}
+use Rattle.canonical.specs.Tidy.{isOptional, someGives, settledGroup, tidy, tidyAll}
 use Rattle.canonical.specs.Writer.Tidied.{groupedBy, groupClosedBy, markedBy}
 use Rattle.canonical.specs.Writer.Keeps.{signByte, KeepsMembers}
 use Rattle.canonical.specs.Writer.Keeps.Laws.{keeps-closed}
 use Rattle.canonical.specs.Writer.Stack.{turned, stacked, treeWith, treesOn, HeadFits, HeadsFit}
-use Rattle.canonical.specs.Writer.Stack.Laws.{append-none}
 use Rattle.canonical.specs.Writer.Stack.Skip.{trees-more, some-node}
 use Rattle.canonical.specs.Writer.Recursion.{OnStack, TidiedAt, Walking, Looping, gatheredOf}
 use Rattle.canonical.specs.Writer.Recursion.Place.{drop-behind, mark-at}
@@ -104,7 +104,7 @@ module _ {x : Text} {old new : List ℕ} {p top place sign : ℕ} {g : Gathered}
   ends-ahead : drop place x ≡ code ")" ∷ behindGroup h
   ends-ahead = w .ahead ∙ ap (λ (l : Members Spelling). membersText l (h .group-sign) ++ (code ")" ∷ behindGroup h)) (walked-over h e)
 
-  mark-here : is x (code "?") (place + 1) ≡ not (isPlain (h .mark))
+  mark-here : is x (code "?") (place + 1) ≡ isOptional (h .mark)
   mark-here = mark-at x (place + 1) (h .mark) (h .stands .rest) (h .stands .stops) (drop-behind x (code ")" ∷ []) (behindGroup h) place ends-ahead)
 
   abbrev s : Sign
@@ -119,7 +119,7 @@ module _ {x : Text} {old new : List ℕ} {p top place sign : ℕ} {g : Gathered}
   abbrev closed : Tidied
   closed = groupClosedBy g (signByte s) (place + 1)
 
-  mark-is : is x (code "?") (closed .next) ≡ not (isPlain (h .mark))
+  mark-is : is x (code "?") (closed .next) ≡ isOptional (h .mark)
   mark-is = ap (is x (code "?")) (next-closed g (signByte s) (place + 1)) ∙ mark-here
 
   -- the text ends behind the mark

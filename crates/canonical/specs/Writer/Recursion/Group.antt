@@ -7,16 +7,16 @@ use lib.{Dec.T, Dec.eqb, ListN.length, ListN.drop, ListN.getD}
 use borrow.Author.Tests.{ne-eqb}
 use mir.Facts.{and-yes}
 use Rattle.fields.specs.Bytes.{Text, isLetter, isName}
-use Rattle.model.specs.{declared.rule.Sign.Sign, declared.rule.Mark.Mark, Fault.is}
+use Rattle.model.specs.{declared.rule.Sign.Sign, declared.rule.Mark.Mark}
 use Rattle.model.specs.declared.rule.Sign.the-variants.{None, Sequence, Choice, Interleaving}
 use Rattle.model.specs.Tree.{leaf, group, marked, Members, none, _▹_, size, nodes, membersWeight, SignFits, Formed, MembersFormed}
 use Rattle.model.specs.Syntax.{Spelling, Syntax, text, nodeText, membersText, moreText, countText, signText, markText, SpellingFormed}
+use Rattle.model.specs.Flatten.Append.{append-size, append-weight}
 use Rattle.canonical.specs.{declared.tidy.Gathered.Gathered}
 use Rattle.canonical.specs.Writer.Place.{Stops, TreeAt}
 use Rattle.canonical.specs.Writer.Tidied.{noMembers, signAfter, memberAfter}
 use Rattle.canonical.specs.Writer.Keeps.{signByte}
 use Rattle.canonical.specs.Writer.Keeps.Laws.{keeps-none}
-use Rattle.canonical.specs.Writer.Keeps.Member.{size-append, weight-append}
 use Rattle.canonical.specs.Writer.Recursion.{TidyReady, Looping}
 use Rattle.canonical.specs.Writer.Recursion.Place.{drop-behind, byte-at, byte-inside, atom-stands, group-splits}
 
@@ -203,12 +203,12 @@ module _ {x : Text} {old new : List ℕ} {p top place sign : ℕ} {g : Gathered}
 
     pub size-parts : size (h .members) ≡ size (h .walking .done) + suc (size (t .others))
     size-parts =
-        ap size (h .walking .parts) ∙ size-append (h .walking .done) (h .walking .left)
+        ap size (h .walking .parts) ∙ append-size (h .walking .done) (h .walking .left)
         ∙ ap (λ (l : Members Spelling). size (h .walking .done) + size l) (t .left-is)
 
     pub weight-parts : membersWeight 1 1 (h .members) ≡ membersWeight 1 1 (h .walking .done) + (nodes u + membersWeight 1 1 (t .others))
     weight-parts =
-        ap (membersWeight 1 1) (h .walking .parts) ∙ weight-append (h .walking .done) (h .walking .left)
+        ap (membersWeight 1 1) (h .walking .parts) ∙ append-weight 1 1 (h .walking .done) (h .walking .left)
         ∙ ap (λ (l : Members Spelling). membersWeight 1 1 (h .walking .done) + membersWeight 1 1 l) (t .left-is)
 
     -- the group's sign stands behind a member that is not the last

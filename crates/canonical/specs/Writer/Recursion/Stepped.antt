@@ -1,7 +1,7 @@
 -- One member more on the stack.
 use mathlib.Core.{Path._≡_, Path.refl, Path.sym, Path.ap, Path._∙_, Path.subst, Logic._⊎_, Logic.⊎-elim}
-use mathlib.Core.{Bool.Bool, Bool.true, Bool.false, Bool.cond, Bool.not, Bool._||_, Bool.true≢false, Bool.false≢true, List.List, List.[], List._∷_}
-use mathlib.Core.{List._++_, List.map, List.map-append}
+use mathlib.Core.{Bool.Bool, Bool.true, Bool.false, Bool.cond, Bool._&&_, Bool._||_, Bool.or-false, Bool.true≢false, Bool.false≢true}
+use mathlib.Core.{List.List, List.[], List._∷_, List.map, List.map-append}
 use Prim.Native.{Nat.ℕ, Nat.suc, Nat._+_, Nat._-_, Nat._≤_, Nat._<_}
 use native.Mathlib.Omega.{arith}
 use lib.{Dec.eqb, ListN.length, ListN.drop, ListN.set, ListN.length-set}
@@ -10,50 +10,31 @@ use borrow.Author.Tests.{eq-eqb}
 use Rattle.fields.specs.{Bytes.Text, Tests.by-test}
 use Rattle.model.specs.{declared.rule.Sign.Sign, declared.rule.Mark.Mark}
 use Rattle.model.specs.declared.rule.Mark.the-variants.{Plain, Optional}
-use Rattle.model.specs.Tree.{group, marked, Members, none, _▹_, nodes, membersWeight, isPlain}
-use Rattle.model.specs.Flatten.{_⧺_, nil, isNil, isChoice, merges, membersOf, withMember, gathered}
+use Rattle.model.specs.Tree.{marked, Members, none, _▹_, nodes, membersWeight}
+use Rattle.model.specs.Flatten.{_⧺_, nil, isChoice, merges, membersOf, gathered}
 use Rattle.model.specs.Syntax.{Spelling, Syntax, writtenNames}
 use Rattle.canonical.specs.{declared.tidy.Tidied.Tidied, declared.tidy.Gathered.Gathered}
-use Rattle.canonical.specs.Tidy.{stripped, gives, someGives, tidy, tidyAll}
+use Rattle.canonical.specs.Tidy.{isOptional, stripped, gives, someGives, tidy, tidyAll}
 use Rattle.canonical.specs.Writer.Tidied.{withMemberBy, keeps, StackedBy}
 use Rattle.canonical.specs.Writer.Keeps.{signByte, signCode, Proper, LeastAt, KeepsTree}
 use Rattle.canonical.specs.Writer.Keeps.Laws.{withMark, choice-byte}
 use Rattle.canonical.specs.Writer.Keeps.Member.{stripped-nil, stripped-some, stripped-members, stripped-nodes, signed, joins-merges, merged-nodes}
-use Rattle.canonical.specs.Writer.Keeps.Member.{weight-append, kept-marked}
+use Rattle.canonical.specs.Writer.Keeps.Member.{kept-marked}
+use Rattle.model.specs.Flatten.Append.{append-none, append-weight, gathered-append}
 use Rattle.canonical.specs.Writer.Stack.{stacked, markIf, treesOn, HeadsFit}
-use Rattle.canonical.specs.Writer.Stack.Laws.{append-none, stacked-append}
+use Rattle.canonical.specs.{Writer.Stack.Laws.stacked-append, Tidy.Append.tidy-append, Tidy.Append.gives-append}
 use Rattle.canonical.specs.Writer.Stack.Push.{push}
 use Rattle.canonical.specs.Writer.Recursion.{gatheredOf}
 
 -- Members one behind the other.
-pub append-assoc : (ts us ws : Members Spelling) → (ts ⧺ us) ⧺ ws ≡ ts ⧺ (us ⧺ ws)
-append-assoc none us ws = refl
-append-assoc (t ▹ ts) us ws = ap (λ (l : Members Spelling). t ▹ l) (append-assoc ts us ws)
-
-with-append : (s : Sign) (t : Syntax) (us ws : Members Spelling) → withMember s t (us ⧺ ws) ≡ withMember s t us ⧺ ws
-with-append s t us ws = by-test (merges s t) (λ e. rw e (sym (append-assoc (membersOf t) us ws))) (λ e. rw e)
-
-gathered-append : (s : Sign) (l m : List Syntax) → gathered s (l ++ m) ≡ gathered s l ⧺ gathered s m
-gathered-append s [] m = refl
-gathered-append s (t ∷ l) m =
-    by-test (isNil t)
-    (λ e. rw e (gathered-append s l m))
-    (λ e. rw (e, gathered-append s l m) (with-append s t (gathered s l) (gathered s m)))
-
-tidy-append : (ts us : Members Spelling) → tidyAll (ts ⧺ us) ≡ tidyAll ts ++ tidyAll us
-tidy-append none us = refl
-tidy-append (t ▹ ts) us = ap (λ (l : List Syntax). tidy t ∷ l) (tidy-append ts us)
-
 pub gathered-more : (s : Sign) (ts : Members Spelling) (u : Syntax)
     → gatheredOf s (ts ⧺ (u ▹ none)) ≡ gatheredOf s ts ⧺ gathered s (stripped s (tidy u) ∷ [])
 gathered-more s ts u = rw (tidy-append ts (u ▹ none), map-append) (gathered-append s (map (stripped s) (tidyAll ts)) (stripped s (tidy u) ∷ []))
 
-gives-append : (l : List Syntax) (t : Syntax) → someGives (l ++ (t ∷ [])) ≡ (someGives l || gives t)
-gives-append [] t = by-test (gives t) (λ e. rw e) (λ e. rw e)
-gives-append (u ∷ l) t = by-test (gives u) (λ e. rw e) (λ e. rw e (gives-append l t))
-
 pub given-more : (ts : Members Spelling) (u : Syntax) → someGives (tidyAll (ts ⧺ (u ▹ none))) ≡ (someGives (tidyAll ts) || gives (tidy u))
-given-more ts u = ap someGives (tidy-append ts (u ▹ none)) ∙ gives-append (tidyAll ts) (tidy u)
+given-more ts u =
+    ap someGives (tidy-append ts (u ▹ none)) ∙ gives-append (tidyAll ts) (tidy u ∷ [])
+    ∙ ap (λ (b : Bool). someGives (tidyAll ts) || b) (or-false (gives (tidy u)))
 
 -- a number on top of a stack that grows down
 pub on-top : (stack : List ℕ) (top w : ℕ) → 0 < top → top ≤ length stack → drop (top - 1) (set stack (top - 1) w) ≡ w ∷ drop top stack
@@ -72,7 +53,7 @@ pub record Stepped (x : Text) (us : Members Spelling) (l : List Syntax) (old new
 abbrev markIn : Syntax → Mark
 markIn (marked m n) = m
 
-pub mark-kept : (b : Bool) (m : Mark) → b ≡ not (isPlain m) → markIf b ≡ m
+pub mark-kept : (b : Bool) (m : Mark) → b ≡ isOptional m → markIf b ≡ m
 mark-kept true Plain e = absurd (true≢false e)
 mark-kept true Optional e = refl
 mark-kept false Plain e = refl
@@ -82,7 +63,7 @@ mark-kept false Optional e = absurd (false≢true e)
 head-tree : {x : Text} (s : Sign) (u : Syntax) {t : Tidied} → KeepsTree x u t → withMark (markIf (keeps (signByte s) t)) u ≡ stripped s u
 head-tree s (marked m n) {t} k =
     ap (λ (j : Mark). marked j n)
-    (mark-kept (keeps (signByte s) t) (cond (isChoice s) Plain m) (rw (k .marked-is, choice-byte s) (kept-marked (isChoice s) m)))
+    (mark-kept (keeps (signByte s) t) (cond (isChoice s && isOptional m) Plain m) (rw (k .marked-is, choice-byte s) (kept-marked (isChoice s) m)))
 
 -- the members of u stand on those of the group, which are us
 pub record Beside (x : Text) (us : Members Spelling) (l : List Syntax) (stack : List ℕ) (u : Syntax) (top end : ℕ) : Type 0 where
@@ -117,7 +98,7 @@ module _ (x : Text) (s : Sign) (us : Members Spelling) (g : Gathered) (t : Tidie
       rw (stripped-some s u k p, e, append-none (membersOf (stripped s u)), stripped-members s u, z, j)
       record {
         entries = ap length n;
-        top-is = omega (arith, h .below, merged-nodes s u e, weight-append us (membersOf u));
+        top-is = omega (arith, h .below, merged-nodes s u e, append-weight 1 1 us (membersOf u));
         trees-are = rw n (h .trees ∙ sym (stacked-append us (membersOf u) l));
         heads = rw n (h .known);
       }
@@ -133,7 +114,7 @@ module _ (x : Text) (s : Sign) (us : Members Spelling) (g : Gathered) (t : Tidie
       rw (stripped-some s u k p, e, z, j)
       record {
         entries = ap length new-is ∙ length-set mid (t .top - 1) w;
-        top-is = omega (arith, h .below, stripped-nodes s u, weight-append us (stripped s u ▹ none));
+        top-is = omega (arith, h .below, stripped-nodes s u, append-weight 1 1 us (stripped s u ▹ none));
         trees-are =
             ap (treesOn x) d ∙ q .0 ∙ ap (λ (y : Syntax). y ∷ stacked us l) (head-tree s u k) ∙ sym (stacked-append us (stripped s u ▹ none) l);
         heads = subst (HeadsFit x) (sym d) (q .1);

@@ -1,17 +1,17 @@
 -- A tree that is an atom; a group's members, one by one; the group at its end.
 use mathlib.Core.{Path._≡_, Path.refl, Path.sym, Path.ap, Path._∙_, Path.subst, Logic.inr}
-use mathlib.Core.{Bool.Bool, Bool.true, Bool.false, Bool.cond, Bool.not, List.List}
+use mathlib.Core.{Bool.Bool, Bool.true, Bool.false, Bool.cond, List.List}
 use Prim.Native.{Nat.ℕ, Nat._+_, Nat._-_, Char.code}
 use native.Mathlib.Omega.{arith}
 use lib.{ListN.length, ListN.drop, ListN.length-append}
 use Rattle.fields.specs.{Bytes.Text}
 use Rattle.model.specs.{declared.rule.Mark.Mark, Fault.is}
 use Rattle.model.specs.declared.rule.Mark.the-variants.{Plain, Optional}
-use Rattle.model.specs.Tree.{leaf, group, marked, Members, nodes, isPlain}
+use Rattle.model.specs.Tree.{leaf, group, marked, Members, nodes}
 use Rattle.model.specs.Flatten.{membersOf}
 use Rattle.model.specs.Syntax.{Spelling, Syntax, nodeText, markText}
 use Rattle.canonical.specs.{declared.tidy.Tidied.Tidied}
-use Rattle.canonical.specs.Tidy.{fromZero, tidyAtom, marking, tidyNode}
+use Rattle.canonical.specs.Tidy.{isOptional, fromZero, tidyAtom, marking, tidyNode}
 use Rattle.canonical.specs.Tidy.Form.{count-not-zero}
 use Rattle.canonical.specs.Writer.Place.{AtomAt, TreeAt}
 use Rattle.canonical.specs.Writer.Place.Laws.{at-name, at-end, atom-inside, at-atom, at-zero, at-piece}
@@ -23,7 +23,7 @@ use Rattle.canonical.specs.Writer.Recursion.{OnStack, TidiedAt}
 use Rattle.canonical.specs.Writer.Recursion.Place.{atom-stands, atom-mark}
 
 -- an atom without its mark
-zero-mark : (b : Bool) → b ≡ not (isPlain (cond b Optional Plain))
+zero-mark : (b : Bool) → b ≡ isOptional (cond b Optional Plain)
 zero-mark true = refl
 zero-mark false = refl
 
@@ -52,16 +52,16 @@ mark-members Plain u = refl
 mark-members Optional (marked k (leaf a)) = refl
 mark-members Optional (marked k (group s ts)) = refl
 
-pub keeps-mark : {x : Text} (m : Mark) (u : Syntax) {t : Tidied} → is x (code "?") (t .next) ≡ not (isPlain m) → KeepsTree x u t
+pub keeps-mark : {x : Text} (m : Mark) (u : Syntax) {t : Tidied} → is x (code "?") (t .next) ≡ isOptional m → KeepsTree x u t
     → KeepsTree x (marking m u) (markedBy x t)
 keeps-mark Plain u e k = rw e k
 keeps-mark Optional u {t} e k = rw e (keeps-placed (t .top) (t .next + 1) (keeps-optional u k))
 
-pub next-mark : (x : Text) (m : Mark) (t : Tidied) → is x (code "?") (t .next) ≡ not (isPlain m) → markedBy x t .next ≡ t .next + length (markText m)
+pub next-mark : (x : Text) (m : Mark) (t : Tidied) → is x (code "?") (t .next) ≡ isOptional m → markedBy x t .next ≡ t .next + length (markText m)
 next-mark x Plain t e = rw e (omega arith)
 next-mark x Optional t e = rw e refl
 
-pub top-mark : (x : Text) (m : Mark) (t : Tidied) → is x (code "?") (t .next) ≡ not (isPlain m) → markedBy x t .top ≡ t .top
+pub top-mark : (x : Text) (m : Mark) (t : Tidied) → is x (code "?") (t .next) ≡ isOptional m → markedBy x t .top ≡ t .top
 top-mark x Plain t e = rw e refl
 top-mark x Optional t e = rw e refl
 
@@ -80,7 +80,7 @@ pub atom-tidied : {x : Text} {p : ℕ} {m : Mark} {a : Spelling} (stack : List �
 atom-tidied {x} {p} {m} {a} stack top h i =
     let t = atomBy x p top in
     let u = tidyNode (leaf a) in
-    let e : is x (code "?") (t .next) ≡ not (isPlain m) = ap (is x (code "?")) (at-end (atom-stands h)) ∙ atom-mark h in
+    let e : is x (code "?") (t .next) ≡ isOptional m = ap (is x (code "?")) (at-end (atom-stands h)) ∙ atom-mark h in
     record {
       keeps = keeps-mark m u e (keeps-atom top (atom-stands h));
       next-is = next-mark x m t e ∙ omega (arith, at-end (atom-stands h), length-append (nodeText (leaf a)) (markText m));

@@ -11,15 +11,15 @@ use Rattle.model.specs.Tree.{leaf, group, marked, Members, none, _▹_, size, n
 use Rattle.model.specs.Flatten.{_⧺_, isNil, merges, membersOf, gathered}
 use Rattle.model.specs.Flatten.Merges.{merged}
 use Rattle.model.specs.Syntax.{Spelling, Syntax, text}
+use Rattle.model.specs.Flatten.Append.{append-none, append-thrice, append-weight}
 use Rattle.canonical.specs.{declared.tidy.Tidied.Tidied, declared.tidy.Gathered.Gathered, Tidy.stripped, Tidy.tidy}
 use Rattle.canonical.specs.Writer.Tidied.{FitsOn, withMemberBy, StackedBy, signAfter, memberAfter}
 use Rattle.canonical.specs.Writer.Keeps.{signByte, signCode, Proper, KeepsTree}
-use Rattle.canonical.specs.Writer.Keeps.Member.{weight-append, stripped-nil, stripped-some, stripped-nodes, keeps-member}
+use Rattle.canonical.specs.Writer.Keeps.Member.{stripped-nil, stripped-some, stripped-nodes, keeps-member}
 use Rattle.canonical.specs.Writer.Stack.{stacked, treesOn}
-use Rattle.canonical.specs.Writer.Stack.Laws.{append-none}
 use Rattle.canonical.specs.Writer.Recursion.{TidiedAt, Looping, gatheredOf}
 use Rattle.canonical.specs.Writer.Recursion.Place.{drop-behind}
-use Rattle.canonical.specs.Writer.Recursion.Stepped.{append-assoc, gathered-more, given-more, Stepped, stepped}
+use Rattle.canonical.specs.Writer.Recursion.Stepped.{gathered-more, given-more, Stepped, stepped}
 use Rattle.canonical.specs.Writer.Recursion.Group.{Turn, PastMember, behind-member, behindGroup, size-parts, weight-parts, more-signed, last-signed}
 use Rattle.canonical.specs.Writer.Recursion.Group.{splits-here, sign-some, tree-begins, member-stands, formed-others}
 
@@ -176,7 +176,7 @@ module _ {x : Text} {old new : List ℕ} {p top place sign : ℕ} {g : Gathered}
                 done = done ⧺ (t .member ▹ none);
                 left = t .others;
                 parts =
-                    w .parts ∙ ap (λ (l : Members Spelling). done ⧺ l) (t .left-is) ∙ sym (append-assoc done (t .member ▹ none) (t .others));
+                    w .parts ∙ ap (λ (l : Members Spelling). done ⧺ l) (t .left-is) ∙ sym (append-thrice done (t .member ▹ none) (t .others));
                 formed = formed-others h t;
                 ahead = behind .ahead;
                 sign-is = inr refl;
@@ -184,8 +184,8 @@ module _ {x : Text} {old new : List ℕ} {p top place sign : ℕ} {g : Gathered}
                 few =
                     rw m (omega (
                       arith,
-                      weight-append (gatheredOf s done) (gathered s (stripped s (tidy (t .member)) ∷ [])),
-                      weight-append done (t .member ▹ none),
+                      append-weight 1 1 (gatheredOf s done) (gathered s (stripped s (tidy (t .member)) ∷ [])),
+                      append-weight 1 1 done (t .member ▹ none),
                       one-weight s (stripped s (tidy (t .member))),
                       stripped-nodes s (tidy (t .member)),
                       w .few,

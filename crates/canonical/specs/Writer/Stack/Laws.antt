@@ -4,7 +4,7 @@ use Prim.Native.Nat.{ℕ, suc, _+_}
 use native.Mathlib.{Omega.arith, Nat.add-zero, Nat.zero-add}
 use lib.ListN.{length, take, drop}
 use Rattle.model.specs.Tree.{Members, none, _▹_, size}
-use Rattle.model.specs.Flatten.{_⧺_}
+use Rattle.model.specs.Flatten.{_⧺_, Append.append-none}
 use Rattle.model.specs.Syntax.{Spelling, Syntax}
 use Rattle.canonical.specs.Writer.Stack.{turned, stacked}
 
@@ -23,10 +23,6 @@ drop-stacked none n l = rw zero-add
 drop-stacked (t ▹ ts) n l =
     let e : suc (size ts) + n ≡ size ts + suc n = omega arith in
     ap (λ k. drop k (stacked ts (t ∷ l))) e ∙ drop-stacked ts (suc n) (t ∷ l)
-
-pub append-none : (ts : Members Spelling) → ts ⧺ none ≡ ts
-append-none none = refl
-append-none (t ▹ ts) = ap (λ (us : Members Spelling). t ▹ us) (append-none ts)
 
 turned-stacked : (ts : Members Spelling) (l : List Syntax) (us : Members Spelling) → turned (stacked ts l) us ≡ turned l (ts ⧺ us)
 turned-stacked none l us = refl

@@ -8,7 +8,7 @@ use borrow.Author.Tests.{eq-eqb}
 use Rattle.fields.specs.Bytes.{Text}
 use Rattle.model.specs.{declared.rule.Sign.Sign, Fault.nameFrom}
 use Rattle.model.specs.declared.rule.Sign.the-variants.{None, Sequence, Choice, Interleaving}
-use Rattle.model.specs.Tree.{leaf, group, marked, size, nodes}
+use Rattle.model.specs.Tree.{leaf, group, marked, nodes}
 use Rattle.model.specs.Flatten.{membersOf}
 use Rattle.model.specs.Syntax.{Spelling, Syntax, nodeText, signText, writtenNames}
 use Rattle.judge.specs.Packed.{signBy}

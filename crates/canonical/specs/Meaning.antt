@@ -1,4 +1,4 @@
--- The type that an atom as written means, by a numbering of the names.
+-- What an atom as written means, by a numbering of the names; `typeWith` (model/Model) takes it to a tree.
 use Prim.Native.Nat.{ℕ}
 use Rattle.fields.specs.Bytes.{Text}
 use Rattle.model.specs.{Types.Ty, Model.countsOf, Model.countedType, Syntax.Spelling}
