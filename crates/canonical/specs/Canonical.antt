@@ -5,6 +5,7 @@ pub mod Names
 pub mod Fixed
 pub mod Depth
 pub mod Accepted
+pub mod Held
 pub mod Reply
 use mathlib.Core.{Path._≡_, Bool.cond, List.List, List._++_}
 use Prim.Native.Nat.{ℕ, _≤_, _<_}

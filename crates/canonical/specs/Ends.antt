@@ -9,7 +9,7 @@ use Rattle.canonical.specs.{Meaning.meaning, Tidy.treeNullable, Tidy.tid
 use Rattle.canonical.specs.{Neat.Neat, Neat.Ordered, Order.Sorted.order-ordered}
 use Rattle.canonical.specs.Canonical.{canonical, canonicalText, HoldsNames, WriteReply, wrote, writeReply, Writes}
 use Rattle.canonical.specs.Canonical.{Rows.canonical-rows, Fixed.canonical-flat, Fixed.canonical-twice, Fixed.canonical-neat, Depth.canonical-depth}
-use Rattle.canonical.specs.Canonical.{Accepted.canonical-nil, Accepted.canonical-accepted, Reply.held-same, Reply.writes-is, Reply.again}
+use Rattle.canonical.specs.Canonical.{Accepted.canonical-nil, Accepted.canonical-accepted, Held.held-same, Reply.writes-is, Reply.again}
 
 -- Document 02, W4: the canonical text of an accepted text is accepted, as the canonical tree, and that has the same rows of names as written.
 pub text-accepted : (x : Text) (t : Syntax) → Answers x (accepted t) → Answers (canonicalText t) (accepted (canonical t))

@@ -8,8 +8,8 @@ use Rattle.judge.specs.{declared.verdict.FirstFault.FirstFault, FirstFault.Chil
 use Rattle.judge.specs.Ends.{children-next-exactly}
 use Rattle.desk.specs.{Desk.replyNumber, Desk.verdictNumber, Desk.deskAnswer, Desk.refusalBase, Desk.deskNext, Desk.Laws.answer-exactly}
 use Rattle.desk.specs.{Desk.basedNumber, Desk.faultNumber, Desk.deskFault, Desk.PlaceFits, Desk.Laws.fault-exactly}
-use Rattle.canonical.specs.{Canonical.WriteReply, Canonical.wrote, Canonical.writeReply, Canonical.Writes, Ends.writes-exactly}
-use Rattle.desk.specs.{Desk.deskCanonical, Desk.Laws.canonical-told}
+use Rattle.canonical.specs.Canonical.{WriteReply, wrote, writeReply, Writes}
+use Rattle.desk.specs.{Desk.writeReplyNumber, Desk.deskCanonical, Desk.Laws.canonical-exactly, Desk.Laws.canonical-told}
 use Rattle.desk.specs.{Desk.Laws.next-told, Child.Part, Child.Finds, Child.found, Child.Laws.finds-exactly}
 
 -- `desk_judge`: the number is that of the one reply that the meaning gives
@@ -29,10 +29,10 @@ pub desk-fault-exactly : (m c : Text) (r : Reply FirstFault)
     → ((deskFault m c ≡ basedNumber faultNumber r) × PlaceFits r) ↔ ChildrenFaultStands m c r
 desk-fault-exactly = fault-exactly
 
--- `desk_canonical`: its number is `deskCanonical`, that of this one reply, and the buffer that it is lent holds the reply's text. Below 2,147,483,648 it is
--- the length of a text, from there on a refusal.
-pub desk-canonical-exactly : (m : Text) (k : ℕ) (r : WriteReply) → Writes m k r ↔ (r ≡ writeReply m k)
-desk-canonical-exactly = writes-exactly
+-- `desk_canonical`: the number is that of the one reply by the table, and the buffer that it is lent holds the reply's text. Below 2,147,483,648 it is the
+-- length of a text, from there on a refusal.
+pub desk-canonical-exactly : (m : Text) (k n : ℕ) → (deskCanonical m k ≡ n) ↔ ((r : WriteReply) × Writes m k r × (writeReplyNumber r ≡ n))
+desk-canonical-exactly = canonical-exactly
 
 pub desk-canonical-told : (m : Text) (k : ℕ) → (deskCanonical m k < refusalBase) ↔ ((y : Text) × (writeReply m k ≡ wrote y))
 desk-canonical-told = canonical-told

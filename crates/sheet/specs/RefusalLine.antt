@@ -26,11 +26,15 @@ listedSource (SheetRefused f n) = Source.Sheet
 listedSource (CueRefused f n) = Source.Cues
 listedSource TooLong = Source.Listing
 
+-- what is to be written is longer than the buffer
+abbrev pub tooLong : ℕ
+tooLong = 50
+
 abbrev pub listedNumber : Listed → ℕ
 listedNumber (Written n) = 0
 listedNumber (SheetRefused f n) = sheetNumber f
 listedNumber (CueRefused f n) = cueNumber f
-listedNumber TooLong = 50
+listedNumber TooLong = tooLong
 
 abbrev pub listedLine : Listed → ℕ
 listedLine (Written n) = 0

@@ -14,6 +14,9 @@ use fields::fault::cue_number;
 // Enough for every line: 16 bytes up to the number, 10 digits, a tab, 20 digits, a line feed.
 pub const REFUSAL_SIZE: usize = 48;
 
+// The number of what is longer than the buffer that it is to be written into.
+pub const TOO_LONG: u32 = 50;
+
 // What is refused.
 pub enum Source {
     Sheet,
@@ -50,7 +53,7 @@ pub fn listed_refusal(listed: Listed) -> Refusal
         },
         Listed::TooLong => Refusal {
             source: Source::Listing,
-            number: 50,
+            number: TOO_LONG,
             line: 0,
         },
     }

@@ -10,7 +10,7 @@ use Rattle.fields.specs.{Bytes.Text, Bytes.bytes, Split.lineFeed, Split.tab, Sp
 use Rattle.model.specs.{Answer.answer, Fault.Answer, Fault.Answers, Fault.refused, Fault.accepted, Syntax.Syntax, Flatten.nil}
 use Rattle.sheet.specs.{declared.sheet.SheetOutcome.SheetOutcome, declared.refusal.Refusal.Refusal, declared.refusal.Source.Source}
 use Rattle.sheet.specs.declared.sheet.SheetOutcome.the-variants.{Read, Refused as SheetRefused}
-use Rattle.sheet.specs.{Sheet.kind, Sheet.model, Sheet.sheetNumber, Sheet.sheetOutcome, Refusal.SheetStands, Refusal.sheetRank}
+use Rattle.sheet.specs.{Sheet.kind, Sheet.model, Sheet.sheetNumber, Sheet.sheetOutcome, Refusal.SheetStands, Refusal.sheetRank, RefusalLine.tooLong}
 use Rattle.canonical.specs.Canonical.{canonical, canonicalText, HoldsNames}
 use Rattle.tidying.specs.declared.write.SheetTidied.{SheetTidied, the-variants.Written, the-variants.Refused, the-variants.TooLong}
 
@@ -64,7 +64,7 @@ bufferTidied TooLong new old = old
 abbrev pub tidiedNumber : SheetTidied → ℕ
 tidiedNumber (Written n) = 0
 tidiedNumber (Refused f n) = sheetNumber f
-tidiedNumber TooLong = 50
+tidiedNumber TooLong = tooLong
 
 abbrev pub tidiedLine : SheetTidied → ℕ
 tidiedLine (Written n) = 0

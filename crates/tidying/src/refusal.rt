@@ -6,6 +6,7 @@ use crate::write::SheetTidied;
 use sheet::number::sheet_number;
 use sheet::refusal::Refusal;
 use sheet::refusal::Source;
+use sheet::refusal::TOO_LONG;
 
 // Of a sheet that was tidied, number and line are 0.
 pub fn tidied_refusal(tidied: SheetTidied) -> Refusal
@@ -24,7 +25,7 @@ pub fn tidied_refusal(tidied: SheetTidied) -> Refusal
         },
         SheetTidied::TooLong => Refusal {
             source: Source::Sheet,
-            number: 50,
+            number: TOO_LONG,
             line: 0,
         },
     }

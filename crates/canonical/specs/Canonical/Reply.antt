@@ -1,23 +1,16 @@
 -- There is one reply to a text, and only one; and a text that was written is written again.
-use mathlib.Core.{Path._≡_, Path.refl, Path.sym, Path.ap, Path._∙_, Path.subst, Logic._↔_, Logic.by-cases, List.List}
+use mathlib.Core.{Path._≡_, Path.refl, Path.sym, Path.ap, Path._∙_, Path.subst, Logic._↔_, Logic.by-cases}
 use Prim.Native.Nat.{ℕ, _≤_, _<_}
 use native.Mathlib.{Decide.decLe, Omega.arith}
 use lib.ListN.{length}
 use borrow.Author.Tests.{le-leb, lt-leb}
 use Rattle.fields.specs.{Bytes.Text, Limits.maxText}
-use Rattle.model.specs.{Answer.answer, Answer.answered, Answer.answer-is, Syntax.Syntax, Syntax.writtenNames}
+use Rattle.model.specs.{Answer.answer, Answer.answered, Answer.answer-is}
 use Rattle.model.specs.{Fault.Answer, Fault.Answers, Fault.refused, Fault.accepted, Accept.Laws.accepted-within, Accept.Length.text-fits, Syntax.text}
-use Rattle.canonical.specs.{Order.Smallest.occurs-here, Order.Smallest.occurs-in}
 use Rattle.canonical.specs.declared.fault.WriteFault.the-variants.{Model, LongText}
-use Rattle.canonical.specs.Canonical.{canonical, canonicalText, HoldsNames, WriteReply, wrote, refusedWrite, writeFitting, writeBy, writeReply, Writes}
-use Rattle.canonical.specs.Canonical.{Fixed.canonical-twice, Names.canonical-held, Accepted.canonical-accepted, Accepted.canonical-names}
+use Rattle.canonical.specs.Canonical.{canonical, canonicalText, WriteReply, wrote, refusedWrite, writeFitting, writeBy, writeReply, Writes}
+use Rattle.canonical.specs.Canonical.{Fixed.canonical-twice, Accepted.canonical-accepted}
 
-pub held-same : (x : Text) (t : Syntax) → Answers x (accepted t) → (w : List Text) → HoldsNames (canonical t) w ↔ HoldsNames t w
-held-same x t h =
-    canonical-held t (accepted-within x t h .apart) (accepted-within (canonicalText t) (canonical t) (canonical-accepted x t h) .apart)
-    (λ a m. occurs-in a (writtenNames t) (subst (λ n. 1 ≤ n) (canonical-names t a) (occurs-here a (writtenNames (canonical t)) m)))
-
--- The table.
 fits : (y : Text) (k : ℕ) → length y ≤ k → wrote y ≡ writeFitting y k
 fits y k h = rw (le-leb (length y) k h)
 

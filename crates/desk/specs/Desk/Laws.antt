@@ -29,7 +29,8 @@ use Rattle.desk.specs.Desk.{writeReplyNumber, deskCanonical}
 use Rattle.canonical.specs.{declared.fault.WriteFault.WriteFault, Canonical.Reply.written-short}
 use Rattle.canonical.specs.declared.fault.WriteFault.the-variants.{Model, LongText}
 use Rattle.canonical.specs.declared.write.Written.the-variants.{Length, Refused as NotWritten}
-use Rattle.canonical.specs.Canonical.{WriteReply, wrote, refusedWrite, writeReply, writtenOf, writeNumber}
+use Rattle.canonical.specs.Canonical.{WriteReply, wrote, refusedWrite, writeReply, writtenOf, writeNumber, Writes}
+use Rattle.canonical.specs.Ends.{writes-exactly}
 
 -- those of the model text are 10 to 19, those of the children text 30 to 37, the judge's own below 47, verdicts below 3
 pub model-under : (f : ModelFault) → (10 ≤ modelNumber f) × (modelNumber f < 20)
@@ -225,6 +226,12 @@ module _ (m c : Text) where
 pub write-under : (f : WriteFault) → writeNumber f < 52
 write-under (Model f) = omega (arith, model-under f)
 write-under LongText = omega arith
+
+pub canonical-exactly : (m : Text) (k n : ℕ) → (deskCanonical m k ≡ n) ↔ ((r : WriteReply) × Writes m k r × (writeReplyNumber r ≡ n))
+canonical-exactly m k n = (
+  λ e. (writeReply m k, writes-exactly m k (writeReply m k) .1 refl, e),
+  λ (r, h, e). ap writeReplyNumber (sym (writes-exactly m k r .0 h)) ∙ e,
+)
 
 pub canonical-told : (m : Text) (k : ℕ) → (deskCanonical m k < refusalBase) ↔ ((y : Text) × (writeReply m k ≡ wrote y))
 canonical-told m k = told (writeReply m k) refl

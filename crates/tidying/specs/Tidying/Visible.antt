@@ -3,10 +3,10 @@ use mathlib.Core.{Path._≡_, Path.refl, Bool.Bool, Bool.false, List.[], List._�
 use Prim.Native.{Nat.ℕ, Nat._≤_, Char.code}
 use native.Mathlib.Omega.{arith}
 use lib.Dec.{T, ltb, eqb}
-use mir.Facts.{and-yes, yes-and}
+use mir.Facts.{and-yes}
 use borrow.Author.Tests.{ltb-true, ltb-false, lt-leb, eq-eqb, ne-eqb, not-true}
-use Rattle.fields.specs.{Tests.by-test, Bytes.Text, Bytes.bytes, Bytes.isLetter, Bytes.isDigit, Bytes.isInner, Bytes.isName, Bytes.isNumeral, Bytes.all}
-use Rattle.fields.specs.{Bytes.Laws.T-true, Bytes.Laws.letter-inner, Split.split, Split.other}
+use Rattle.fields.specs.{Tests.by-test, Bytes.Text, Bytes.bytes, Bytes.isDigit, Bytes.isInner, Bytes.isName, Bytes.isNumeral, Bytes.all}
+use Rattle.fields.specs.{Bytes.Laws.T-true, Split.split, Split.other}
 use Rattle.fields.specs.Bytes.Runs.{digit-inner, all-map, all-append, numeral-digits}
 use Rattle.model.specs.declared.rule.{Sign.Sign, Mark.Mark}
 use Rattle.model.specs.declared.rule.Sign.the-variants.{None, Sequence, Choice, Interleaving}
@@ -14,6 +14,7 @@ use Rattle.model.specs.declared.rule.Mark.the-variants.{Plain, Optional}
 use Rattle.model.specs.Tree.{Node, leaf, group, marked, Members, none, _▹_, NodeFormed, Formed, MembersFormed}
 use Rattle.model.specs.Syntax.{Count, unwritten, between, onward, Spelling, Syntax, CountFormed, SpellingFormed, countText, signText, markText}
 use Rattle.model.specs.Syntax.{nodeText, text, membersText, moreText}
+use Rattle.canonical.specs.Writer.Place.Laws.{name-inner}
 
 -- above the space
 abbrev visible : ℕ → Bool
@@ -33,10 +34,7 @@ numeral-visible : (n : Text) → T (isNumeral n) → Visible n
 numeral-visible n h = all-map isDigit visible (λ b d. inner-visible b (digit-inner b d)) n (numeral-digits n h)
 
 pub name-visible : (n : Text) → T (isName n) → Visible n
-name-visible [] h = absurd h
-name-visible (b ∷ n) h =
-    let q = and-yes (isLetter b) (all isInner n) h in
-    all-map isInner visible inner-visible (b ∷ n) (yes-and (isInner b) (all isInner n) (letter-inner b (q .0)) (q .1))
+name-visible n h = all-map isInner visible inner-visible n (name-inner n h)
 
 count-visible : (c : Count) → CountFormed c → Visible (countText c)
 count-visible unwritten h = tt

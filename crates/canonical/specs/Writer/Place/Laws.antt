@@ -13,6 +13,7 @@ use Rattle.fields.specs.Bytes.{Text, isLetter, isInner, all, isName, front}
 use Rattle.fields.specs.Bytes.Laws.{letter-inner}
 use Rattle.fields.specs.Bytes.Runs.{stops, front-stops}
 use Rattle.model.specs.{Fault.nameFrom, Fault.is, declared.rule.Mark.the-variants.Plain, Tree.leaf, Tree.marked}
+use Rattle.model.specs.Accept.Length.{name-some}
 use Rattle.model.specs.Syntax.{Count, unwritten, between, onward, countText, Spelling, nodeText, Spells}
 use Rattle.model.specs.Syntax.{Machine.run, Machine.start, Machine.result, Complete.complete}
 use Rattle.canonical.specs.Tidy.{fromZero, tidyCount, tidyAtom}
@@ -21,15 +22,11 @@ use Rattle.canonical.specs.Writer.Place.{behindCount, atomEnd, zeroAt, k
 use Rattle.canonical.specs.Writer.Place.Ends.{AtomEnds, KeptEnds, zero-by, kept-by, piece-by, piece-short}
 use Rattle.canonical.specs.Writer.Place.Counts.{count-end, same, zero-count, isOne, one-count, tidy-one, tidy-text}
 
-name-inner : (n : Text) → T (isName n) → T (all isInner n)
+pub name-inner : (n : Text) → T (isName n) → T (all isInner n)
 name-inner [] h = absurd h
 name-inner (b ∷ n) h =
     let q = and-yes (isLetter b) (all isInner n) h in
     yes-and (isInner b) (all isInner n) (letter-inner b (q .0)) (q .1)
-
-name-some : (n : Text) → T (isName n) → 0 < length n
-name-some [] h = absurd h
-name-some (b ∷ n) h = omega arith
 
 free-stops : (w : Text) → Free w → T (stops isInner w)
 free-stops [] g = tt
