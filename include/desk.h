@@ -69,7 +69,7 @@
    DESK_REFUSED + n   nothing is written: n is a refusal from 10 to 19 above, else
                   51  the text is longer than the buffer
 
-   The model is flattened as above, and in the same course, from the inside out: `[1..1]` is left
+   The model is flattened as above, and on the way, from the inside out: `[1..1]` is left
    out, `[0..1]` is written `?`, and `[0..n]` is written `[1..n]?`; a `?` on a member of a choice
    moves to the choice; and a group that holds the empty row without its `?` loses it, before it is
    asked whether the group joins another. Then the members of every `|` and `&` are put in the order

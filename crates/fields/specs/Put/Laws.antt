@@ -47,13 +47,6 @@ put-one old at b h =
       text-is = set-split old at b h ∙ ap (λ n. take at old ++ (b ∷ drop n old)) (sym (add-one at));
     }
 
--- what a loop that copies byte by byte ends in
-pub put-whole : {old new : Text} {at : ℕ} {s : Text} (i : ℕ) → i ≤ length s → length s ≤ i → at + length s ≤ length old → new ≡ paste old at s i
-    → Put old new at s (at + i)
-put-whole {old} {new} {at} {s} i h k f e =
-    let n : i ≡ length s = omega arith in
-    record { fits = f; end-is = omega arith; text-is = e ∙ rw (n, take-length s) (append-assoc (take at old) s (drop (at + length s) old)) }
-
 -- what the loop of `put` ends in
 pub put-done : (old new s : Text) (at start count : ℕ) → start ≡ putStart old at → count ≡ putCount old at s → new ≡ paste old start s count
     → (start + count ≡ putEnd old at s) × (new ≡ putAt old at s)

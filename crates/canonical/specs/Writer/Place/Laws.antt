@@ -129,6 +129,3 @@ module _ {x : Text} {p : ℕ} {a : Spelling} (h : AtomAt x p a) where
 
   pub at-piece : pieceAt x p ≡ nodeText (leaf (tidyAtom a))
   at-piece = by-test (isOne (a .count)) piece-bare piece-whole
-
-pub atom-once : {x : Text} {p : ℕ} {a b : Spelling} → AtomAt x p a → AtomAt x p b → a ≡ b
-atom-once h k = sym (at-atom h) ∙ at-atom k

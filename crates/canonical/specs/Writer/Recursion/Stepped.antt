@@ -50,9 +50,6 @@ pub record Stepped (x : Text) (us : Members Spelling) (l : List Syntax) (old new
   pub trees-are : treesOn x (drop end new) ≡ stacked us l
   pub heads : HeadsFit x (drop end new)
 
-abbrev markIn : Syntax → Mark
-markIn (marked m n) = m
-
 pub mark-kept : (b : Bool) (m : Mark) → b ≡ isOptional m → markIf b ≡ m
 mark-kept true Plain e = absurd (true≢false e)
 mark-kept true Optional e = refl
