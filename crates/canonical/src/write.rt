@@ -21,7 +21,7 @@ use crate::order::members;
 use crate::tidy::head_of;
 use crate::tidy::tidy;
 use judge::reading::Outcome;
-use judge::reading::read_model;
+use judge::reading::model_outcome;
 use model::rule::MAX_NODES;
 
 // The length of the text that was written, or why there is none, and the place.
@@ -151,9 +151,7 @@ pub fn write_model(text: &[u8], buffer: &mut [u8]) -> Written
     ensures { λ r. ⌜ r ≡ writtenOf (writeReply (now (text .entry)) (length (now (buffer .entry)))) ⌝ }
     ensures { λ r. ⌜ now (buffer .exit) ≡ bufferWritten (writeReply (now (text .entry)) (length (now (buffer .entry)))) (now (buffer .entry)) ⌝ }
 {
-    let reading = read_model(text);
-    let outcome = reading.outcome;
-    match outcome {
+    match model_outcome(text) {
         Outcome::Refused(f, p) => Written::Refused(WriteFault::Model(f), p),
         Outcome::Read => write_accepted(text, buffer),
     }

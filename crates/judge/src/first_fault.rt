@@ -39,7 +39,7 @@ pub fn search_children(model: &[u8], children: &[u8]) -> ChildrenSearched
     match read_children(model, children, &mut words, &mut seen) {
         ChildrenRead::Both(_) => ChildrenSearched::Found(FirstFault::Nothing),
         ChildrenRead::Faulty(p) => ChildrenSearched::Found(FirstFault::At(p)),
-        ChildrenRead::ModelRefused(f) => ChildrenSearched::ModelRefused(f),
+        ChildrenRead::ModelRefused(f, _) => ChildrenSearched::ModelRefused(f),
         ChildrenRead::ChildrenRefused(f) => ChildrenSearched::ChildrenRefused(f),
     }
 }

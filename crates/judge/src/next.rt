@@ -175,7 +175,7 @@ pub fn next_children(model: &[u8], children: &[u8], row: &mut [u16]) -> Children
             ChildrenNext::Next(list_names(set, names, row))
         }
         ChildrenRead::Faulty(_) => ChildrenNext::Next(Next::Names(0)),
-        ChildrenRead::ModelRefused(f) => ChildrenNext::ModelRefused(f),
+        ChildrenRead::ModelRefused(f, _) => ChildrenNext::ModelRefused(f),
         ChildrenRead::ChildrenRefused(f) => ChildrenNext::ChildrenRefused(f),
     }
 }

@@ -10,6 +10,8 @@ use crate::packed::no_rule;
 use crate::packed::unpack;
 use crate::reader::Got;
 use crate::reader::read_whole;
+use crate::reply::ChildrenRead;
+use crate::reply::read_children;
 use crate::table::SLOTS;
 use fields::bytes::same_bytes;
 use fields::limits::lesser;
@@ -93,6 +95,20 @@ pub fn read_model(text: &[u8]) -> Reading
             names: names_of(&names, past.names),
         },
         Got::Fault(f, p) => refused(f, p),
+    }
+}
+
+// The outcome alone, for a caller that needs no rule. The text is read as for a row of no children, so that the desk's library has one reader.
+pub fn model_outcome(text: &[u8]) -> Outcome
+    ensures { λ r. ⌜ r ≡ reading (now (text .entry)) .outcome ⌝ }
+{
+    let mut words = [0u64; MAX_NODES];
+    let mut seen = [0u64; MAX_ATOMS + 1];
+    match read_children(text, b"", &mut words, &mut seen) {
+        ChildrenRead::Both(_) => Outcome::Read,
+        ChildrenRead::Faulty(_) => Outcome::Read,
+        ChildrenRead::ModelRefused(f, p) => Outcome::Refused(f, p),
+        ChildrenRead::ChildrenRefused(_) => Outcome::Read,
     }
 }
 

@@ -139,12 +139,12 @@ pub(crate) struct Sizes {
 pub(crate) enum ChildrenRead {
     Both(Sizes),
     Faulty(usize),
-    ModelRefused(ModelFault),
+    ModelRefused(ModelFault, usize),
     ChildrenRefused(CueFault),
 }
 
 // Reads the model text into the words of its nodes, and what is seen of each name in the children, a field each, into the other array, which holds
-// zeros; or gives the model text's refusal, or the children's. No bytes are no children.
+// zeros; or gives the model text's refusal with its place, or the children's. No bytes are no children.
 pub(crate) fn read_children(
     model: &[u8],
     children: &[u8],
@@ -179,7 +179,7 @@ pub(crate) fn read_children(
                 ChildrenTally::Refused(f) => ChildrenRead::ChildrenRefused(f),
             }
         }
-        Got::Fault(f, _) => ChildrenRead::ModelRefused(f),
+        Got::Fault(f, p) => ChildrenRead::ModelRefused(f, p),
     }
 }
 
@@ -198,7 +198,7 @@ pub fn judge_children(model: &[u8], children: &[u8]) -> ChildrenJudged
             &seen,
         )),
         ChildrenRead::Faulty(_) => ChildrenJudged::Verdict(Verdict::Dead),
-        ChildrenRead::ModelRefused(f) => ChildrenJudged::ModelRefused(f),
+        ChildrenRead::ModelRefused(f, _) => ChildrenJudged::ModelRefused(f),
         ChildrenRead::ChildrenRefused(f) => ChildrenJudged::ChildrenRefused(f),
     }
 }

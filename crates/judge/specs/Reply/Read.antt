@@ -10,15 +10,17 @@ use Rattle.fields.specs.{Children.Laws.counted}
 use Rattle.fields.specs.declared.children.Children.the-variants.{Count, Refused}
 use Rattle.model.specs.{declared.fault.ModelFault.ModelFault, declared.rule.Upper.Upper, declared.rule.Node.Node, declared.verdict.Verdict.Verdict}
 use Rattle.model.specs.{declared.verdict.Verdict.the-variants.Dead, Verdict.verdict, Word.Word, Word.keep, Syntax.Syntax, Syntax.numberIn}
-use Rattle.model.specs.{Syntax.writtenNames, Fault.Answers, Fault.refused, Fault.accepted, Answer.answer-is, Model.Model, Model.modelOf, Model.encode}
-use Rattle.model.specs.{Model.typeOf, Model.atomsIn, Rule.ReadsInto, Rule.ruleOf, Rule.ruleType, Rule.used, Rule.Laws.used-is, Rule.Laws.used-with}
-use Rattle.model.specs.{Check.readable, Check.Exact.readable-is, Check.Exact.rule-type}
+use Rattle.model.specs.{Syntax.writtenNames, Fault.Answer, Fault.Answers, Fault.refused, Fault.accepted, Answer.answer-is, Model.Model, Model.modelOf}
+use Rattle.model.specs.{Model.encode, Model.typeOf, Model.atomsIn, Rule.ReadsInto, Rule.ruleOf, Rule.ruleType, Rule.used, Rule.Laws.used-is}
+use Rattle.model.specs.{Rule.Laws.used-with, Check.readable, Check.Exact.readable-is, Check.Exact.rule-type}
 use Rattle.judge.specs.{declared.reader.Cursor.Cursor, declared.reply.Sizes.Sizes, declared.reply.ChildrenRead.ChildrenRead, Packed.nodeIn, Packed.ruleIn}
 use Rattle.judge.specs.{declared.reply.ChildrenTally.ChildrenTally, declared.verdict.Next.Next, Reading.Table.partsIn, Reading.Table.Laws.parts-long}
 use Rattle.judge.specs.{Reading.Walk.Kept, Named.Laws.row-upto, Row.upto, Row.Tally.seenOf, Row.Tally.Tallied, Row.Pass.seenVerdict}
 use Rattle.judge.specs.{Row.Code.verdict-stopped, Row.Code.verdict-tallied, Reply.Children.ChildrenTallied, Reply.Children.row-whole}
 use Rattle.judge.specs.Reply.Children.{row-faulty, no-row}
 use Rattle.judge.specs.declared.reply.ChildrenRead.the-variants.{Both, Faulty, ModelRefused, ChildrenRefused}
+use Rattle.judge.specs.declared.reading.Outcome.{Outcome, the-variants.Read, the-variants.Refused as IsRefused}
+use Rattle.judge.specs.Reading.{readingBy, reading}
 use Rattle.judge.specs.declared.reply.ChildrenTally.the-variants.{Whole, Faulty as Stopped, Refused as Unnamed}
 use Rattle.judge.specs.declared.verdict.{ChildrenJudged.the-variants.Verdict as Said, ChildrenNext.the-variants.Next as Answered, Next.the-variants.Names}
 use Rattle.judge.specs.declared.verdict.{ChildrenSearched.the-variants.Found, FirstFault.the-variants.At, FirstFault.the-variants.Nothing}
@@ -54,7 +56,7 @@ pub record FaultRead (m c : Text) (p : ℕ) : Type 0 where
 pub data TextsRead (m c : Text) (words s : List ℕ) : ChildrenRead → Type 0 where
   both-read : {r : Sizes} → BothRead m c words s r → TextsRead m c words s (Both r)
   fault-read : {p : ℕ} → FaultRead m c p → TextsRead m c words s (Faulty p)
-  model-refused : {f : ModelFault} (p : ℕ) → Answers m (refused f p) → TextsRead m c words s (ModelRefused f)
+  model-refused : {f : ModelFault} {p : ℕ} → Answers m (refused f p) → TextsRead m c words s (ModelRefused f p)
   children-refused : {f : CueFault} (t : Syntax) → Answers m (accepted t) → textChildren c ≡ Refused f → TextsRead m c words s (ChildrenRefused f)
 
 -- children that were counted are few
@@ -148,17 +150,33 @@ module _ {m c : Text} {words s : List ℕ} {x : ChildrenRead} (h : TextsRead m c
       go (fault-read b) = b
 
   module _ {A : Type 0} (f : Syntax → A) where
-    pub reply-model : {g : ModelFault} → x ≡ ModelRefused g → reply row f m c ≡ modelRefused g
-    reply-model {g} e = go (rw e at h)
+    pub reply-model : {g : ModelFault} {p : ℕ} → x ≡ ModelRefused g p → reply row f m c ≡ modelRefused g
+    reply-model {g} {p} e = go (rw e at h)
       where
-        go : TextsRead m c words s (ModelRefused g) → reply row f m c ≡ modelRefused g
-        go (model-refused p a) = sym (ap (replyBy row f c) (answer-is m (refused g p) a))
+        go : TextsRead m c words s (ModelRefused g p) → reply row f m c ≡ modelRefused g
+        go (model-refused a) = sym (ap (replyBy row f c) (answer-is m (refused g p) a))
 
     pub reply-children : {g : CueFault} → x ≡ ChildrenRefused g → reply row f m c ≡ childrenRefused g
     reply-children {g} e = go (rw e at h)
       where
         go : TextsRead m c words s (ChildrenRefused g) → reply row f m c ≡ childrenRefused g
         go (children-refused t a k) = reply-accepted f m c t a ∙ rw k
+
+-- the outcome of reading the model text, whatever the children are
+abbrev pub outcomeOf : ChildrenRead → Outcome
+outcomeOf (Both r) = Read
+outcomeOf (Faulty p) = Read
+outcomeOf (ModelRefused f p) = IsRefused f p
+outcomeOf (ChildrenRefused f) = Read
+
+answer-outcome : (m : Text) (a : Answer) → Answers m a → readingBy m a .outcome ≡ reading m .outcome
+answer-outcome m a h = ap (λ (b : Answer). readingBy m b .outcome) (answer-is m a h)
+
+pub outcome-told : {m c : Text} {words s : List ℕ} {x : ChildrenRead} → TextsRead m c words s x → outcomeOf x ≡ reading m .outcome
+outcome-told {m} (both-read b) = answer-outcome m (accepted (b .model .tree)) (b .model .answered)
+outcome-told {m} (fault-read b) = answer-outcome m (accepted (b .tree)) (b .answers)
+outcome-told {m} (model-refused {f = f} {p = p} a) = answer-outcome m (refused f p) a
+outcome-told {m} (children-refused t a k) = answer-outcome m (accepted t) a
 
 module _ {m c : Text} {words s : List ℕ} {r : Sizes} (b : BothRead m c words s r) where
   abbrev tree : Syntax

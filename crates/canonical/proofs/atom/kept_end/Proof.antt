@@ -1,9 +1,8 @@
 -- The tests of `oneAt`, in its order.
 use Prim.Native.Nat.{_≤_}
 use native.Mathlib.Omega.{arith}
-use borrow.Author.Tests.{eq-eqb, ne-eqb}
 use lib.ListN.{length}
-use Rattle.canonical.specs.Writer.Place.Ends.{name-inside, AtomEnds, ended-inside, kept-by}
+use Rattle.canonical.specs.Writer.Place.Ends.{name-inside, AtomEnds, ended-inside, kept-six, kept-other}
 use borrow.Author.Needs.{needs}
 use Rattle.canonical.proofs.atom.kept_end.Statement.{statement}
 use Rattle.canonical.proofs.atom.kept_end.Tie as tie
@@ -31,17 +30,13 @@ shared-slice-read-if2-2 : tie.Need-shared-slice-read-if2-2
 shared-slice-read-if2-2 c = omega (arith, inside (c .before .before .before))
 
 returns : tie.Need-returns
-returns c =
-    let t = c .before .before .before in
-    rw (kept-by (ends (t .before)), eq-eqb _ _ (t .if1 .taken), c .if2 .taken)
+returns c = let t = c .before .before .before in kept-six (ends (t .before)) (t .if1 .taken) (c .if2 .taken)
 
 returns-2 : tie.Need-returns-2
-returns-2 c =
-    let t = c .before .before .before in
-    rw (kept-by (ends (t .before)), eq-eqb _ _ (t .if1 .taken), c .if2 .left)
+returns-2 c = let t = c .before .before .before in kept-six (ends (t .before)) (t .if1 .taken) (c .if2 .left)
 
 returns-3 : tie.Need-returns-3
-returns-3 c = rw (kept-by (ends (c .before)), ne-eqb _ _ (c .if1 .left))
+returns-3 c = kept-other (ends (c .before)) (c .if1 .left)
 
 pub kept-end-spec : {M : Type 1} → statement M
 kept-end-spec =

@@ -1,7 +1,8 @@
 -- The tests of `withMemberBy`, in its order.
-use mathlib.Core.Path.{refl, _∙_}
+use mathlib.Core.{Path._≡_, Path.refl, Path._∙_, Bool.true, Bool.false}
 use native.Mathlib.Omega.{arith}
 use borrow.Author.{Needs.needs, Tests.eq-eqb, Tests.ne-eqb}
+use Rattle.canonical.specs.Writer.Tidied.{joinsBy}
 use Rattle.canonical.proofs.tidy.gather.Statement.{statement}
 use Rattle.canonical.proofs.tidy.gather.Tie as tie
 
@@ -25,6 +26,13 @@ headed c = c .before .before
 abbrev put : tie.After-packed → tie.After-head-of
 put c = c .before
 
+-- by the tests
+joins : (j : tie.Then2) → let s = entry (j .before) .args in joinsBy (s .sign) (s .t) ≡ true
+joins j = j .if2 .taken
+
+stays : (h : tie.Else2) → let s = entry (h .before) .args in joinsBy (s .sign) (s .t) ≡ false
+stays h = h .if2 .left
+
 returns : tie.Need-returns
 returns c = rw (eq-eqb _ _ (c .before .if1 .taken)) (c .without .ensures, refl)
 
@@ -41,7 +49,7 @@ returns-2 : tie.Need-returns-2
 returns-2 c =
     let j = joined (c .before .before) in
     let k = called (j .before) in
-    rw (ne-eqb _ _ (some k .if1 .left), j .if2 .taken)
+    rw (ne-eqb _ _ (some k .if1 .left), joins j)
     (cc (k .before .before .before .remarked .ensures, k .before .nullable-with .ensures, k .least-with .ensures), refl)
 
 sub-top : tie.Need-sub-top
@@ -67,7 +75,7 @@ returns-3 c =
     let p = c .before .before .before in
     let h = headed (put p) in
     let k = called (h .before) in
-    rw (ne-eqb _ _ (some k .if1 .left), h .if2 .left) (
+    rw (ne-eqb _ _ (some k .if1 .left), stays h) (
       cc (k .before .before .before .remarked .ensures, k .before .nullable-with .ensures, k .least-with .ensures),
       (p .packed .result, p .packed .ensures ∙ put p .head-of .ensures, refl),
     )

@@ -1,6 +1,6 @@
 -- Where names, counts and atoms end: a byte more, for the loops that run over them, and bounds.
 use mathlib.Core.{Path._≡_, Path.refl, Path.ap, Path._∙_, Logic.by-cases, List.[], List._∷_}
-use mathlib.Core.Bool.{true, false, cond, not, _&&_, _||_, and-false, or-false, or-true}
+use mathlib.Core.Bool.{Bool, true, false, cond, not, _&&_, _||_, and-false, or-false, or-true}
 use Prim.Native.Nat.{ℕ, _+_, _-_, _≤_, _<_}
 use Prim.Native.Char.{code}
 use native.Mathlib.{Omega.arith, Decide.decLt, Numerals.add-one}
@@ -168,6 +168,13 @@ module _ {x : Text} {p n e : ℕ} (r : AtomEnds x p n e) where
 
   pub kept-by : keptEnd x p ≡ cond (eqb e (n + 6) && leb (getD x (n + 1) 0) (code "1") && is x (code "1") (n + 4)) n e
   kept-by = rw (r .count-is, r .name-is)
+
+  -- where the count has six bytes, by their test, and where it has not
+  pub kept-six : {b : Bool} → e ≡ n + 6 → leb (getD x (n + 1) 0) (code "1") && is x (code "1") (n + 4) ≡ b → cond b n e ≡ keptEnd x p
+  kept-six h t = rw (kept-by, eq-eqb e (n + 6) h, t)
+
+  pub kept-other : (e ≡ n + 6 → ⊥) → e ≡ keptEnd x p
+  kept-other h = rw (kept-by, ne-eqb e (n + 6) h)
 
 -- the name at p ends at n, and what is kept of the atom at e
 pub record KeptEnds (x : Text) (p n e : ℕ) : Type 0 where

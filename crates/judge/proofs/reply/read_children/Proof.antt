@@ -61,8 +61,8 @@ tally-children-requires c κs =
 enum-known-n : tie.Need-enum-known-n
 enum-known-n c = search needs
 
-cast-t29 : tie.Need-cast-t29
-cast-t29 c =
+cast-t30 : tie.Need-cast-t30
+cast-t30 c =
     let t = counted c in
     omega (arith, children-fit (t .tally-children .ensures _ (limited t .limit-names .ensures)) (c .before .n .given .1))
 
@@ -96,7 +96,7 @@ returns-5 c =
 returns-6 : tie.Need-returns-6
 returns-6 c =
     let r = c .before .before .before .read-whole in
-    model-refused _ (whole-fault (r .last .1 .0) (r .last .1 .1 .0, r .last .1 .1 .1 .0) (r .ensures) (c .before .f2 .given .1))
+    model-refused (whole-fault (r .last .1 .0) (r .last .1 .1 .0, r .last .1 .1 .1 .0) (r .ensures) (c .before .f2 .given .1))
 
 pub read-children-spec : {M : Type 1} → statement M
 read-children-spec =
@@ -109,7 +109,7 @@ read-children-spec =
     limit-names-requires
     tally-children-requires
     enum-known-n
-    cast-t29
+    cast-t30
     enum-known-p
     enum-known-f
     enum-known-f-2
