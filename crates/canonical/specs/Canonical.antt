@@ -1,4 +1,8 @@
--- The one way to write a model: document 02, W4.
+-- The one way to write a model: document 02, W4. Below it:
+--   Rows, Carried, Names, Held  the same rows, by any numbering, and of names as written
+--   Fixed                       the form, and that to write it again changes nothing
+--   Depth, Accepted             no deeper, and accepted
+--   Reply                       there is one reply, and only one
 pub mod Rows
 pub mod Carried
 pub mod Names

@@ -1,4 +1,7 @@
--- The members of `|` and `&` in the byte order of their smallest name: document 02, W4.
+-- The members of `|` and `&` in the byte order of their smallest name: document 02, W4. Below it:
+--   Smallest      the order of names is total
+--   Sorted        members rise, and stay as they are when they are ordered again
+--   Rows, Kept    the rows are the same, and all else that does not look at the order
 pub mod Smallest
 pub mod Kept
 pub mod Sorted

@@ -1,4 +1,9 @@
 -- Counts and marks in one form, and flattening with them: document 02, W4, but for the order of members. Built from the pieces of `Flatten`.
+-- Below it:
+--   Nullable, Rows          `treeNullable` tells of the empty row; the rows are the same
+--   Form                    what is left is neat, and a neat tree stays as it is
+--   Flat, Flattened         flattening leaves it as it is; to flatten first changes nothing
+--   Append, Leaves, Formed  members behind members; the atoms; what an accepted text needs
 pub mod Append
 pub mod Nullable
 pub mod Rows

@@ -1,4 +1,6 @@
--- A sheet with each model written in its one way: document 02, W4. Kinds and the order of lines stay.
+-- A sheet with each model written in its one way: document 02, W4. Kinds and the order of lines stay. Below it:
+--   Line, Laws      a line and a sheet as the code writes them; the answer by the table
+--   Visible, Again  no separator stands in a model; what a tidied sheet is when it is read
 pub mod Line
 pub mod Laws
 pub mod Visible

@@ -118,13 +118,13 @@ abbrev pub listOf : Members Spelling → List Syntax
 listOf none = []
 listOf (t ▹ ts) = t ∷ listOf ts
 
-keeps-mark : (b : Bool) (m : Mark) → (b && isOptional m) ≡ false → cond (b && isOptional m) Plain m ≡ m
-keeps-mark true Plain e = refl
-keeps-mark true Optional e = absurd (true≢false e)
-keeps-mark false m e = refl
+mark-stays : (b : Bool) (m : Mark) → (b && isOptional m) ≡ false → cond (b && isOptional m) Plain m ≡ m
+mark-stays true Plain e = refl
+mark-stays true Optional e = absurd (true≢false e)
+mark-stays false m e = refl
 
 pub stripped-same : (s : Sign) (t : Syntax) → strips s t ≡ false → stripped s t ≡ t
-stripped-same s (marked m n) e = ap (λ (k : Mark). marked k n) (keeps-mark (isChoice s) m e)
+stripped-same s (marked m n) e = ap (λ (k : Mark). marked k n) (mark-stays (isChoice s) m e)
 
 gathered-same : (s : Sign) (ts : Members Spelling) → NeatAll ts s → gathered s (map (stripped s) (listOf ts)) ≡ ts
 gathered-same s none h = refl

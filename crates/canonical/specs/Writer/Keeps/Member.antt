@@ -1,6 +1,6 @@
 -- One member more of a group keeps what is known.
 use mathlib.Core.{Path._≡_, Path.refl, Path.sym, Path.ap, Path._∙_, Path.subst, Logic._⊎_, Logic.inl, Logic.inr, Logic.⊎-elim}
-use mathlib.Core.{Bool.Bool, Bool.true, Bool.false, Bool.cond, Bool.not, Bool._&&_, Bool._||_, Bool.or-true, Bool.or-false, Bool.and-true, Bool.false≢true}
+use mathlib.Core.Bool.{Bool, true, false, cond, not, _&&_, _||_, or-true, or-false, or-comm, and-true, false≢true}
 use mathlib.Core.{List.List, List.[], List._∷_, List._++_, List.map, List.map-append, List.append-nil}
 use Prim.Native.{Nat.ℕ, Nat.suc, Nat._+_, Nat._-_, Nat._≤_, Nat._<_}
 use native.Mathlib.Omega.{arith}
@@ -113,27 +113,22 @@ module _ {x : Text} (s : Sign) {us : Members Spelling} {v : Bool} {g : Gathered}
         }
 
 -- What becomes of a member without the mark that a choice takes.
-kept-mark : (c : Bool) (m : Mark) → isPlain (cond (c && isOptional m) Plain m) ≡ not (isOptional m && not c)
-kept-mark true Plain = refl
-kept-mark true Optional = refl
-kept-mark false Plain = refl
-kept-mark false Optional = refl
-
-kept-nullable : (c : Bool) (m : Mark) (b : Bool) → (b || (isOptional m && not c)) ≡ (isOptional (cond (c && isOptional m) Plain m) || b)
-kept-nullable true Plain true = refl
-kept-nullable true Plain false = refl
-kept-nullable true Optional true = refl
-kept-nullable true Optional false = refl
-kept-nullable false Plain true = refl
-kept-nullable false Plain false = refl
-kept-nullable false Optional true = refl
-kept-nullable false Optional false = refl
-
+-- the mark that a member keeps in a group, as the code has it; the same of its absence, and of the empty row
 pub kept-marked : (c : Bool) (m : Mark) → (isOptional m && not c) ≡ isOptional (cond (c && isOptional m) Plain m)
 kept-marked true Plain = refl
 kept-marked true Optional = refl
 kept-marked false Plain = refl
 kept-marked false Optional = refl
+
+plain-unmarked : (m : Mark) → isPlain m ≡ not (isOptional m)
+plain-unmarked Plain = refl
+plain-unmarked Optional = refl
+
+kept-mark : (c : Bool) (m : Mark) → isPlain (cond (c && isOptional m) Plain m) ≡ not (isOptional m && not c)
+kept-mark c m = plain-unmarked (cond (c && isOptional m) Plain m) ∙ ap not (sym (kept-marked c m))
+
+kept-nullable : (c : Bool) (m : Mark) (b : Bool) → (b || (isOptional m && not c)) ≡ (isOptional (cond (c && isOptional m) Plain m) || b)
+kept-nullable c m b = ap (λ k. b || k) (kept-marked c m) ∙ or-comm b (isOptional (cond (c && isOptional m) Plain m))
 
 kept-plain : (c : Bool) (m : Mark) → m ≡ Plain → cond (c && isOptional m) Plain m ≡ Plain
 kept-plain true Plain e = refl
