@@ -24,7 +24,7 @@ use crate::tally::is_full;
 use crate::tally::limit_names;
 use crate::tally::noted;
 use crate::verdict::ChildrenJudged;
-use fields::bytes::is_letter;
+use fields::bytes::is_initial;
 use fields::children::Children;
 use fields::children::count_children;
 use fields::fault::CueFault;
@@ -47,9 +47,9 @@ fn is_child(children: &[u8], at: usize, read: NameEnd) -> bool
     if (len == 0) | (MAX_NAME < len) {
         return false;
     }
-    let letter = is_letter(children[at]);
+    let initial = is_initial(children[at]);
     let parted = stands(children, end, TAB);
-    letter & (parted | (end == children.len()))
+    initial & (parted | (end == children.len()))
 }
 
 // How many children there are, or the place of the first that is foreign or one too many of its name, or what is wrong with the children.

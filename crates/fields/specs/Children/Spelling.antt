@@ -6,15 +6,15 @@ use native.Mathlib.{Omega.arith, Numerals.add-one}
 use lib.{Dec.eqb, ListN.length, ListN.drop, ListN.getD, Seq.drop-cons, Seq.drop-length}
 use borrow.Author.Tests.{eqb-true}
 use Rattle.fields.specs.{Tests.by-test, Split.tab, Split.split, Split.Laws.parted}
-use Rattle.fields.specs.Bytes.{Text, isLetter, isInner, all, isName}
+use Rattle.fields.specs.Bytes.{Text, isInitial, isInner, all, isName}
 
 abbrev pub allSpelt : List Text → Bool
 allSpelt [] = true
 allSpelt (c ∷ cs) = isName c && allSpelt cs
 
--- whether b may stand behind a: a tab parts names, and a letter begins one
+-- whether b may stand behind a: a tab parts names, and not every byte of a name begins one
 abbrev pub mayFollow : ℕ → ℕ → Bool
-mayFollow a b = (isInner b || eqb b tab) && (not (eqb a tab) || isLetter b)
+mayFollow a b = (isInner b || eqb b tab) && (not (eqb a tab) || isInitial b)
 
 -- whether a text may stand behind a
 abbrev pub goesOn : ℕ → Text → Bool
@@ -35,7 +35,7 @@ goes-on a (b ∷ y) =
     (λ d. rw (goes-on b y, d, eqb-true b tab d) (by-test (eqb a tab) (λ e. rw e) (λ e. rw e)))
     (λ d. rw (goes-on b y, d, h .is)
     (by-test (eqb a tab)
-    (λ e. rw e (by-test (isLetter b) (λ f. rw f) (λ f. rw (f, and-false))))
+    (λ e. rw e (by-test (isInitial b) (λ f. rw f) (λ f. rw (f, and-false))))
     (λ e. rw e (by-test (isInner b) (λ f. rw f) (λ f. rw f)))))
 
 module _ (x : Text) where

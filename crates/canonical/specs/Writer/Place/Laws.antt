@@ -9,8 +9,8 @@ use lib.Seq.{getD-drop, drop-drop, drop-append-seam, take-at}
 use mir.Facts.{and-yes, yes-and}
 use borrow.Author.Tests.{eqb-true, eq-eqb, ltb-true, lt-ltb}
 use Rattle.fields.specs.Tests.{by-test}
-use Rattle.fields.specs.Bytes.{Text, isLetter, isInner, all, isName, front}
-use Rattle.fields.specs.Bytes.Laws.{letter-inner}
+use Rattle.fields.specs.Bytes.{Text, isInitial, isInner, all, isName, front}
+use Rattle.fields.specs.Bytes.Laws.{initial-inner}
 use Rattle.fields.specs.Bytes.Runs.{stops, front-stops}
 use Rattle.model.specs.{Fault.nameFrom, Fault.is, declared.rule.Mark.the-variants.Plain, Tree.leaf, Tree.marked}
 use Rattle.model.specs.Accept.Length.{name-some}
@@ -25,8 +25,8 @@ use Rattle.canonical.specs.Writer.Place.Counts.{count-end, same, zero-co
 pub name-inner : (n : Text) → T (isName n) → T (all isInner n)
 name-inner [] h = absurd h
 name-inner (b ∷ n) h =
-    let q = and-yes (isLetter b) (all isInner n) h in
-    yes-and (isInner b) (all isInner n) (letter-inner b (q .0)) (q .1)
+    let q = and-yes (isInitial b) (all isInner n) h in
+    yes-and (isInner b) (all isInner n) (initial-inner b (q .0)) (q .1)
 
 free-stops : (w : Text) → Free w → T (stops isInner w)
 free-stops [] g = tt

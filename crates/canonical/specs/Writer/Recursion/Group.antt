@@ -6,7 +6,7 @@ use native.Mathlib.{Omega.arith}
 use lib.{Dec.T, Dec.eqb, ListN.length, ListN.drop, ListN.getD}
 use borrow.Author.Tests.{ne-eqb}
 use mir.Facts.{and-yes}
-use Rattle.fields.specs.Bytes.{Text, isLetter, isName}
+use Rattle.fields.specs.Bytes.{Text, isInitial, isName}
 use Rattle.model.specs.{declared.rule.Sign.Sign, declared.rule.Mark.Mark}
 use Rattle.model.specs.declared.rule.Sign.the-variants.{None, Sequence, Choice, Interleaving}
 use Rattle.model.specs.Tree.{leaf, group, marked, Members, none, _▹_, size, nodes, membersWeight, SignFits, Formed, MembersFormed}
@@ -20,15 +20,15 @@ use Rattle.canonical.specs.Writer.Keeps.Laws.{keeps-none}
 use Rattle.canonical.specs.Writer.Recursion.{TidyReady, Looping}
 use Rattle.canonical.specs.Writer.Recursion.Place.{drop-behind, byte-at, byte-inside, atom-stands, group-splits}
 
--- The first byte of a tree: a letter or `(`.
+-- The first byte of a tree: of a name, or `(`.
 abbrev pub FirstByte : Text → ℕ → Type 0
 FirstByte x b = (y : Text) × (x ≡ b ∷ y)
 
-name-begins : (n : Text) → T (isName n) → (b : ℕ) × (FirstByte n b × T (isLetter b))
+name-begins : (n : Text) → T (isName n) → (b : ℕ) × (FirstByte n b × T (isInitial b))
 name-begins [] h = absurd h
-name-begins (b ∷ n) h = (b, ((n, refl), and-yes (isLetter b) _ h .0))
+name-begins (b ∷ n) h = (b, ((n, refl), and-yes (isInitial b) _ h .0))
 
-atom-begins : (a : Spelling) → SpellingFormed a → (b : ℕ) × (FirstByte (nodeText (leaf a)) b × T (isLetter b))
+atom-begins : (a : Spelling) → SpellingFormed a → (b : ℕ) × (FirstByte (nodeText (leaf a)) b × T (isInitial b))
 atom-begins a h =
     let (b, (i, l)) = name-begins (a .name) (h .0) in
     let (n, e) = i in
@@ -38,7 +38,7 @@ pub tree-begins : (t : Syntax) → Formed SpellingFormed t → (b : ℕ) × (Fir
 tree-begins (marked m (leaf a)) h =
     let (b, (i, l)) = atom-begins a h in
     let (y, e) = i in
-    (b, ((y ++ markText m, ap (λ l. l ++ markText m) e), λ z. subst (λ (b : ℕ). T (isLetter b)) z l))
+    (b, ((y ++ markText m, ap (λ l. l ++ markText m) e), λ z. subst (λ (b : ℕ). T (isInitial b)) z l))
 tree-begins (marked m (group s ts)) h = (code "(", ((_, refl), λ z. absurd (omega (arith, z))))
 
 pub record AtomHere (x : Text) (p : ℕ) : Type 0 where
@@ -62,7 +62,7 @@ module _ {x : Text} {p : ℕ} where
       let i = atom-stands h in
       let (b, (k, l)) = atom-begins a (i .formed) in
       let (y, q) = k in
-      subst (λ (b : ℕ). T (isLetter b)) (sym (byte-at x p b _ (i .splits ∙ ap (λ l. l ++ i .rest) q)) ∙ e) l
+      subst (λ (b : ℕ). T (isInitial b)) (sym (byte-at x p b _ (i .splits ∙ ap (λ l. l ++ i .rest) q)) ∙ e) l
 
   -- behind the bracket
   pub begins : {stack : List ℕ} {top : ℕ} → TidyReady x stack p top → getD x p 0 ≡ code "(" → Looping x stack stack p top (p + 1) 0 (noMembers top)

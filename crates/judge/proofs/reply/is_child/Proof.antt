@@ -10,13 +10,13 @@ sub-len c = search needs
 returns : tie.Need-returns
 returns c = let s = c .before .before in child-missized (s .args .children .now) (s .pre .0) (s .pre .1 .end-is) (c .if1 .taken)
 
-shared-slice-read-is-letter : tie.Need-shared-slice-read-is-letter
-shared-slice-read-is-letter c =
+shared-slice-read-is-initial : tie.Need-shared-slice-read-is-initial
+shared-slice-read-is-initial c =
     let s = c .before .before .before in
     child-inside (s .args .children .now) (s .pre .0) (s .pre .1 .end-is) (c .before .if1 .left)
 
-is-letter-requires : tie.Need-is-letter-requires
-is-letter-requires c κs = search needs
+is-initial-requires : tie.Need-is-initial-requires
+is-initial-requires c κs = search needs
 
 stands-requires : tie.Need-stands-requires
 stands-requires c κs = search needs
@@ -25,7 +25,7 @@ returns-2 : tie.Need-returns-2
 returns-2 c =
     let e = c .before .before .before in
     let s = e .before .before in
-    child-sized (s .args .children .now) (s .pre .0) (s .pre .1 .end-is) (e .if1 .left) (c .before .is-letter .ensures) (c .stands .ensures)
+    child-sized (s .args .children .now) (s .pre .0) (s .pre .1 .end-is) (e .if1 .left) (c .before .is-initial .ensures) (c .stands .ensures)
 
 pub is-child-spec : {M : Type 1} → statement M
 is-child-spec =
@@ -33,7 +33,7 @@ is-child-spec =
     (tie.spec
     sub-len
     returns
-    shared-slice-read-is-letter
-    is-letter-requires
+    shared-slice-read-is-initial
+    is-initial-requires
     stands-requires
     returns-2)
