@@ -1,5 +1,6 @@
 #include "rows.h"
 
+#include <ctype.h>
 #include <stdio.h>
 #include <stdlib.h>
 #include <string.h>
@@ -33,11 +34,23 @@ static const struct list WORDS = {{
 
 static struct list alike;
 
-/* A beginning, then 01 to 64. */
-static const struct list *numbered(const char *beginning)
+/* A beginning, then 1 to 64 in so many digits or more. */
+static const struct list *numbered(const char *beginning, int digits)
 {
     for (int i = 0; i < NAMES; i++)
-        snprintf(alike.name[i], LONGEST + 1, "%s%02d", beginning, i + 1);
+        snprintf(alike.name[i], LONGEST + 1, "%s%0*d", beginning, digits, i + 1);
+    return &alike;
+}
+
+/* A word of six small letters, each way with some of them as capitals. */
+static const struct list *capitalised(const char *word)
+{
+    for (int i = 0; i < NAMES; i++) {
+        strcpy(alike.name[i], word);
+        for (int k = 0; k < 6; k++)
+            if (i >> k & 1)
+                alike.name[i][k] = (char)toupper(word[k]);
+    }
     return &alike;
 }
 
@@ -64,7 +77,7 @@ static uint64_t key_of(const char *name)
 static uint64_t slot_of(const char *name)
 {
     uint64_t key = key_of(name);
-    return ((uint32_t)key + (key >> 32)) * 668265263 / (1 << 24) % 256;
+    return ((uint32_t)key * UINT64_C(668265263) + (key >> 32) * 997621949) / (1 << 24) % 256;
 }
 
 typedef uint64_t slot_of_name(const char *name);
@@ -254,37 +267,37 @@ static void wrapped_groups(struct row *row)
     add_child(row, WORDS.name[DEPTH]);
 }
 
-static void numbers(struct row *row) { disorder(row, numbered("name"), MANY); }
+static void numbers(struct row *row) { disorder(row, numbered("name", 2), MANY); }
 
 /* A foreign name, which looks like the others, comes first. */
 static void numbers_foreign_at_first(struct row *row)
 {
     add_child(row, "name00");
-    order(row, numbered("name"), ANY);
+    order(row, numbered("name", 2), ANY);
 }
 
 /* The first name may stand once, and the second child has it again. */
 static void numbers_second_too_many(struct row *row)
 {
     add_child(row, "name01");
-    order(row, numbered("name"), ONCE);
+    order(row, numbered("name", 2), ONCE);
 }
 
 static void numbers_foreign_at_last(struct row *row)
 {
-    order(row, numbered("name"), ANY);
+    order(row, numbered("name", 2), ANY);
     add_child(row, "name00");
 }
 
 static void numbers_dead_at_last(struct row *row)
 {
-    order(row, numbered("name"), ANY);
+    order(row, numbered("name", 2), ANY);
     add_child(row, "name01");
 }
 
 static void long_beginning(struct row *row)
 {
-    disorder(row, numbered("fly-tower-upstage-winch-motor-"), MANY_LONG);
+    disorder(row, numbered("fly-tower-upstage-winch-motor-", 2), MANY_LONG);
 }
 
 static void long_end(struct row *row)
@@ -292,6 +305,8 @@ static void long_end(struct row *row)
     disorder(row, lettered("-motor-of-an-upstage-fly-winch"), MANY_LONG);
 }
 
+static void short_numbers(struct row *row) { disorder(row, numbered("lx:go.", 1), MANY); }
+static void capitals(struct row *row) { disorder(row, capitalised("fadein"), MANY); }
 static void former_slot(struct row *row) { disorder(row, of_one_slot(former_slot_of), MANY); }
 static void one_slot(struct row *row) { disorder(row, of_one_slot(slot_of), MANY); }
 static void one_key(struct row *row) { disorder(row, of_one_key(), MANY); }
@@ -319,6 +334,8 @@ static const struct {
     {"name01 to name64, second one too many", 2, numbers_second_too_many},
     {"name01 to name64, foreign at the last", 2, numbers_foreign_at_last},
     {"name01 to name64, dead at the last", 2, numbers_dead_at_last},
+    {"lx:go.1 to lx:go.64, 4,096 children", 0, short_numbers},
+    {"fadein to FADEIN, 4,096 children", 0, capitals},
     {"64 names, 30 first bytes equal", 0, long_beginning},
     {"64 names, 30 last bytes equal", 0, long_end},
     {"64 names of one slot of the former hash", 0, former_slot},

@@ -9,8 +9,10 @@
 
 static const char MODEL[] = "(axis,target,(crawl&gather)?,hold[0..2])";
 static const char *const DEFAULT[] = {"axis", "target", "crawl"};
-static const char LETTERS[] = "abcdefghijklmnopqrstuvwxyz";
-static const char NAME_BYTES[] = "abcdefghijklmnopqrstuvwxyz0123456789-";
+
+/* What a name begins with, and what it goes on with. */
+#define INITIALS "abcdefghijklmnopqrstuvwxyzABCDEFGHIJKLMNOPQRSTUVWXYZ_"
+#define INNERS INITIALS "0123456789-.:"
 
 enum {
     ROOM = 65536,     /* one byte more than a children text may have */
@@ -53,15 +55,15 @@ static size_t write_children(char *text, const char *const *names, size_t count)
     return len;
 }
 
-/* The names of a model text are its words that begin with a letter. */
+/* The names of a model text are its words that begin with a letter or an underscore. */
 static void print_name(uint16_t number)
 {
-    const char *name = MODEL + strcspn(MODEL, LETTERS);
+    const char *name = MODEL + strcspn(MODEL, INITIALS);
     while (--number > 0) {
-        name += strspn(name, NAME_BYTES);
-        name += strcspn(name, LETTERS);
+        name += strspn(name, INNERS);
+        name += strcspn(name, INITIALS);
     }
-    printf(" %.*s", (int)strspn(name, NAME_BYTES), name);
+    printf(" %.*s", (int)strspn(name, INNERS), name);
 }
 
 /* Where there is a verdict, nothing is refused here either, and a zero stands behind the children.

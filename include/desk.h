@@ -3,8 +3,10 @@
    it. Link with libdesk.a (rt staticlib desk).
 
    A model text is one member: `(axis,target,(crawl&gather)?,hold[0..2])`. A children text is names
-   parted by tabs; no bytes mean no children, and then the pointer may be null. Texts are bytes with
-   a length, not ended by a zero. They are not written, and nothing is kept from call to call.
+   parted by tabs; no bytes mean no children, and then the pointer may be null. A name begins with a
+   letter, A to Z or a to z, or an underscore and goes on with letters, digits, `-`, `_`, `.` and
+   `:`; it has at most 32 characters, and case counts. Texts are bytes with a length, not ended by a
+   zero. They are not written, and nothing is kept from call to call.
 
    desk_judge writes nothing.
 

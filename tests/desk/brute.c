@@ -17,6 +17,7 @@
    of the same names in any order, each at most as often as its upper count. */
 #include "brute.h"
 
+#include <ctype.h>
 #include <stdbool.h>
 #include <stdlib.h>
 #include <string.h>
@@ -31,14 +32,15 @@ static void *grown(void *block, size_t bytes)
 
 /* ---- the grammar ---- */
 
-/* Upper case letters are nonterminals, M the model; @ is a letter, # a digit, ! a digit but 0. */
+/* Upper case letters are nonterminals, M the model; @ is a letter or an underscore, # a digit, ! a
+   digit but 0. */
 static const struct production {
     char left;
     const char *right;
 } GRAMMAR[] = {
     {'M', "A"}, {'M', "A?"}, {'M', "G"}, {'M', "G?"},
     {'A', "N"}, {'A', "N[D..D]"}, {'A', "N[D..*]"},
-    {'N', "@"}, {'N', "N@"}, {'N', "N#"}, {'N', "N-"},
+    {'N', "@"}, {'N', "N@"}, {'N', "N#"}, {'N', "N-"}, {'N', "N."}, {'N', "N:"},
     {'D', "0"}, {'D', "P"}, {'P', "!"}, {'P', "P#"},
     {'G', "()"}, {'G', "(M)"}, {'G', "(S)"}, {'G', "(C)"}, {'G', "(I)"},
     {'S', "M,M"}, {'S', "S,M"},
@@ -54,7 +56,7 @@ static bool is_nonterminal(char symbol) { return symbol >= 'A' && symbol <= 'Z';
 static bool matches(char symbol, uint8_t byte)
 {
     switch (symbol) {
-    case '@': return byte >= 'a' && byte <= 'z';
+    case '@': return isalpha(byte) || byte == '_';
     case '#': return byte >= '0' && byte <= '9';
     case '!': return byte >= '1' && byte <= '9';
     default: return !is_nonterminal(symbol) && byte == (uint8_t)symbol;
@@ -194,7 +196,7 @@ static void free_spelling(struct spelling *s)
 
 static bool is_name_byte(uint8_t byte)
 {
-    return matches('@', byte) || matches('#', byte) || byte == '-';
+    return matches('@', byte) || matches('#', byte) || byte == '-' || byte == '.' || byte == ':';
 }
 
 static size_t name_length(const uint8_t *text, size_t len, size_t place)

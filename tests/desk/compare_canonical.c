@@ -11,6 +11,7 @@
 #include "lists.h"
 #include "twin.h"
 
+#include <ctype.h>
 #include <string.h>
 
 static const struct amounts HOW_MANY = {
@@ -42,21 +43,21 @@ static void compare_row(struct bytes model, struct bytes text, struct bytes row)
                  list_by(desk_next, by_text).answer, list_by(desk_next, by_model).answer);
 }
 
-static bool is_letter(uint8_t byte) { return byte >= 'a' && byte <= 'z'; }
+static bool is_initial(uint8_t byte) { return isalpha(byte) || byte == '_'; }
 
 static bool is_name_byte(uint8_t byte)
 {
-    return is_letter(byte) || (byte >= '0' && byte <= '9') || byte == '-';
+    return is_initial(byte) || isdigit(byte) || byte == '-' || byte == '.' || byte == ':';
 }
 
-/* The names of a good model text are its words that begin with a letter. */
+/* The names of a good model text are its words that begin with a letter or an underscore. */
 static size_t find_names(struct bytes model, struct bytes *name)
 {
     size_t names = 0;
     for (size_t at = 0, end; at < model.len; at = end + 1) {
         for (end = at; end < model.len && is_name_byte(model.at[end]);)
             end++;
-        if (end > at && is_letter(model.at[at]))
+        if (end > at && is_initial(model.at[at]))
             name[names++] = (struct bytes){model.at + at, end - at};
     }
     return names;

@@ -50,13 +50,27 @@ static const struct {
     {"a[1..2]?", "", 0},
     {"(a[2..2]|())", "a", 1},
     {"(a-,a)", "a- a", 0},
+    /* 02, W5: case counts, and a name goes on with a dot */
+    {"(A,a)", "A a", 0},
+    {"(A,a)", "a A", 2},
+    {"a", "A", 2},
+    {"(Fade_In,lx:go)", "Fade_In lx:go", 0},
+    {"(Fade_In,lx:go)", "Fade_In", 1},
+    {"(Fade_In,lx:go)", "fade_in", 2},
+    {"(_,__)", "_ __", 0},
+    {"(a..b[1..2],a)", "a..b a..b a", 0},
+    {"(a..b[1..2],a)", "a b", 2},
     /* children that are no names; the model's refusal comes first */
-    {"a", "A", 35},
+    {"a", "9", 35},
+    {"a", ".", 35},
+    {"a", ":a", 35},
+    {"a", "@", 35},
+    {"a", "a/b", 35},
     {"a", "a  a", 35},
     {"a", "a ", 35},
     {"a", "1a", 35},
     {"a", "-", 35},
-    {"a??", "A", 11},
+    {"a??", "9", 11},
 };
 
 #define NAME_31 "abcdefghijklmnopqrstuvwxyz01234"
@@ -120,6 +134,26 @@ static const struct {
     {"(,a)", 11, 1},
     {"a-", 0, 0},
     {"-a", 11, 0},
+    /* 02, W5 */
+    {"(A,Z,_,aZ,a_,a.,a:,a..b)", 0, 0},
+    {"(A,a)", 0, 0},
+    {"(A,A)", 17, 3},
+    {"(Fade_In,lx:go,Fade_In)", 17, 15},
+    {"a..b[1..2]", 0, 0},
+    {"a..b[1..2]..", 11, 10},
+    {"a.[1..2]", 0, 0},
+    {"1a", 11, 0},
+    {".a", 11, 0},
+    {":a", 11, 0},
+    {"(_,@)", 11, 3},
+    {"a/", 11, 1},
+    {"a;", 11, 1},
+    {"A@", 11, 1},
+    {"Z{", 11, 1},
+    {"_^", 11, 1},
+    {"_`", 11, 1},
+    {"a]", 11, 1},
+    {"a\xe1", 11, 1},
     {"(", 11, 1},
     /* brackets round one name, with marks and beside other members */
     {"((((a))))", 0, 0},
@@ -229,8 +263,8 @@ static const struct {
     {"a", "a", 0, {0, {0}}},
     {"a", "", 0, {REFUSAL(46), {0}}},
     /* 46 comes behind every refusal of a text */
-    {"a??", "A", 0, {REFUSAL(11), {0}}},
-    {"a", "A", 0, {REFUSAL(35), {0}}},
+    {"a??", "9", 0, {REFUSAL(11), {0}}},
+    {"a", "9", 0, {REFUSAL(35), {0}}},
 };
 
 /* The first child that is foreign or one too many. */
@@ -268,12 +302,16 @@ static const struct {
     {"(a,b)", "a aa", 1},
     {"(ab,a)", "a ab", DESK_NO_FAULT},
     {"(ab,b)", "ab a", 1},
+    /* nor one that differs in case */
+    {"(a,b)", "A", 0},
+    {"(a,A)", "A a", DESK_NO_FAULT},
+    {"(a,A)", "A a A", 2},
     /* refusals come first, also that of a child behind the fault */
-    {"(a,b)", "x A", REFUSAL(35)},
+    {"(a,b)", "x 9", REFUSAL(35)},
     {"(a,b)", "a a b 1", REFUSAL(35)},
     {"(a,b)", "a a ", REFUSAL(35)},
     {"(a,b)%", "x", REFUSAL(11)},
-    {"(a,a)", "x A", REFUSAL(17)},
+    {"(a,a)", "x 9", REFUSAL(17)},
 };
 
 /* The same, with so many of a between the first child and the last. */
@@ -296,11 +334,11 @@ static const struct {
     {"a[1..*]", "x", 4095, "a", REFUSAL(36)},
     {"a[1..*]", "a", 4095, "x", REFUSAL(36)},
     {"a[1..4096]", "a", 4095, "a", REFUSAL(36)},
-    {"a", "x", 4095, "A", REFUSAL(35)},
+    {"a", "x", 4095, "9", REFUSAL(35)},
     /* 65,535 bytes, and two more */
     {"a", "x", 32766, "a", REFUSAL(36)},
-    {"a", "x", 32766, "A", REFUSAL(35)},
-    {"a", "x", 32767, "A", REFUSAL(30)},
+    {"a", "x", 32766, "9", REFUSAL(35)},
+    {"a", "x", 32767, "9", REFUSAL(30)},
 };
 
 /* Canonical texts. */
@@ -366,6 +404,8 @@ static const struct {
     {"(b,a)", "(b,a)"},
     {"(ab|b|a1|a|a-)", "(a|a-|a1|ab|b)"},
     {"(name10&name2&name1&name)", "(name&name1&name10&name2)"},
+    {"(b&a&_&Z&A)", "(A&Z&_&a&b)"},
+    {"(ab|a_b|aB|a:b|a1|a.b|a-b)", "(a-b|a.b|a1|a:b|aB|a_b|ab)"},
     {"(c|(d,b)|a)", "(a|(d,b)|c)"},
     {"(d|(c&(b,(f|a)))|e)", "(((b,(a|f))&c)|d|e)"},
 };

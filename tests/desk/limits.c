@@ -53,6 +53,27 @@ static void try_names(try_call *f, struct report *to)
             }
 }
 
+/* Every byte, with these around it, as a model text and as a children text. */
+static void try_bytes(try_call *f, struct report *to)
+{
+    static const struct {
+        const char *front, *end;
+    } AROUND[] = {
+        {"", ""},    {"a", ""},      {"", "a"},    {"a", "a"},   {"(b,", ")"},    {"(b,a", "[1..2])"},
+        {"a\t", ""}, {"a\t", "\tb"}, {"a", "\tb"}, {"b\ta", ""}, {"a[1..2", "]"}, {"_", ".:9-Z"},
+    };
+    for (size_t i = 0; i < LENGTH(AROUND); i++)
+        for (unsigned byte = 0; byte < 256; byte++) {
+            static struct text text;
+            uint8_t tried = (uint8_t)byte;
+            begin(&text, AROUND[i].front);
+            put_bytes(&text, (struct bytes){&tried, 1});
+            put(&text, AROUND[i].end);
+            try_model(f, to, written(&text));
+            f(to, (struct call){bytes_of("(b?,a[0..2])"), written(&text)});
+        }
+}
+
 /* Brackets inside each other, and brackets that are closed again beside them. */
 static void try_brackets(try_call *f, struct report *to)
 {
@@ -197,7 +218,7 @@ static void try_children(try_call *f, struct report *to, struct bytes children)
 
 static void try_many_children(try_call *f, struct report *to)
 {
-    static const char *const LASTS[] = {"a", "b", "c", "", "A", "a%", "a\t", "\ta"};
+    static const char *const LASTS[] = {"a", "b", "A", "", "9", "a%", "a\t", "\ta"};
     for (size_t many = 4094; many <= 4097; many++)
         for (size_t i = 0; i < LENGTH(LASTS); i++) {
             static struct text children;
@@ -231,7 +252,7 @@ static void try_odd_children(try_call *f, struct report *to)
     static const char *const ODD[] = {
         "a", "\t", "a\t", "\ta", "a\t\ta", "a\ta", "a a", "a\r", "a\n", "A", "aA", "1", "-", "a1",
         "a-", "1a", "-a", "a\x80", "\xff", "\xe1", "a.", "a?", "(a)", "a[1..1]", "`", "{", "a/",
-        "a:", "a\t%\tb", "q\tq", "a\tq", "aa",
+        "a:", "a\t%\tb", "q\tq", "a\tq", "aa", "_", ".", ":", "a_", "a\t_\tA", "a\t.", "@", "[",
     };
     static struct text children;
     for (size_t i = 0; i < LENGTH(ODD); i++) {
@@ -270,6 +291,7 @@ void try_limits(try_call *f, struct report *to)
 {
     try_sizes(f, to);
     try_names(f, to);
+    try_bytes(f, to);
     try_brackets(f, to);
     try_depth(f, to);
     try_width(f, to);

@@ -378,7 +378,7 @@ static void write_row(struct sketch *s, const struct row *row, struct text *t)
 static void short_names(struct sketch *s)
 {
     static const char *const SHORT[FEW] = {
-        "a", "b", "c", "ab", "a-", "a1", "ba", "b-2", "abc", "z9",
+        "a", "b", "A", "ab", "a.", "a1", "Ba", "_-2", "aBc", "z:",
     };
     size_t start = below(&s->dice, FEW), step = one_in(&s->dice, 2) ? 3 : 7;
     for (size_t k = 0; k < NAMES; k++)
@@ -390,7 +390,8 @@ static void short_names(struct sketch *s)
 /* Names of 1 to 32 characters that all differ. */
 static void long_names(struct sketch *s)
 {
-    static const char FILLING[] = "abcdefghijklmnopqrstuvwxyz0123456789-";
+    static const char FILLING[] = 
+        "abcdefghijklmnopqrstuvwxyzABCDEFGHIJKLMNOPQRSTUVWXYZ0123456789_-.:";
     for (size_t k = 0; k < NAMES; k++) {
         int used = snprintf(s->name[k], NAME_ROOM, "%c%zu-", (char)('a' + k % 26), k);
         size_t len = (size_t)used + below(&s->dice, one_in(&s->dice, 4) ? 33 - (size_t)used : 6);
@@ -400,12 +401,13 @@ static void long_names(struct sketch *s)
     }
 }
 
-/* Names of five letters out of three: many share length, letters, first and last. */
+/* Names of five letters out of three, one of them in both cases: many share length, letters, first
+   and last. */
 static void alike_names(struct sketch *s)
 {
     for (size_t k = 0; k < NAMES; k++)
         for (size_t i = 0, rest = 3 * k; i < 6; i++, rest /= 3)
-            s->name[k][i] = i == 5 ? '\0' : "abc"[(rest + i) % 3];
+            s->name[k][i] = i == 5 ? '\0' : "aAb"[(rest + i) % 3];
 }
 
 /* Names of which each begins all longer ones, of two such kinds. */
@@ -414,7 +416,7 @@ static void nested_names(struct sketch *s)
     char longest[2][NAME_ROOM];
     for (size_t k = 0; k < 2; k++)
         for (size_t i = 0; i < 32; i++)
-            longest[k][i] = i == 0 ? "ma"[k] : "amz09-"[below(&s->dice, 6)];
+            longest[k][i] = i == 0 ? "ma"[k] : "aZz09-_.:"[below(&s->dice, 9)];
     for (size_t k = 0; k < NAMES; k++) {
         size_t len = k / 2 + 1;
         memcpy(s->name[k], longest[k % 2], len);
@@ -428,11 +430,11 @@ static void common_names(struct sketch *s)
     char beginning[NAME_ROOM] = "c";
     size_t len = below(&s->dice, 31);
     for (size_t i = 1; i < len; i++)
-        beginning[i] = "amz09-"[below(&s->dice, 6)];
+        beginning[i] = "aZz09-_.:"[below(&s->dice, 9)];
     for (size_t k = 0; k < NAMES; k++) {
         memcpy(s->name[k], beginning, len);
-        s->name[k][len] = "abcdwxyz"[k / 8];
-        s->name[k][len + 1] = "-059amyz"[k % 8];
+        s->name[k][len] = "aAbB_wXz"[k / 8];
+        s->name[k][len + 1] = "-.0:aA_z"[k % 8];
         s->name[k][len + 2] = '\0';
     }
 }

@@ -56,16 +56,24 @@ static const uint32_t NOWHERE = UINT32_MAX;   /* the first place of a name that 
 
 /* ---- names ---- */
 
-/* Letters, digits and the hyphen. */
+/* Letters of either case, digits, underscore, hyphen, dot and colon. */
 static const bool NAME_BYTE[256] = {
     ['a'] = 1, ['b'] = 1, ['c'] = 1, ['d'] = 1, ['e'] = 1, ['f'] = 1, ['g'] = 1, ['h'] = 1,
     ['i'] = 1, ['j'] = 1, ['k'] = 1, ['l'] = 1, ['m'] = 1, ['n'] = 1, ['o'] = 1, ['p'] = 1,
     ['q'] = 1, ['r'] = 1, ['s'] = 1, ['t'] = 1, ['u'] = 1, ['v'] = 1, ['w'] = 1, ['x'] = 1,
-    ['y'] = 1, ['z'] = 1, ['0'] = 1, ['1'] = 1, ['2'] = 1, ['3'] = 1, ['4'] = 1, ['5'] = 1,
-    ['6'] = 1, ['7'] = 1, ['8'] = 1, ['9'] = 1, ['-'] = 1,
+    ['y'] = 1, ['z'] = 1, ['A'] = 1, ['B'] = 1, ['C'] = 1, ['D'] = 1, ['E'] = 1, ['F'] = 1,
+    ['G'] = 1, ['H'] = 1, ['I'] = 1, ['J'] = 1, ['K'] = 1, ['L'] = 1, ['M'] = 1, ['N'] = 1,
+    ['O'] = 1, ['P'] = 1, ['Q'] = 1, ['R'] = 1, ['S'] = 1, ['T'] = 1, ['U'] = 1, ['V'] = 1,
+    ['W'] = 1, ['X'] = 1, ['Y'] = 1, ['Z'] = 1, ['0'] = 1, ['1'] = 1, ['2'] = 1, ['3'] = 1,
+    ['4'] = 1, ['5'] = 1, ['6'] = 1, ['7'] = 1, ['8'] = 1, ['9'] = 1, ['_'] = 1, ['-'] = 1,
+    ['.'] = 1, [':'] = 1,
 };
 
-static bool is_letter(int byte) { return byte >= 'a' && byte <= 'z'; }
+/* A name begins with a letter or an underscore. */
+static bool is_initial(int byte)
+{
+    return (byte >= 'a' && byte <= 'z') || (byte >= 'A' && byte <= 'Z') || byte == '_';
+}
 
 /* A name as it stands in a text. */
 struct name {
@@ -252,7 +260,7 @@ static bool read_member(struct reader *r, uint32_t open)
 {
     struct node *node = &r->rule->node[r->rule->node_count]; /* where the member begins */
     int byte = peek(r);
-    if (byte != '(' && !is_letter(byte))
+    if (byte != '(' && !is_initial(byte))
         return refuse(r, SPELLING, r->at);
     if (!(byte == '(' ? read_group(r, open) : read_atom(r)))
         return false;
@@ -349,7 +357,7 @@ static uint32_t tally_children(const struct names *names, const uint8_t *text, s
     uint32_t row = 0;
     for (size_t at = 0;; at++) {
         struct name name = scan_name(text, len, at);
-        if (name.len == 0 || name.len > MAX_NAME || !is_letter(text[at]))
+        if (name.len == 0 || name.len > MAX_NAME || !is_initial(text[at]))
             return NO_NAME;
         struct tally *t = &tally[names->slot[find_slot(names, &name)]];
         if (t->count++ == 0)

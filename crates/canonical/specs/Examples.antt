@@ -26,6 +26,10 @@ onward = (_, tree-accepted _ _ refl, refl)
 ordered : Writing (bytes "((c&b)|ab|a)") (bytes "(a|ab|(b&c))")
 ordered = (_, tree-accepted _ _ refl, refl)
 
+-- by bytes: capitals, the underscore, small letters
+by-bytes : Writing (bytes "(b|_|B|a_|a.|aA)") (bytes "(B|_|a.|aA|a_|b)")
+by-bytes = (_, tree-accepted _ _ refl, refl)
+
 -- members of a sequence stay
 kept : Writing (bytes "(b,(a))") (bytes "(b,a)")
 kept = (_, tree-accepted _ _ refl, refl)

@@ -118,7 +118,7 @@ fn tell_cue(what: &[u8], cues: &[u8]) {
 fn tell_many() {
     let mut cues = many();
     tell_cue(b"36", &cues);
-    cues[2 * CHILDREN + 6] = b'B';
+    cues[2 * CHILDREN + 6] = b'9';
     tell_cue(b"35 before 36", &cues);
 }
 
@@ -140,8 +140,9 @@ fn tell_sheets() {
     );
     tell_sheet(b"23", b"rule\ta\n");
     tell_sheet(b"23 line 2", b"rule\ta\tb\n\n");
-    tell_sheet(b"24", b"rule\tA\tb\n");
+    tell_sheet(b"24", b"rule\t9\tb\n");
     tell_sheet(b"25", b"rule\ta\tb\nrule\ta\tb\n");
+    tell_sheet(b"kinds by case", b"rule\ta\tb\nrule\tA\tb\n");
     tell_sheet(b"11 line 2", b"rule\ta\tb\nrule\tb\t(\n");
     tell(b"sheet first", b"rule\ta\n", b"cue\n");
 }
@@ -187,7 +188,7 @@ fn tell_lists() {
     tell_list(b"32", b"cue\t1\n");
     tell_list(b"33", b"cue\t01\ta\n");
     tell_list(b"34", b"cue\t2\ta\ncue\t2\ta\n");
-    tell_list(b"35 kind", b"cue\t1\tA\n");
+    tell_list(b"35 kind", b"cue\t1\t.a\n");
     tell_list(b"35 child", b"cue\t1\ta\tb\t\n");
 }
 
@@ -203,9 +204,10 @@ fn tell_children() {
     tell_hold(b"37 at 0", b"hold\tcrawl\taxis", 0);
     tell_hold(b"37 past", b"hold\tcrawl\taxis", 4);
     tell_hold(b"37 none", b"", 1);
-    tell_hold(b"35", b"axis\tAxis", 1);
+    tell_hold(b"35", b"axis\t:axis", 1);
+    tell_hold(b"foreign by case", b"axis\tAxis", 2);
     tell_hold(b"35 before 37", b"axis\t", 3);
-    tell_child(b"10 before 35", b"", b"A", 1);
+    tell_child(b"10 before 35", b"", b"9", 1);
 }
 
 fn main() {

@@ -224,6 +224,43 @@ fn marks_and_groups() {
     read(b"a-");
 }
 
+// The bytes that make a name of these three places from `from` on, where they stand in the middle.
+fn tell_bytes(shown: &[u8], from: usize) {
+    write(shown);
+    write(b"\t");
+    let mut i: usize = 0;
+    while i < 256 {
+        let text = [b'a', i as u8, b'a'];
+        let reading = read_model(&text[lesser(from, 1)..3]);
+        let outcome = reading.outcome;
+        if let Outcome::Read = outcome {
+            write(&[i as u8]);
+        }
+        i += 1;
+    }
+    write(b"\n");
+}
+
+// Document 02, W5: bytes of names, those beside them, and names that differ in case.
+fn bytes_of_names() {
+    tell_bytes(b"begins a name", 1);
+    tell_bytes(b"goes on in it", 0);
+    read(b"9a");
+    read(b"(_,.a)");
+    read(b"a/b");
+    read(b"lx:go;");
+    read(b"Fade@");
+    read(b"Fade_In^");
+    read(b"(A,`)");
+    read(b"a..b[1..2]");
+    read(b"a..b[1..2]..");
+    read(b"(A,a)");
+    read(b"(A,A)");
+    run(b"(A,a)", b"Aa");
+    run(b"(A,a)", b"aA");
+    search(b"(A,b)", b"AB");
+}
+
 // Puts bytes at `at`, as far as there is room, and gives the place behind them.
 fn put(text: &mut [u8], at: usize, bytes: &[u8]) -> usize
     ensures { λ r. ⌜ r ≤ length (now (text .exit)) ⌝ }
@@ -372,6 +409,7 @@ fn main() {
     limits();
     names_and_counts();
     marks_and_groups();
+    bytes_of_names();
     atoms_and_nodes();
     brackets();
     depths();

@@ -17,7 +17,7 @@ abbrev partsFit : ℕ → List Text → Bool
 partsFit r [] = true
 partsFit r (c ∷ cs) = leb (length c) r && allShort cs
 
-abbrev fits : ℕ → Text → Bool
+abbrev pub fits : ℕ → Text → Bool
 fits r [] = true
 fits r (b ∷ y) = cond (eqb b tab) (fits maxName y) (ltb 0 r && fits (r - 1) y)
 
@@ -36,11 +36,11 @@ parts-fit r (b ∷ y) =
     (λ d. rw (d, le-leb 0 r (omega arith)) (short-parts y ∙ parts-fit maxName y))
     (λ d. rw (d, ← parts-fit (r - 1) y, h .is, one-less (length (h .first)) r) (and-assoc (ltb 0 r) _ _))
 
-short-fits : (y : Text) → allShort (split tab y) ≡ fits maxName y
+pub short-fits : (y : Text) → allShort (split tab y) ≡ fits maxName y
 short-fits y = short-parts y ∙ parts-fit maxName y
 
 -- no part is longer than the text
-fits-all : (r : ℕ) (y : Text) → length y ≤ r → r ≤ maxName → fits r y ≡ true
+pub fits-all : (r : ℕ) (y : Text) → length y ≤ r → r ≤ maxName → fits r y ≡ true
 fits-all r [] h l = refl
 fits-all r (b ∷ y) h l =
     by-test (eqb b tab)
@@ -48,7 +48,7 @@ fits-all r (b ∷ y) h l =
     (λ d. rw (d, lt-ltb 0 r (omega arith)) (fits-all (r - 1) y (omega arith) (omega arith)))
 
 -- the parts before a tab that is near are short, so those behind it decide
-fits-tab : (r k : ℕ) (y : Text) → k ≤ r → r ≤ maxName → k < length y → getD y k 0 ≡ tab → fits r y ≡ fits maxName (drop (suc k) y)
+pub fits-tab : (r k : ℕ) (y : Text) → k ≤ r → r ≤ maxName → k < length y → getD y k 0 ≡ tab → fits r y ≡ fits maxName (drop (suc k) y)
 fits-tab r k [] n l h e = absurd (omega arith)
 fits-tab r zero (b ∷ y) n l h e = rw (eq-eqb b tab e)
 fits-tab r (suc k) (b ∷ y) n l h e =

@@ -1,20 +1,20 @@
 -- Whether each field is spelt as a name, byte by byte: each byte is tested with the one before it.
 use mathlib.Core.{Path._≡_, Path.refl, Path.sym, Path._∙_, List.List, List.[], List._∷_}
-use mathlib.Core.Bool.{Bool, true, false, cond, not, _&&_, _||_, and-assoc, and-false}
+use mathlib.Core.Bool.{Bool, true, false, cond, not, _&&_, _||_, and-assoc}
 use Prim.Native.Nat.{ℕ, _+_, _-_, _<_}
 use native.Mathlib.{Omega.arith, Numerals.add-one}
 use lib.{Dec.eqb, ListN.length, ListN.drop, ListN.getD, Seq.drop-cons, Seq.drop-length}
 use borrow.Author.Tests.{eqb-true}
 use Rattle.fields.specs.{Tests.by-test, Split.tab, Split.split, Split.Laws.parted}
-use Rattle.fields.specs.Bytes.{Text, isInitial, isInner, all, isName}
+use Rattle.fields.specs.Bytes.{Text, isInitial, isLater, isInner, all, isName}
 
 abbrev pub allSpelt : List Text → Bool
 allSpelt [] = true
 allSpelt (c ∷ cs) = isName c && allSpelt cs
 
--- whether b may stand behind a: a tab parts names, and not every byte of a name begins one
+-- whether b may stand behind a: behind a tab a name begins, behind any other byte one goes on or ends
 abbrev pub mayFollow : ℕ → ℕ → Bool
-mayFollow a b = (isInner b || eqb b tab) && (not (eqb a tab) || isInitial b)
+mayFollow a b = isInitial b || (not (eqb a tab) && (isLater b || eqb b tab))
 
 -- whether a text may stand behind a
 abbrev pub goesOn : ℕ → Text → Bool
@@ -34,9 +34,9 @@ goes-on a (b ∷ y) =
     by-test (eqb b tab)
     (λ d. rw (goes-on b y, d, eqb-true b tab d) (by-test (eqb a tab) (λ e. rw e) (λ e. rw e)))
     (λ d. rw (goes-on b y, d, h .is)
-    (by-test (eqb a tab)
-    (λ e. rw e (by-test (isInitial b) (λ f. rw f) (λ f. rw (f, and-false))))
-    (λ e. rw e (by-test (isInner b) (λ f. rw f) (λ f. rw f)))))
+    (by-test (isInitial b)
+    (λ f. rw f (by-test (eqb a tab) (λ e. rw e) (λ e. rw e)))
+    (λ f. rw f (by-test (eqb a tab) (λ e. rw e) (λ e. rw e (by-test (isLater b) (λ g. rw g) (λ g. rw g)))))))
 
 module _ (x : Text) where
   pub spelt-none : length x ≡ 0 → false ≡ allSpelt (split tab x)

@@ -15,7 +15,7 @@ use Rattle.sheet.specs.Sheet.{maxRules, kind, model, among, modelFault, lineFau
 use Rattle.canonical.specs.{Canonical.canonical, Canonical.Accepted.canonical-formed, Ends.text-accepted, Ends.same-rows, Ends.written-twice}
 use Rattle.tidying.specs.Tidying.{tidyModel, tidyLine, tidyLines, tidySheet, LineKept, Laws.good-sheet}
 use Rattle.tidying.specs.Tidying.Line.{RuleFits, tree-is, kind-named, fields-are}
-use Rattle.tidying.specs.Tidying.Visible.{Visible, name-visible, text-visible, visible-free, split-behind, split-free-of}
+use Rattle.tidying.specs.Tidying.Visible.{visible, Visible, name-visible, text-visible, visible-free, split-behind, split-free-of}
 
 -- the model
 module _ {m : Text} (a : Accepted m) where
@@ -46,21 +46,21 @@ faultOf ks fs =
     (modelFault (answer (getD fs 2 [])))))
 
 module _ {l : Text} (r : RuleFits l) where
-  kind-free : (s : ℕ) → s ≤ 32 → T (all (other s) (kind l))
+  kind-free : (s : ℕ) → T (not (visible s)) → T (all (other s) (kind l))
   kind-free s h = visible-free s h (kind l) (name-visible (kind l) (rw (kind-named r .0) tt))
 
-  model-free : (s : ℕ) → s ≤ 32 → T (all (other s) (tidyModel (model l)))
+  model-free : (s : ℕ) → T (not (visible s)) → T (all (other s) (tidyModel (model l)))
   model-free s h = visible-free s h (tidyModel (model l)) (model-visible (r .is-accepted))
 
   bare-fields : fields (bare l) ≡ bytes "rule" ∷ (kind l ∷ (tidyModel (model l) ∷ []))
   bare-fields =
       split-behind tab (bytes "rule") (kind l ++ (tab ∷ tidyModel (model l))) tt
-      ∙ ap (λ fs. bytes "rule" ∷ fs) (split-behind tab (kind l) (tidyModel (model l)) (kind-free tab (omega arith)))
-      ∙ ap (λ fs. bytes "rule" ∷ (kind l ∷ fs)) (split-free-of tab (tidyModel (model l)) (model-free tab (omega arith)))
+      ∙ ap (λ fs. bytes "rule" ∷ fs) (split-behind tab (kind l) (tidyModel (model l)) (kind-free tab tt))
+      ∙ ap (λ fs. bytes "rule" ∷ (kind l ∷ fs)) (split-free-of tab (tidyModel (model l)) (model-free tab tt))
 
   bare-free : T (all (other lineFeed) (bare l))
   bare-free =
-      all-append (other lineFeed) (kind l) (tab ∷ tidyModel (model l)) (kind-free lineFeed (omega arith)) (model-free lineFeed (omega arith))
+      all-append (other lineFeed) (kind l) (tab ∷ tidyModel (model l)) (kind-free lineFeed tt) (model-free lineFeed tt)
 
   kind-same : kind (bare l) ≡ kind l
   kind-same = ap (λ fs. getD fs 1 []) bare-fields

@@ -1,12 +1,11 @@
 -- A model text has neither tab nor line feed, and what is put together with such a separator is parted there again.
-use mathlib.Core.{Path._≡_, Path.refl, Bool.Bool, Bool.false, List.[], List._∷_, List._++_}
-use Prim.Native.{Nat.ℕ, Nat._≤_, Char.code}
-use native.Mathlib.Omega.{arith}
-use lib.Dec.{T, ltb, eqb}
+use mathlib.Core.{Path._≡_, Path.refl, Bool.Bool, Bool.false, Bool.not, Bool._&&_, List.[], List._∷_, List._++_}
+use Prim.Native.Nat.{ℕ}
+use lib.Dec.{T, eqb}
 use mir.Facts.{and-yes}
-use borrow.Author.Tests.{ltb-true, ltb-false, lt-leb, eq-eqb, ne-eqb, not-true}
-use Rattle.fields.specs.{Tests.by-test, Bytes.Text, Bytes.bytes, Bytes.isDigit, Bytes.isInner, Bytes.isName, Bytes.isNumeral, Bytes.all}
-use Rattle.fields.specs.{Bytes.Laws.T-true, Split.split, Split.other}
+use borrow.Author.Tests.{eq-eqb, not-true}
+use Rattle.fields.specs.Bytes.{Text, bytes, isDigit, isInner, isName, isNumeral, all}
+use Rattle.fields.specs.{Bytes.Laws.T-true, Bytes.Laws.apart, Split.tab, Split.lineFeed, Split.split, Split.other}
 use Rattle.fields.specs.Bytes.Runs.{digit-inner, all-map, all-append, numeral-digits}
 use Rattle.model.specs.declared.rule.{Sign.Sign, Mark.Mark}
 use Rattle.model.specs.declared.rule.Sign.the-variants.{None, Sequence, Choice, Interleaving}
@@ -16,19 +15,14 @@ use Rattle.model.specs.Syntax.{Count, unwritten, between, onward, Spelling, Syn
 use Rattle.model.specs.Syntax.{nodeText, text, membersText, moreText}
 use Rattle.canonical.specs.Writer.Place.Laws.{name-inner}
 
--- above the space
-abbrev visible : ℕ → Bool
-visible b = ltb 32 b
+abbrev pub visible : ℕ → Bool
+visible b = other tab b && other lineFeed b
 
 abbrev pub Visible : Text → Type 0
 Visible x = T (all visible x)
 
 inner-visible : (b : ℕ) → T (isInner b) → T (visible b)
-inner-visible b h =
-    by-test (visible b) (λ e. rw e tt)
-    (λ e.
-    let k = ltb-false 32 b e in
-    absurd (rw (lt-leb (code "a") b (omega arith), lt-leb (code "0") b (omega arith), ne-eqb b (code "-") (λ q. omega (arith, q))) at h))
+inner-visible b h = rw (apart isInner b tab h tt, apart isInner b lineFeed h tt) tt
 
 numeral-visible : (n : Text) → T (isNumeral n) → Visible n
 numeral-visible n h = all-map isDigit visible (λ b d. inner-visible b (digit-inner b d)) n (numeral-digits n h)
@@ -71,11 +65,8 @@ mutual
       (all-append visible (text t) (moreText ts s) (text-visible t (h .0)) (more-visible ts s (h .1)))
 
 -- a separator is none of these bytes
-pub visible-free : (s : ℕ) → s ≤ 32 → (x : Text) → Visible x → T (all (other s) x)
-visible-free s k = all-map visible (other s) free
-  where
-    free : (b : ℕ) → T (visible b) → T (other s b)
-    free b h = rw (ne-eqb b s (λ q. omega (arith, q, ltb-true 32 b (T-true (visible b) h)))) tt
+pub visible-free : (s : ℕ) → T (not (visible s)) → (x : Text) → Visible x → T (all (other s) x)
+visible-free s n = all-map visible (other s) (λ b h. rw (apart visible b s h n) tt)
 
 module _ (s : ℕ) where
   free-first : (b : ℕ) (u : Text) → T (all (other s) (b ∷ u)) → (eqb b s ≡ false) × T (all (other s) u)
