@@ -147,6 +147,39 @@ fn tell_sheets() {
     tell(b"sheet first", b"rule\ta\n", b"cue\n");
 }
 
+// Each of these bytes behind `a`, as the kind of a rule and as the kind and the child of a cue.
+fn tell_bytes(bytes: &[u8]) {
+    let mut i: usize = 0;
+    while i < bytes.len() {
+        let b = bytes[i];
+        i += 1;
+        tell_sheet(
+            &[b],
+            &[b'r', b'u', b'l', b'e', b'\t', b'a', b, b'\t', b'b', b'\n'],
+        );
+        tell_list(
+            &[b],
+            &[b'c', b'u', b'e', b'\t', b'1', b'\t', b'a', b, b'\n'],
+        );
+        tell_list(
+            &[b],
+            &[
+                b'c',
+                b'u',
+                b'e',
+                b'\t',
+                b'1',
+                b'\t',
+                b'a',
+                b'\t',
+                b'a',
+                b,
+                b'\n',
+            ],
+        );
+    }
+}
+
 // A sheet of one line with the kind `a`, and its model by itself.
 fn tell_model(what: &[u8], sheet: &[u8]) {
     tell_sheet(what, sheet);
@@ -212,6 +245,7 @@ fn tell_children() {
 
 fn main() {
     tell_sheets();
+    tell_bytes(b",-./09:;@AZ[^_`az{");
     tell_models();
     tell_lists();
     tell_short();

@@ -224,27 +224,36 @@ fn marks_and_groups() {
     read(b"a-");
 }
 
-// The bytes that make a name of these three places from `from` on, where they stand in the middle.
-fn tell_bytes(shown: &[u8], from: usize) {
-    write(shown);
-    write(b"\t");
+// Writes the byte if the text is read.
+fn tell_read(text: &[u8], b: u8) {
+    let reading = read_model(text);
+    let outcome = reading.outcome;
+    if let Outcome::Read = outcome {
+        write(&[b]);
+    }
+}
+
+fn tell_bytes() {
+    write(b"begins a name\t");
     let mut i: usize = 0;
     while i < 256 {
-        let text = [b'a', i as u8, b'a'];
-        let reading = read_model(&text[lesser(from, 1)..3]);
-        let outcome = reading.outcome;
-        if let Outcome::Read = outcome {
-            write(&[i as u8]);
-        }
+        let b = i as u8;
+        tell_read(&[b, b'a'], b);
         i += 1;
+    }
+    write(b"\ngoes on in it\t");
+    let mut k: usize = 0;
+    while k < 256 {
+        let b = k as u8;
+        tell_read(&[b'a', b, b'a'], b);
+        k += 1;
     }
     write(b"\n");
 }
 
 // Document 02, W5: bytes of names, those beside them, and names that differ in case.
 fn bytes_of_names() {
-    tell_bytes(b"begins a name", 1);
-    tell_bytes(b"goes on in it", 0);
+    tell_bytes();
     read(b"9a");
     read(b"(_,.a)");
     read(b"a/b");
