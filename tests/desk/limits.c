@@ -270,6 +270,23 @@ static void try_odd_children(try_call *f, struct report *to)
         }
 }
 
+/* A name of around 32 bytes behind a foreign child and among short ones, from each place of two
+   blocks of 16 bytes on. */
+static void try_long_among_short(try_call *f, struct report *to)
+{
+    for (size_t before = 0; before < 33; before++)
+        for (size_t len = 30; len <= 34; len++) {
+            static struct text children;
+            begin(&children, "foreign");
+            put(&children, before % 2 == 0 ? "" : "\tab");
+            put_times(&children, "\ta", before / 2);
+            put(&children, "\t");
+            put_times(&children, "x", len);
+            put_times(&children, "\ta", 20);
+            try_children(f, to, written(&children));
+        }
+}
+
 /* As many atoms and nodes as there may be; behind one child of each name, each once more, and a
    foreign one. */
 static void try_repeats(try_call *f, struct report *to)
@@ -300,5 +317,6 @@ void try_limits(try_call *f, struct report *to)
     try_many_children(f, to);
     try_long_children(f, to);
     try_odd_children(f, to);
+    try_long_among_short(f, to);
     try_repeats(f, to);
 }
