@@ -47,9 +47,11 @@ fn is_child(children: &[u8], at: usize, read: NameEnd) -> bool
     if (len == 0) | (MAX_NAME < len) {
         return false;
     }
-    let initial = is_initial(children[at]);
+    if is_initial(children[at]) {} else {
+        return false;
+    }
     let parted = stands(children, end, TAB);
-    initial & (parted | (end == children.len()))
+    parted | (end == children.len())
 }
 
 // How many children there are, or the place of the first that is foreign or one too many of its name, or what is wrong with the children.
