@@ -13,7 +13,6 @@ ghost use Rattle.judge.specs.Reply.Children.{childFrom, childrenFrom, st
 ghost use Rattle.judge.specs.Reading.Table.{Tabled, Distinct, partsIn};
 use crate::lexeme::NameEnd;
 use crate::lexeme::name_end;
-use crate::lexeme::stands;
 use crate::reader::Got;
 use crate::reader::read_whole;
 use crate::row::verdict_by;
@@ -50,8 +49,10 @@ fn is_child(children: &[u8], at: usize, read: NameEnd) -> bool
     if is_initial(children[at]) {} else {
         return false;
     }
-    let parted = stands(children, end, TAB);
-    parted | (end == children.len())
+    if end == children.len() {
+        return true;
+    }
+    children[end] == TAB
 }
 
 // How many children there are, or the place of the first that is foreign or one too many of its name, or what is wrong with the children.
