@@ -390,7 +390,7 @@ static void short_names(struct sketch *s)
 /* Names of 1 to 32 characters that all differ. */
 static void long_names(struct sketch *s)
 {
-    static const char FILLING[] = 
+    static const char FILLING[] =
         "abcdefghijklmnopqrstuvwxyzABCDEFGHIJKLMNOPQRSTUVWXYZ0123456789_-.:";
     for (size_t k = 0; k < NAMES; k++) {
         int used = snprintf(s->name[k], NAME_ROOM, "%c%zu-", (char)('a' + k % 26), k);

@@ -233,27 +233,26 @@ fn tell_read(text: &[u8], b: u8) {
     }
 }
 
-fn tell_bytes() {
-    write(b"begins a name\t");
+// Writes each byte that is read between `a` and `a`; where `from` is 1, before `a` alone.
+fn tell_bytes(from: usize)
+    requires { ⌜ from ≤ 1 ⌝ }
+{
     let mut i: usize = 0;
     while i < 256 {
         let b = i as u8;
-        tell_read(&[b, b'a'], b);
+        let text = [b'a', b, b'a'];
+        tell_read(&text[from..3], b);
         i += 1;
     }
-    write(b"\ngoes on in it\t");
-    let mut k: usize = 0;
-    while k < 256 {
-        let b = k as u8;
-        tell_read(&[b'a', b, b'a'], b);
-        k += 1;
-    }
-    write(b"\n");
 }
 
 // Document 02, W5: bytes of names, those beside them, and names that differ in case.
 fn bytes_of_names() {
-    tell_bytes();
+    write(b"begins a name\t");
+    tell_bytes(1);
+    write(b"\ngoes on in it\t");
+    tell_bytes(0);
+    write(b"\n");
     read(b"9a");
     read(b"(_,.a)");
     read(b"a/b");
