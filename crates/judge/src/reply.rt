@@ -1,9 +1,9 @@
 // Children judged by a model text.
 
-ghost use mathlib.Core.{Path._≡_, Bool.cond, List.[], List.List};
+ghost use mathlib.Core.{Path._≡_, Bool.true, Bool.cond, List.[], List.List};
 ghost use Prim.Native.Nat.{_+_, _≤_, _<_};
-ghost use lib.{Dec.ltb, ListN.length};
-ghost use Rattle.fields.specs.{Limits.maxFile, Limits.maxNodes, Limits.maxRow, Children.shortName};
+ghost use lib.{Dec.ltb, ListN.length, ListN.getD};
+ghost use Rattle.fields.specs.{Bytes.isInitial, Limits.maxFile, Limits.maxNodes, Limits.maxRow, Children.shortName};
 ghost use Rattle.fields.specs.declared.fault.CueFault.the-variants.{ManyChildren};
 ghost use Rattle.model.specs.declared.rule.Upper.{Upper};
 ghost use Rattle.judge.specs.{declared.lexeme.NameEnd.NameEnd, Reading.Lexeme.NameEnds, Row.Tally.Seeing};
@@ -12,6 +12,7 @@ ghost use Rattle.judge.specs.Reply.{childrenIn, childrenReply, judgedOf,
 ghost use Rattle.judge.specs.Reply.Children.{childFrom, childrenFrom, stoppedAt, ChildrenTallied};
 ghost use Rattle.judge.specs.Reading.Table.{Tabled, Distinct, partsIn};
 use crate::lexeme::NameEnd;
+use crate::lexeme::name_begins;
 use crate::lexeme::name_end;
 use crate::reader::Got;
 use crate::reader::read_whole;
@@ -23,7 +24,6 @@ use crate::tally::is_full;
 use crate::tally::limit_names;
 use crate::tally::noted;
 use crate::verdict::ChildrenJudged;
-use fields::bytes::is_initial;
 use fields::children::Children;
 use fields::children::count_children;
 use fields::fault::CueFault;
@@ -36,17 +36,13 @@ use model::rule::MAX_ATOMS;
 use model::rule::MAX_NODES;
 use model::verdict::Verdict;
 
-// Is the child that begins at `at` a name of 1 to 32 characters? `read` has where the bytes of names from there on end.
+// Is the child whose name begins at `at` a name of at most 32 characters? `read` has where that name ends.
 fn is_child(children: &[u8], at: usize, read: NameEnd) -> bool
-    requires { ⌜ (at ≤ length (now children)) × NameEnds (now children) at read ⌝ }
+    requires { ⌜ (isInitial (getD (now children) at 0) ≡ true) × NameEnds (now children) at read ⌝ }
     ensures { λ r. ⌜ r ≡ shortName (childFrom (now (children .entry)) at) ⌝ }
 {
     let end = read.end;
-    let len = end - at;
-    if (len == 0) | (MAX_NAME < len) {
-        return false;
-    }
-    if is_initial(children[at]) {} else {
+    if MAX_NAME < end - at {
         return false;
     }
     if end == children.len() {
@@ -107,14 +103,16 @@ fn tally_children(
     let mut count: usize = 0;
     let mut at: usize = 0;
     while at <= children.len() {
+        if name_begins(children, at) {} else {
+            return ChildrenTally::Refused(CueFault::NoName);
+        }
         let read = name_end(children, at);
         if is_child(children, at, read) {} else {
             return ChildrenTally::Refused(CueFault::NoName);
         }
         let end = read.end;
-        let key = read.key;
-        let slot = slot_of(key);
-        let number = find(model, names, n, heads, &children[at..end], key, slot) as usize;
+        let slot = slot_of(read.key);
+        let number = find(model, names, n, heads, &children[at..end], read.key, slot) as usize;
         let word = seen[number];
         if is_full(word) {
             return stopped(children, end, count);

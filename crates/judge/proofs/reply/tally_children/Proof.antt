@@ -1,17 +1,17 @@
 -- Child behind child: those passed are names and not at fault, and they are seen.
-use mathlib.Core.{Path._≡_, Path.sym, Path.ap, Path._∙_, List.List, List.[]}
+use mathlib.Core.{Path._≡_, Path.sym, Path.ap, Path._∙_, Bool.true, List.List, List.[]}
 use Prim.Native.Nat.{_+_, _-_, _≤_}
 use native.Mathlib.Omega.{arith}
 use lib.ListN.{length, take, drop, getD}
 use borrow.Author.{Needs.needs, Tests.ltb-true, Tests.ltb-false}
-use Rattle.fields.specs.Bytes.{Text}
+use Rattle.fields.specs.Bytes.{Text, isInitial}
 use Rattle.model.specs.{declared.rule.Upper.Upper, Syntax.numberIn}
 use Rattle.judge.specs.{Named.rowOf, Reading.Laws.last-number, Reply.childrenIn}
 use Rattle.judge.specs.Reply.Children.{ChildrenPassed, row-whole, no-row}
 use Rattle.judge.specs.Reading.Table.{keyOf, partsIn, lastIn}
 use Rattle.judge.specs.Row.Tally.{oneLeft, Seeing, RowPassed, Laws.row-starts, Laws.row-stops, Laws.row-goes, Laws.row-ends}
-use Rattle.judge.specs.Reply.Children.Laws.{NameMet, met-name, walk-starts, walk-stops, walk-inside, walk-number, walk-goes, walk-faulty}
-use Rattle.judge.specs.Reply.Children.Laws.{walk-all, walk-few, walk-many}
+use Rattle.judge.specs.Reply.Children.Laws.{child-unnamed, NameMet, met-name, walk-starts, walk-stops, walk-inside, walk-number, walk-goes}
+use Rattle.judge.specs.Reply.Children.Laws.{walk-faulty, walk-all, walk-few, walk-many}
 use Rattle.judge.proofs.reply.tally_children.Statement.{statement}
 use Rattle.judge.proofs.reply.tally_children.Tie as tie
 
@@ -28,12 +28,12 @@ abbrev entry : tie.At-loop Inv-loop μ-loop → tie.Start Inv-loop μ-loop
 entry c = c .before .before .before
 
 abbrev turn : tie.After-is-child Inv-loop μ-loop → tie.In-loop Inv-loop μ-loop
-turn c = c .before .before
+turn c = c .before .before .before .before
 
-abbrev known : tie.After-find Inv-loop μ-loop → tie.Then1 Inv-loop μ-loop
+abbrev known : tie.After-find Inv-loop μ-loop → tie.Then2 Inv-loop μ-loop
 known c = c .before .before .before
 
-abbrev start : tie.Then1 Inv-loop μ-loop → tie.Start Inv-loop μ-loop
+abbrev start : tie.Then2 Inv-loop μ-loop → tie.Start Inv-loop μ-loop
 start c = entry (turn (c .before) .before)
 
 abbrev head : tie.After-find Inv-loop μ-loop → tie.At-loop Inv-loop μ-loop
@@ -42,10 +42,10 @@ head c = turn (known c .before) .before
 abbrev found : tie.After-is-full Inv-loop μ-loop → tie.After-find Inv-loop μ-loop
 found c = c .before .before
 
-met : (c : tie.Then1 Inv-loop μ-loop) → NameMet (start c .args .children .now) (turn (c .before) .before .loop .at) (c .before .before .name-end .result .end)
+met : (c : tie.Then2 Inv-loop μ-loop) → NameMet (start c .args .children .now) (turn (c .before) .before .loop .at) (c .before .before .name-end .result .end)
 met c =
     met-name (start c .args .children .now) (turn (c .before) .loop-test .taken) (c .before .before .name-end .ensures .end-is)
-    (sym (c .before .is-child .ensures) ∙ c .if1 .taken)
+    (sym (c .before .is-child .ensures) ∙ c .if2 .taken)
 
 abbrev texts : tie.Start Inv-loop μ-loop → List Text
 texts s = partsIn (s .args .model .now) (s .args .names .now) (s .args .n)
@@ -63,23 +63,38 @@ few : (c : tie.In-loop Inv-loop μ-loop) → c .before .loop .count ≤ 32768
 few c = omega (arith, c .before .loop .inv .0 .apart, c .loop-test .taken, entry (c .before) .pre .1 .1)
 
 -- one further child may have the name
-free : (c : tie.Else2 Inv-loop μ-loop) → let f = found (c .before) in oneLeft ≤ getD (head f .loop .seen) (f .find .result) 0
-free c = ltb-false _ _ (sym (c .before .is-full .ensures) ∙ c .if2 .left)
+free : (c : tie.Else3 Inv-loop μ-loop) → let f = found (c .before) in oneLeft ≤ getD (head f .loop .seen) (f .find .result) 0
+free c = ltb-false _ _ (sym (c .before .is-full .ensures) ∙ c .if3 .left)
 
 loop-holds : tie.Need-loop-holds Inv-loop μ-loop
 loop-holds c = let s = c .before .before in (walk-starts (s .args .children .now) (s .pre .1 .0), λ us t. row-starts _ t)
 
-name-end-requires : tie.Need-name-end-requires Inv-loop μ-loop
-name-end-requires c κs = c .loop-test .taken
+-- a name begins there
+initial : (c : tie.Then1 Inv-loop μ-loop)
+    → let h = c .before .before .before in isInitial (getD (entry h .args .children .now) (h .loop .at) 0) ≡ true
+initial c = sym (c .before .name-begins .ensures) ∙ c .if1 .taken
 
-is-child-requires : tie.Need-is-child-requires Inv-loop μ-loop
-is-child-requires c κs = (c .before .loop-test .taken, c .name-end .ensures)
+name-begins-requires : tie.Need-name-begins-requires Inv-loop μ-loop
+name-begins-requires c κs = search needs
 
 returns : tie.Need-returns Inv-loop μ-loop
 returns c us _ =
+    let t = c .before .before in
+    let h = t .before in
+    let x = entry h .args .children .now in
+    no-row (walk-stops x (h .loop .inv .0) (t .loop-test .taken) (child-unnamed x (h .loop .at) (sym (c .before .name-begins .ensures) ∙ c .if1 .left)))
+
+name-end-requires : tie.Need-name-end-requires Inv-loop μ-loop
+name-end-requires c κs = initial c
+
+is-child-requires : tie.Need-is-child-requires Inv-loop μ-loop
+is-child-requires c κs = (initial (c .before), c .name-end .ensures)
+
+returns-2 : tie.Need-returns-2 Inv-loop μ-loop
+returns-2 c us _ =
     let t = turn (c .before) in
     let h = t .before in
-    no-row (walk-stops (entry h .args .children .now) (h .loop .inv .0) (t .loop-test .taken) (sym (c .before .is-child .ensures) ∙ c .if1 .left))
+    no-row (walk-stops (entry h .args .children .now) (h .loop .inv .0) (t .loop-test .taken) (sym (c .before .is-child .ensures) ∙ c .if2 .left))
 
 slot-of-requires : tie.Need-slot-of-requires Inv-loop μ-loop
 slot-of-requires c κs = search needs
@@ -117,8 +132,8 @@ stopped-requires c κs =
     let t = known (found (c .before)) in
     (met t .bounds .1, start t .pre .1 .1, omega (arith, few (turn (t .before))))
 
-returns-2 : tie.Need-returns-2 Inv-loop μ-loop
-returns-2 c us t =
+returns-3 : tie.Need-returns-3 Inv-loop μ-loop
+returns-3 c us t =
     let u = c .before .before in
     let f = found u in
     let k = known f in
@@ -129,7 +144,7 @@ returns-2 c us t =
     (walk-faulty (s .args .children .now) (p .0) h (met k) us (texts s) _
     (row-stops (p .1 us t) (walk-inside (s .args .children .now) (p .0) h (met k) (texts s)) (omega (arith, few (turn (k .before))))
     (walk-number (s .args .children .now) (p .0) h (met k) (texts s) (number-is f)) (f .find .ensures .1)
-    (ltb-true _ _ (sym (u .is-full .ensures) ∙ c .before .if2 .taken))))
+    (ltb-true _ _ (sym (u .is-full .ensures) ∙ c .before .if3 .taken))))
 
 cast-noted : tie.Need-cast-noted Inv-loop μ-loop
 cast-noted c = omega (arith, few (turn (known (found (c .before)) .before)))
@@ -164,17 +179,17 @@ loop-again c =
           (walk-number (s .args .children .now) (p .0) h (met k) (texts s) (number-is f)) (f .find .ensures .1) (free (c .before)) (c .noted .ensures),
     )
 
-returns-3 : tie.Need-returns-3 Inv-loop μ-loop
-returns-3 c us t =
+returns-4 : tie.Need-returns-4 Inv-loop μ-loop
+returns-4 c us t =
     let h = c .before .before in
     let s = entry h in
     let p = h .loop .inv in
     let n = walk-all (s .args .children .now) (p .0) (c .before .loop-test .left) (texts s) in
-    row-whole (walk-few (s .args .children .now) (p .0) (c .before .loop-test .left) (c .if3 .taken))
-    (row-ends (p .1 us t) (omega (arith, n)) (omega (arith, n, c .if3 .taken)))
+    row-whole (walk-few (s .args .children .now) (p .0) (c .before .loop-test .left) (c .if4 .taken))
+    (row-ends (p .1 us t) (omega (arith, n)) (omega (arith, n, c .if4 .taken)))
 
-returns-4 : tie.Need-returns-4 Inv-loop μ-loop
-returns-4 c us t = let h = c .before .before in no-row (walk-many (entry h .args .children .now) (h .loop .inv .0) (c .before .loop-test .left) (c .if3 .left))
+returns-5 : tie.Need-returns-5 Inv-loop μ-loop
+returns-5 c us t = let h = c .before .before in no-row (walk-many (entry h .args .children .now) (h .loop .inv .0) (c .before .loop-test .left) (c .if4 .left))
 
 pub tally-children-spec : {M : Type 1} → statement M
 tally-children-spec =
@@ -183,9 +198,11 @@ tally-children-spec =
     Inv-loop
     μ-loop
     loop-holds
+    name-begins-requires
+    returns
     name-end-requires
     is-child-requires
-    returns
+    returns-2
     slot-of-requires
     sub-find
     part-find-start
@@ -196,7 +213,7 @@ tally-children-spec =
     element-copy-out-word
     is-full-requires
     stopped-requires
-    returns-2
+    returns-3
     cast-noted
     noted-requires
     mul-seen
@@ -205,5 +222,5 @@ tally-children-spec =
     add-at
     loop-less
     loop-again
-    returns-3
-    returns-4)
+    returns-4
+    returns-5)
