@@ -6,6 +6,7 @@ ghost use lib.ListN.{length};
 ghost use Rattle.model.specs.Fault.{nameFrom};
 ghost use Rattle.canonical.specs.{Order.notAfter, Writer.Place.behindName, Writer.Place.behindCount};
 use fields::bytes::is_inner;
+use fields::limits::lesser;
 
 // Where the name ends that begins at `at`.
 pub(crate) fn name_end(text: &[u8], at: usize) -> usize
@@ -50,11 +51,9 @@ pub(crate) fn is_after(text: &[u8], a: usize, end: usize, b: usize) -> bool
     requires { ⌜ (a ≤ length (now text)) × (end ≡ behindName (now text) a) × (b ≤ length (now text)) ⌝ }
     ensures { λ r. ⌜ r ≡ not (notAfter (nameFrom (now (text .entry)) a) (nameFrom (now (text .entry)) b)) ⌝ }
 {
+    let most = lesser(end - a, text.len() - b);
     let mut i: usize = 0;
-    while i < end - a {
-        if i < text.len() - b {} else {
-            return true;
-        }
+    while i < most {
         let c = text[a + i];
         let d = text[b + i];
         if c != d {
@@ -64,5 +63,6 @@ pub(crate) fn is_after(text: &[u8], a: usize, end: usize, b: usize) -> bool
         }
         i += 1;
     }
-    false
+    // the text may end before the name at b goes on
+    i < end - a
 }
