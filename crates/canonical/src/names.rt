@@ -63,6 +63,6 @@ pub(crate) fn is_after(text: &[u8], a: usize, end: usize, b: usize) -> bool
         }
         i += 1;
     }
-    // the text may end before the name at b goes on
+    // where the text ended first, the name at a goes on
     i < end - a
 }
