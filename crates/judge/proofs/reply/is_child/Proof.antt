@@ -1,5 +1,4 @@
 -- By the length of the name, and by what comes behind it.
-use native.Mathlib.Omega.{arith}
 use Rattle.judge.specs.Reply.Children.Laws.{child-long, child-last, child-parted}
 use borrow.Author.Needs.{needs}
 use Rattle.judge.proofs.reply.is_child.Statement.{statement}
