@@ -3,11 +3,11 @@
 
 use desk::child::child;
 use desk::child::child_refusal;
-use sheet::listing::Listed;
-use sheet::listing::list;
+use lister::listing::Listed;
+use lister::listing::list;
+use lister::refusal::listed_refusal;
 use sheet::refusal::REFUSAL_SIZE;
 use sheet::refusal::Source;
-use sheet::refusal::listed_refusal;
 use sheet::refusal::refusal_line;
 
 const BUFFER: usize = 64;

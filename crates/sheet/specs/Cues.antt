@@ -1,5 +1,6 @@
 -- A cue list: document 01, "Files" and refusals 30 to 36. Size and last line come first, then the lines in order, in each the rest by number.
 pub mod Laws
+pub mod Walk
 pub mod Good
 use mathlib.Core.{Bool.Bool, Bool.cond, Bool.not, Bool._&&_, Bool._||_, List.List, List.[], List._∷_}
 use Prim.Native.{Nat.ℕ, Nat.suc, Nat._≤_, Char.code}

@@ -1,13 +1,9 @@
--- The ends: when sheet, cue list and listing are refused, by the table; what a listing says of each cue, by the meaning of the models. Each proof is
--- a citation.
+-- The ends: when a sheet and a cue list are refused, by the table, and what reading a sheet hands back. Each proof is a citation.
 use mathlib.Core.{Path._≡_, Logic._↔_}
-use Prim.Native.Nat.{ℕ}
-use Rattle.fields.specs.{Bytes.Text, Split.lines}
-use Rattle.sheet.specs.{declared.line.Said.Said, declared.sheet.SheetOutcome.SheetOutcome, declared.sheet.SheetOutcome.the-variants.Read}
-use Rattle.sheet.specs.{declared.cues.CuesRead.CuesRead, declared.listing.Listed.Listed, Cues.cuesRead, Sheet.sheetOutcome, Listing.said}
-use Rattle.sheet.specs.{Sheet.sheetRead, Sheet.HoldsSheet, Sheet.Places.places-are}
-use Rattle.sheet.specs.{Listing.listed, Refusal.SheetAnswers, Refusal.CuesAnswers, Refusal.Lists, Said.CueSaid, Said.Laws.cue-is}
-use Rattle.sheet.specs.Refusal.Laws.{sheet-is, cues-is, listed-is}
+use Rattle.fields.specs.Bytes.{Text}
+use Rattle.sheet.specs.{declared.sheet.SheetOutcome.SheetOutcome, declared.sheet.SheetOutcome.the-variants.Read, declared.cues.CuesRead.CuesRead}
+use Rattle.sheet.specs.{Cues.cuesRead, Sheet.sheetOutcome, Sheet.sheetRead, Sheet.HoldsSheet, Sheet.Places.places-are}
+use Rattle.sheet.specs.{Refusal.SheetAnswers, Refusal.CuesAnswers, Refusal.Laws.sheet-is, Refusal.Laws.cues-is}
 
 -- Demand 1, sheet: it is refused with the first fault of the table that stands, and read where none does.
 pub sheet-exactly : (x : Text) (o : SheetOutcome) → (sheetOutcome x ≡ o) ↔ SheetAnswers x o
@@ -20,11 +16,3 @@ places-exactly = places-are
 -- Demand 1, cue list: it is refused with the first fault of the table that stands, and counted where none does.
 pub cues-exactly : (x : Text) (r : CuesRead) → (cuesRead x ≡ r) ↔ CuesAnswers x r
 cues-exactly = cues-is
-
--- Demand 1, listing: the sheet's refusal, else the list's, else 50 where the listing is longer than the buffer, else its length.
-pub listed-exactly : (s c : Text) (size : ℕ) (r : Listed) → (listed s c size ≡ r) ↔ Lists s c size r
-listed-exactly = listed-is
-
--- Demand 2, listing: of each cue line it says what the meaning of its kind's model says of its children, or that the sheet lacks the kind.
-pub cue-said : (s : Text) → sheetOutcome s ≡ Read → (l : Text) (a : Said) → (said (lines s) l ≡ a) ↔ CueSaid (lines s) l a
-cue-said = cue-is

@@ -1,4 +1,4 @@
--- The table of document 01 for a sheet, a cue list and a listing: when each refusal stands, at which line, and which one is answered.
+-- The table of document 01 for a sheet and a cue list: when each refusal stands, at which line, and which one is answered.
 -- Lines count from 1; what is wrong with the whole file stands at 0. Each fault looks at the text alone, not at whether another stands before it.
 pub mod Order
 pub mod Laws
@@ -11,12 +11,10 @@ use Rattle.fields.specs.declared.fault.CueFault.the-variants.{LongFile as LongL
 use Rattle.fields.specs.declared.fault.CueFault.the-variants.{ManyChildren, NoChild}
 use Rattle.model.specs.Fault.{Answers, refused}
 use Rattle.sheet.specs.{declared.sheet.SheetFault.SheetFault, declared.sheet.SheetOutcome.SheetOutcome, declared.cues.CuesRead.CuesRead}
-use Rattle.sheet.specs.{declared.listing.Listed.Listed, Cues.isCueNumber, Cues.children, Sheet.maxRules, Sheet.sheetNumber, Sheet.kind, Sheet.model}
-use Rattle.sheet.specs.{Listing.listing}
+use Rattle.sheet.specs.{Cues.isCueNumber, Cues.children, Sheet.maxRules, Sheet.sheetNumber, Sheet.kind, Sheet.model}
 use Rattle.sheet.specs.declared.sheet.SheetFault.the-variants.{LongFile, Unended, ManyRules, BadFields, NoKind, Repeated, Model}
 use Rattle.sheet.specs.declared.sheet.SheetOutcome.the-variants.{Read, Refused}
 use Rattle.sheet.specs.declared.cues.CuesRead.the-variants.{Count, Refused as RefusedList}
-use Rattle.sheet.specs.declared.listing.Listed.the-variants.{Written, SheetRefused, CueRefused, TooLong}
 
 -- the text has a line n, and the line
 abbrev pub Line : Text → ℕ → Type 0
@@ -92,10 +90,3 @@ CueStands x NoChild n = ⊥
 abbrev pub CuesAnswers : Text → CuesRead → Type 0
 CuesAnswers x (Count n) = NoFault (CueStands x) × (n ≡ length (lines x))
 CuesAnswers x (RefusedList f n) = First cueNumber (CueStands x) f n
-
--- What a listing is answered, in a buffer of this size: the sheet is tried before the list, and both before 50.
-abbrev pub Lists : Text → Text → ℕ → Listed → Type 0
-Lists s c size (SheetRefused f n) = First sheetRank (SheetStands s) f n
-Lists s c size (CueRefused f n) = NoFault (SheetStands s) × First cueNumber (CueStands c) f n
-Lists s c size TooLong = NoFault (SheetStands s) × NoFault (CueStands c) × (size < length (listing s c))
-Lists s c size (Written n) = NoFault (SheetStands s) × NoFault (CueStands c) × (length (listing s c) ≤ size) × (n ≡ length (listing s c))

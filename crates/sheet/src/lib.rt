@@ -1,8 +1,6 @@
-// Sheet, cue list and listing, above the judge.
+// Sheet and cue list, above the judge.
 
 pub mod cues;
-pub mod line;
-pub mod listing;
 pub mod number;
 pub mod refusal;
 pub mod sheet;

@@ -3,13 +3,10 @@
 ghost use mathlib.Core.{Path._≡_, List._++_};
 ghost use Prim.Native.Nat.{_≤_};
 ghost use lib.ListN.{length, drop};
-ghost use Rattle.fields.specs.Put.{Put};
-ghost use Rattle.sheet.specs.{RefusalLine.refusalHead, RefusalLine.refusalLine, RefusalLine.listedRefusal};
-use crate::line::put;
-use crate::line::put_number;
-use crate::listing::Listed;
-use crate::number::sheet_number;
-use fields::fault::cue_number;
+ghost use Rattle.fields.specs.Put.{Put, putEnd, putAt};
+ghost use Rattle.sheet.specs.RefusalLine.{refusalHead, refusalLine};
+use fields::put::put;
+use fields::put::put_number;
 
 // Enough for every line: 16 bytes up to the number, 10 digits, a tab, 20 digits, a line feed.
 pub const REFUSAL_SIZE: usize = 48;
@@ -31,38 +28,10 @@ pub struct Refusal {
     pub line: usize,
 }
 
-// Of a listing that was refused. Of one that was written, number and line are 0.
-pub fn listed_refusal(listed: Listed) -> Refusal
-    ensures { λ r. ⌜ r ≡ listedRefusal listed ⌝ }
-{
-    match listed {
-        Listed::Written(_) => Refusal {
-            source: Source::Listing,
-            number: 0,
-            line: 0,
-        },
-        Listed::SheetRefused(f, line) => Refusal {
-            source: Source::Sheet,
-            number: sheet_number(f),
-            line: line,
-        },
-        Listed::CueRefused(f, line) => Refusal {
-            source: Source::Cues,
-            number: cue_number(f),
-            line: line,
-        },
-        Listed::TooLong => Refusal {
-            source: Source::Listing,
-            number: TOO_LONG,
-            line: 0,
-        },
-    }
-}
-
 // The line up to the number.
 fn put_head(buffer: &mut [u8], source: Source) -> usize
-    requires { ⌜ 16 ≤ length (now buffer) ⌝ }
-    ensures { λ r. ⌜ Put (now (buffer .entry)) (now (buffer .exit)) 0 (refusalHead source) r ⌝ }
+    ensures { λ r. ⌜ r ≡ putEnd (now (buffer .entry)) 0 (refusalHead source) ⌝ }
+    ensures { λ r. ⌜ now (buffer .exit) ≡ putAt (now (buffer .entry)) 0 (refusalHead source) ⌝ }
 {
     match source {
         Source::Sheet => put(buffer, 0, b"refused\tsheet\t"),

@@ -5,7 +5,7 @@ ghost use Prim.Native.Nat.{_-_, _+_, _≤_};
 ghost use lib.ListN.{length};
 ghost use Rattle.fields.specs.{Limits.maxFile, Split.lines, Split.behind, Heads.headsOf};
 ghost use Rattle.judge.specs.Reading.{noPlace, namesWith, partsOf};
-ghost use Rattle.sheet.specs.{declared.sheet.SheetOutcome.the-variants.Refused, declared.sheet.Checked.the-variants.Bad, Sheet.Walk.LoadedBy};
+ghost use Rattle.sheet.specs.{declared.sheet.SheetOutcome.the-variants.Refused, declared.sheet.Checked.the-variants.Bad};
 ghost use Rattle.sheet.specs.{Sheet.Laws.lineChecked, Sheet.Laws.LineIs};
 ghost use Rattle.sheet.specs.Sheet.{noEntry, sheetWith, sheetLines, sheetBy, sheetRead};
 use fields::bytes::same_bytes;
@@ -212,7 +212,7 @@ fn read_line(text: &[u8], kinds: Names, at: usize, end: usize) -> LineRead
 // The lines of a text that is not too long and whose last line has its line feed.
 fn read_lines(text: &[u8]) -> SheetRead
     requires { ⌜ (length (now text) ≤ maxFile) × (behind (now text) ≡ []) ⌝ }
-    ensures { λ r. ⌜ LoadedBy (now (text .entry)) (sheetBy (now (text .entry)) (sheetLines 0 [] (lines (now (text .entry))))) r ⌝ }
+    ensures { λ r. ⌜ r ≡ sheetBy (now (text .entry)) (sheetLines 0 [] (lines (now (text .entry)))) ⌝ }
 {
     let none = no_rules();
     let mut kinds = none.kinds;
@@ -252,13 +252,6 @@ fn read_lines(text: &[u8]) -> SheetRead
 // Reads a sheet.
 pub fn read_sheet(text: &[u8]) -> SheetRead
     ensures { λ r. ⌜ r ≡ sheetRead (now (text .entry)) ⌝ }
-{
-    load(text)
-}
-
-// Reads a sheet, and knows that kinds and models stand at their places.
-pub(crate) fn load(text: &[u8]) -> SheetRead
-    ensures { λ r. ⌜ LoadedBy (now (text .entry)) (sheetRead (now (text .entry))) r ⌝ }
 {
     if MAX_FILE < text.len() {
         return refused(SheetFault::LongFile, 0);

@@ -106,3 +106,10 @@ module _ (l : Text) where
       let p = ap (λ r. r .first) e in
       let q = ap (λ r. r .second) e in
       threes (h .first) (h .second) (h .third) p (q ∙ ap (fieldBehind l) (sym p)) (ap (λ r. r .third) e ∙ ap (fieldBehind l) (sym q)) k
+
+  -- by how many fields there are
+  pub fields-enough : (h : Heads) → h ≡ headsOf l → 3 ≤ length (fields l) → Three l h
+  fields-enough h e k =
+      by-test (ltb (h .second) (length l))
+      (λ t. fields-three h e (ltb-true (h .second) (length l) t))
+      (λ t. let f = fields-few h e (ltb-false (h .second) (length l) t) in absurd (omega (arith, ltb-true (length (fields l)) 3 f)))

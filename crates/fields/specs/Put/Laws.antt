@@ -80,28 +80,52 @@ module _ {old buffer whole rest : Text} {at : ℕ} (g : Begun old buffer whole a
   free : take (length buffer - at) (drop at buffer) ≡ drop at old
   free = take-all (length buffer - at) (drop at buffer) (rw length-drop (omega arith)) ∙ rest-free
 
-pub begun-all : {old buffer whole : Text} {at : ℕ} → Begun old buffer whole at [] → Put old buffer 0 whole (length whole)
-begun-all {old} {buffer} {whole} {at} g =
-    let j : at ≡ length whole = omega (arith, g .inside, length-drop at whole, ap length (g .ahead)) in
-    let z : length whole ≡ 0 + length whole = omega arith in
-    record { fits = omega (arith, g .room); end-is = omega arith; text-is = g .so-far ∙ rw (j, take-length whole) (ap (λ i. whole ++ drop i old) z) }
+-- where all is written
+module _ {old buffer whole : Text} {at : ℕ} (g : Begun old buffer whole at []) where
+  pub begun-end : Put old buffer 0 whole at
+  begun-end =
+      let j : at ≡ length whole = omega (arith, g .inside, length-drop at whole, ap length (g .ahead)) in
+      let z : length whole ≡ 0 + length whole = omega arith in
+      record { fits = omega (arith, g .room); end-is = j ∙ z; text-is = g .so-far ∙ rw (j, take-length whole) (ap (λ i. whole ++ drop i old) z) }
+
+  pub begun-all : Put old buffer 0 whole (length whole)
+  begun-all = record { fits = begun-end .fits; end-is = omega arith; text-is = begun-end .text-is }
 
 -- a write into the part from i to the end
 rest-put : (l z : Text) (i : ℕ) → putMid i (length l - i) l z ≡ take i l ++ z
 rest-put l z i =
     ap (λ r. take i l ++ (z ++ r)) (drop-of-length-le (drop i l) {i = length l - i} (rw length-drop (omega arith))) ∙ ap (λ r. take i l ++ r) (append-nil z)
 
--- a piece more, into the part of the buffer that the earlier ones left free
+-- a piece more behind the earlier ones
 module _ {old buffer whole : Text} {at : ℕ} (piece rest : Text) (g : Begun old buffer whole at (piece ++ rest)) where
   pub piece-fits : at + length piece ≤ length whole
   piece-fits = omega (arith, g .inside, length-drop at whole, ap length (g .ahead), length-append piece rest)
 
-  pub piece-room : length piece ≤ length (take (length buffer - at) (drop at buffer))
-  piece-room = rw (length-take, length-drop) (omega (arith, g .room, begun-length g, piece-fits))
-
   front-more : take (at + length piece) whole ≡ take at whole ++ piece
   front-more =
       take-add at (length piece) whole ∙ ap (λ r. take at whole ++ r) (ap (take (length piece)) (g .ahead) ∙ take-at piece rest (length piece) refl)
+
+  begun-more : {new : Text} {end : ℕ} → end ≡ at + length piece → new ≡ take at buffer ++ (piece ++ drop (at + length piece) old)
+      → Begun old new whole end rest
+  begun-more e t =
+      record {
+        room = g .room;
+        inside = omega (arith, piece-fits, e);
+        ahead = rw e (sym (drop-drop (length piece) at whole) ∙ ap (drop (length piece)) (g .ahead) ∙ drop-at piece rest (length piece) refl);
+        so-far = t ∙ rw (front-kept g, e, front-more, append-assoc);
+      }
+
+  -- by `put`, at the place behind them
+  pub begun-put : {new : Text} {end : ℕ} → end ≡ putEnd buffer at piece → new ≡ putAt buffer at piece → Begun old new whole end rest
+  begun-put {new} {end} e t =
+      let p = put-fits buffer new at piece end (omega (arith, g .room, begun-length g, piece-fits)) e t in
+      let free : drop (at + length piece) buffer ≡ drop (at + length piece) old =
+      sym (drop-drop (length piece) at buffer) ∙ ap (drop (length piece)) (rest-free g) ∙ drop-drop (length piece) at old in
+      begun-more (p .end-is) (p .text-is ∙ ap (λ r. take at buffer ++ (piece ++ r)) free)
+
+  -- into the part of the buffer that they left free
+  pub piece-room : length piece ≤ length (take (length buffer - at) (drop at buffer))
+  piece-room = rw (length-take, length-drop) (omega (arith, g .room, begun-length g, piece-fits))
 
   piece-text : {y : Text} {n : ℕ} → Put (take (length buffer - at) (drop at buffer)) y 0 piece n → y ≡ piece ++ drop (at + length piece) old
   piece-text p =
@@ -112,10 +136,5 @@ module _ {old buffer whole : Text} {at : ℕ} (piece rest : Text) (g : Begun old
   pub piece-put : {y : Text} {n : ℕ} → Put (take (length buffer - at) (drop at buffer)) y 0 piece n
       → Begun old (putMid at (length buffer - at) buffer y) whole (at + n) rest
   piece-put {y} {n} p =
-      let n-is : n ≡ length piece = p .end-is ∙ omega arith in
-      record {
-        room = g .room;
-        inside = omega (arith, piece-fits, n-is);
-        ahead = rw n-is (sym (drop-drop (length piece) at whole) ∙ ap (drop (length piece)) (g .ahead) ∙ drop-at piece rest (length piece) refl);
-        so-far = rest-put buffer y at ∙ rw (front-kept g, piece-text p, n-is, front-more, append-assoc);
-      }
+      let e : at + n ≡ at + length piece = omega (arith, p .end-is) in
+      begun-more e (rest-put buffer y at ∙ ap (λ r. take at buffer ++ r) (piece-text p))

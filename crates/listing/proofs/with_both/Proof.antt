@@ -1,7 +1,7 @@
 -- What is written is no longer than the buffer.
 use mathlib.Core.Path.{sym, _∙_}
 use lib.ListN.{length-append}
-use Rattle.sheet.specs.Coded.Laws.{written-fits}
+use Rattle.lister.specs.Listed.Laws.{written-fits}
 use native.Mathlib.Omega.{arith}
 use borrow.Author.Needs.{needs}
 use Rattle.listing.proofs.with_both.Statement.{statement}

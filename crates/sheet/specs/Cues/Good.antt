@@ -9,7 +9,7 @@ use Rattle.fields.specs.{Tests.by-test, Bytes.Text, Bytes.bytes, Bytes.value, B
 use Rattle.fields.specs.{declared.fault.CueFault.CueFault, Split.Laws.parted, Children.shortName, Children.allNames}
 use Rattle.fields.specs.declared.fault.CueFault.the-variants.{BadFields, BadNumber, NotAbove, NoName, ManyChildren}
 use Rattle.fields.specs.Split.{split, butLast, lines, behind, fields, field}
-use Rattle.sheet.specs.{declared.cues.CueLine.CueLine, Coded.GoodCues}
+use Rattle.sheet.specs.{declared.cues.CueLine.CueLine, Cues.Walk.GoodCues}
 use Rattle.sheet.specs.declared.cues.CueLine.the-variants.{Number, Bad}
 use Rattle.sheet.specs.declared.cues.CuesRead.the-variants.{Count, Refused}
 use Rattle.sheet.specs.Cues.{isCueNumber, children, cueLine, byLine, cueLines, cuesRead}

@@ -7,13 +7,16 @@ use lib.{Dec.leb, Dec.ltb, Dec.eqb, ListN.length, ListN.take, ListN.drop, ListN.
 use borrow.Author.Tests.{eqb-true, eqb-false, eq-eqb, ne-eqb, ltb-true, ltb-false, lt-ltb, le-ltb, le-leb, lt-leb, leb-true}
 use Rattle.fields.specs.{Tests.by-test, Stack.drop-back, Bytes.Laws.value-snoc, Limits.maxRow, Limits.maxFile, declared.fault.CueFault.CueFault}
 use Rattle.fields.specs.{declared.split.Heads.Heads, Split.Laws.split-count, Split.Laws.part-rest, Heads.headsOf, Children.allNames}
-use Rattle.fields.specs.{Split.Laws.Stand, Split.Laws.Next, Split.Laws.stand-stop, Heads.Laws.Three, Heads.Laws.fields-few}
+use Rattle.fields.specs.{Split.Laws.Stand, Split.Laws.Next, Split.Laws.stand-stop, Heads.Laws.Three, Heads.Laws.fields-few, Heads.Laws.fields-enough}
 use Rattle.fields.specs.Bytes.{Text, bytes, isDigit, all, value, sameText}
 use Rattle.fields.specs.declared.fault.CueFault.the-variants.{LongFile, Unended, BadFields, BadNumber, NotAbove, NoName, ManyChildren}
 use Rattle.fields.specs.Split.{tab, split, lines, behind, field, part, times}
 use Rattle.sheet.specs.declared.cues.CueLine.the-variants.{Number, Bad}
 use Rattle.sheet.specs.declared.cues.CuesRead.the-variants.{Count, Refused}
-use Rattle.sheet.specs.Cues.{isCueNumber, children, cueLine, cueLines, cuesRead}
+use Rattle.sheet.specs.Cues.{isCueNumber, children, CueFits, cueLine, cueLines, cuesRead}
+
+pub cue-three : {l : Text} {h : Heads} → h ≡ headsOf l → CueFits l → Three l h
+cue-three {l} {h} e f = fields-enough l h e (f .enough)
 
 module _ (x : Text) where
   pub number-refused : eqb (length x) 0 || ltb 5 (length x) ≡ true → isCueNumber x ≡ false

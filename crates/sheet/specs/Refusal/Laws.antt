@@ -1,4 +1,4 @@
--- A sheet, a cue list and a listing are refused exactly as the table says.
+-- A sheet and a cue list are refused exactly as the table says.
 use mathlib.Core.{Logic._↔_, Logic._⊎_, Logic.inl, Logic.inr, Logic.by-cases, Option.Option}
 use mathlib.Core.Path.{_≡_, refl, sym, ap, ap₂, subst, _∙_}
 use mathlib.Core.Bool.{true, cond, not, _&&_, _||_, and-eq-true-iff, false≢true}
@@ -21,15 +21,13 @@ use Rattle.model.specs.{declared.fault.ModelFault.ModelFault, Answer.answer, An
 use Rattle.model.specs.{Fault.Answer, Fault.Answers, Fault.refused, Fault.accepted, Fault.Answered.answers-once}
 use Rattle.judge.specs.Reply.Laws.{cue-injective}
 use Rattle.sheet.specs.{declared.sheet.SheetFault.SheetFault, declared.sheet.SheetOutcome.SheetOutcome, declared.cues.CueLine.CueLine}
-use Rattle.sheet.specs.{declared.cues.CuesRead.CuesRead, declared.listing.Listed.Listed}
+use Rattle.sheet.specs.declared.cues.CuesRead.{CuesRead}
 use Rattle.sheet.specs.declared.sheet.SheetFault.the-variants.{LongFile, Unended, ManyRules, BadFields, NoKind, Repeated, Model}
 use Rattle.sheet.specs.declared.sheet.SheetOutcome.the-variants.{Read, Refused}
 use Rattle.sheet.specs.declared.cues.CuesRead.the-variants.{Count, Refused as RefusedList}
-use Rattle.sheet.specs.declared.listing.Listed.the-variants.{Written, SheetRefused, CueRefused, TooLong}
 use Rattle.sheet.specs.Cues.{isCueNumber, children, byLine, cueLines, cuesRead}
 use Rattle.sheet.specs.Sheet.{maxRules, kind, model, among, modelFault, byFault, sheetLines, sheetOutcome}
-use Rattle.sheet.specs.Listing.{listing, byCues, bySheet, listed}
-use Rattle.sheet.specs.Refusal.{Line, line, Earlier, SheetStands, sheetRank, SheetAnswers, numberOf, CueStands, CuesAnswers, Lists}
+use Rattle.sheet.specs.Refusal.{Line, line, Earlier, SheetStands, sheetRank, SheetAnswers, numberOf, CueStands, CuesAnswers}
 use Rattle.sheet.specs.Refusal.Order.{tells-no, tells-lt, tells-other, beside, long-tells, feed-tells, Place, FileTable, next-line, walk, whole}
 
 here : (x : Text) (n : ℕ) → n < length (lines x) → Line x (suc n)
@@ -263,22 +261,3 @@ module _ (x : Text) where
 
   pub cues-is : (r : CuesRead) → (cuesRead x ≡ r) ↔ CuesAnswers x r
   cues-is = exactly (CuesAnswers x) cues-once (cuesRead x) cues-answers
-
-module _ (s c : Text) (size : ℕ) where
-  lists-by : (o : SheetOutcome) → SheetAnswers s o → (r : CuesRead) → CuesAnswers c r
-      → Lists s c size (bySheet o (byCues r (cond (leb (length (listing s c)) size) (Written (length (listing s c))) TooLong)))
-  lists-by (Refused f n) h r k = h
-  lists-by Read h (RefusedList f n) k = (h, k)
-  lists-by Read h (Count n) k =
-      by-test (leb (length (listing s c)) size)
-      (λ e. rw e (h, k .0, leb-true _ _ e, refl))
-      (λ e. rw e (h, k .0, leb-false _ _ e))
-
-  lists-only : (r : Listed) → Lists s c size r → listed s c size ≡ r
-  lists-only (SheetRefused f n) h = rw (sheet-is s (Refused f n) .1 h)
-  lists-only (CueRefused f n) (h, k) = rw (sheet-is s Read .1 h, cues-is c (RefusedList f n) .1 k)
-  lists-only TooLong (h, k, i) = rw (sheet-is s Read .1 h, cues-is c (Count (length (lines c))) .1 (k, refl), lt-leb _ _ i)
-  lists-only (Written n) (h, k, i, e) = rw (sheet-is s Read .1 h, cues-is c (Count (length (lines c))) .1 (k, refl), le-leb _ _ i, e)
-
-  pub listed-is : (r : Listed) → (listed s c size ≡ r) ↔ Lists s c size r
-  listed-is r = (λ e. rw e at (lists-by (sheetOutcome s) (sheet-answers s) (cuesRead c) (cues-answers c)), lists-only r)

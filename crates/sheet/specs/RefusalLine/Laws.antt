@@ -1,8 +1,8 @@
--- Laws of a refusal's line: its pieces, as they are put, and that 48 bytes hold it.
-use mathlib.Core.{Path._≡_, List.[], List._∷_, List._++_, List.append-assoc}
-use Prim.Native.Nat.{ℕ, _+_, _^_, _≤_, _<_}
+-- 48 bytes hold the line of a refusal.
+use mathlib.Core.List.{[], _∷_, _++_}
+use Prim.Native.Nat.{ℕ, _^_, _≤_, _<_}
 use native.Mathlib.Omega.{arith}
-use lib.ListN.{length}
+use lib.ListN.{length, length-append}
 use Rattle.fields.specs.{Bytes.digits, Bytes.Numeral.digits-length, Split.lineFeed, Split.tab}
 use Rattle.sheet.specs.{declared.refusal.Source.Source, RefusalLine.refusalHead, RefusalLine.refusalLine}
 
@@ -12,8 +12,9 @@ head-short Source.Cues = omega arith
 head-short Source.Listing = omega arith
 
 -- a 32-bit number has at most 10 digits, a 64-bit one 20
-pub pieces-fit : (s : Source) (n k : ℕ) → n < 2 ^ 32 → k < 2 ^ 64 → length (refusalHead s) + length (digits n) + length (digits k) + 2 ≤ 48
-pieces-fit s n k h i = omega (arith, head-short s, digits-length 9 n (omega arith), digits-length 19 k (omega arith))
-
-pub line-pieces : (s : Source) (n k : ℕ) → (((refusalHead s ++ digits n) ++ (tab ∷ [])) ++ digits k) ++ (lineFeed ∷ []) ≡ refusalLine s n k
-line-pieces s n k = simp append-assoc
+pub line-short : (s : Source) (n k : ℕ) → n < 2 ^ 32 → k < 2 ^ 64 → length (refusalLine s n k) ≤ 48
+line-short s n k h i =
+    let all = length-append (refusalHead s) (digits n ++ (tab ∷ (digits k ++ (lineFeed ∷ [])))) in
+    let numbers = length-append (digits n) (tab ∷ (digits k ++ (lineFeed ∷ []))) in
+    let last = length-append (digits k) (lineFeed ∷ []) in
+    omega (arith, all, numbers, last, head-short s, digits-length 9 n (omega arith), digits-length 19 k (omega arith))

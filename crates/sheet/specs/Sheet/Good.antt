@@ -1,14 +1,14 @@
--- What is known of the lines of a sheet that was read: each has a model that is accepted.
+-- What is known of a sheet that was read: each line has a model that is accepted.
 use mathlib.Core.{Path._≡_, Path.refl, Option.Option, Option.none, Option.some, List.List, List.[], List._∷_, List._++_}
 use Prim.Native.Nat.{ℕ, zero, suc, _<_}
 use native.Mathlib.Omega.{arith}
 use lib.{Dec.leb, Dec.ltb, ListN.length, ListN.getD}
 use Rattle.fields.specs.{Limits.maxFile, Tests.by-test, Bytes.Text, Bytes.sameText, Bytes.Laws.same-text, Split.lines, Split.behind}
 use Rattle.model.specs.{Syntax.Syntax, Fault.Answer, Fault.Answers, Fault.refused, Fault.accepted, Answer.answer, Answer.answered}
-use Rattle.sheet.specs.{declared.sheet.SheetFault.SheetFault, Sheet.Laws.fault-none}
+use Rattle.sheet.specs.{declared.sheet.SheetFault.SheetFault, declared.sheet.SheetOutcome.SheetOutcome, Sheet.Laws.fault-none}
 use Rattle.sheet.specs.declared.sheet.SheetFault.the-variants.{LongFile, Unended, ManyRules}
 use Rattle.sheet.specs.declared.sheet.SheetOutcome.the-variants.{Read, Refused}
-use Rattle.sheet.specs.Sheet.{maxRules, kind, model, modelFault, lineFault, byFault, sheetLines, sheetOutcome}
+use Rattle.sheet.specs.Sheet.{maxRules, kind, model, modelFault, lineFault, byFault, sheetLines, sheetOutcome, sheetBy, sheetRead}
 
 -- a text is accepted, and t is the tree that it spells
 abbrev pub Accepted : Text → Type 0
@@ -49,3 +49,10 @@ lines-read s e =
 
 pub line-accepted : (s : Text) → sheetOutcome s ≡ Read → (i : ℕ) → i < length (lines s) → Accepted (model (getD (lines s) i []))
 line-accepted s e = all-accepted 0 [] (lines s) (lines-read s e .1)
+
+pub outcome-is : (x : Text) → sheetRead x .outcome ≡ sheetOutcome x
+outcome-is x = go (sheetOutcome x)
+  where
+    go : (o : SheetOutcome) → sheetBy x o .outcome ≡ o
+    go Read = refl
+    go (Refused f n) = refl

@@ -9,14 +9,14 @@ use borrow.Author.Tests.{ltb-true, ltb-false, lt-ltb, le-ltb, eqb-true, eq-eqb, 
 use Rattle.fields.specs.{Limits.maxFile, Tests.by-test, Bytes.Text, Bytes.bytes, Bytes.sameText, Bytes.Laws.same-text, declared.split.Heads.Heads}
 use Rattle.fields.specs.{Split.Laws.split-count, Heads.headsOf, Children.shortName}
 use Rattle.fields.specs.Split.{tab, split, lines, behind, fields, field, part}
-use Rattle.fields.specs.Heads.Laws.{fields-few, fields-three, Three, more-none}
+use Rattle.fields.specs.Heads.Laws.{fields-few, fields-enough, Three, more-none}
 use Rattle.judge.specs.{declared.reading.NamePlace.NamePlace, declared.reading.Names.Names, declared.reading.Reading.Reading}
 use Rattle.judge.specs.declared.reading.Outcome.the-variants.{Read as ModelRead, Refused as ModelRefused}
 use Rattle.judge.specs.Reading.{noPlace, namesWith, readingBy, reading, partAt, partsOf}
 use Rattle.model.specs.{declared.fault.ModelFault.ModelFault, Syntax.numberFrom, Syntax.numberIn, Fault.Answer, Fault.refused, Fault.accepted, Answer.answer}
 use Rattle.sheet.specs.{declared.sheet.SheetFault.SheetFault, declared.sheet.Checked.Checked, declared.sheet.LineRead.LineRead}
 use Rattle.sheet.specs.{declared.sheet.SheetOutcome.the-variants.Refused, declared.sheet.Entry.Entry, declared.sheet.Sheet.Sheet}
-use Rattle.sheet.specs.{declared.sheet.SheetRead.SheetRead, Listing.Laws.enough}
+use Rattle.sheet.specs.declared.sheet.SheetRead.{SheetRead}
 use Rattle.sheet.specs.declared.sheet.SheetFault.the-variants.{LongFile, Unended, BadFields, NoKind, Repeated, Model}
 use Rattle.sheet.specs.declared.sheet.Checked.the-variants.{Good, Bad}
 use Rattle.sheet.specs.Sheet.{maxRules, kind, model, among, modelFault, lineFault, kindPlace, modelPlace, entryOf, noEntry, sheetLines, sheetWith}
@@ -165,7 +165,7 @@ part-size x at end h = rw (length-take, length-drop) (omega arith)
 -- where the fields of a good line stand
 module _ (ks : List Text) (l : Text) (h : Heads) (e : h ≡ headsOf l) (g : lineChecked ks l ≡ Good) where
   good-three : Three l h
-  good-three = fields-three l h e (enough l h e (omega (arith, eqb-true (length (fields l)) 3 (good-word ks l g .0))))
+  good-three = fields-enough l h e (omega (arith, eqb-true (length (fields l)) 3 (good-word ks l g .0)))
 
   line-sizes : (h .first ≡ 4) × (h .first < h .second) × (h .second < h .third) × (h .third ≤ length l)
   line-sizes =

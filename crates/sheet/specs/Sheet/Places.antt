@@ -15,7 +15,7 @@ use Rattle.sheet.specs.declared.sheet.SheetOutcome.the-variants.{Read, R
 use Rattle.sheet.specs.declared.sheet.Checked.the-variants.{Good, Bad}
 use Rattle.sheet.specs.Sheet.{maxRules, kind, model, lineFault, sheetLines, sheetOutcome, Placed, placedFrom, kindPlace, entryOf, noEntry, sheetWith}
 use Rattle.sheet.specs.Sheet.{sheetBy, sheetRead, HoldsLine, HoldsSheet}
-use Rattle.sheet.specs.Sheet.Walk.{Loaded, Gone, nowhere, placed-length, gone-start, gone-many, gone-bad, gone-next, gone-end}
+use Rattle.sheet.specs.Sheet.Walk.{Loaded, Gone, nowhere, placed-length, gone-start, gone-many, gone-bad, gone-next, gone-loaded, gone-end}
 
 module _ (x : Text) (read : sheetLines 0 [] (lines x) ≡ Read) where
   -- where a line is left, the walk goes on behind it
@@ -46,7 +46,7 @@ module _ (x : Text) (read : sheetLines 0 [] (lines x) ≡ Read) where
 
   ended : (kinds : Names) (entries : List Entry) (n at : ℕ) → Gone x kinds entries n at → length x ≤ at
       → Loaded x (sheetBy x (sheetLines 0 [] (lines x)) .sheet)
-  ended kinds entries n at w h = let e = gone-end w h in subst (λ r. Loaded x (r .sheet)) (e .reads) (e .loaded refl)
+  ended kinds entries n at w h = subst (λ r. Loaded x (r .sheet)) (gone-end w h) (gone-loaded w h)
 
   walked : (k : ℕ) (kinds : Names) (entries : List Entry) (n at : ℕ) → Gone x kinds entries n at → length x ≤ at + k
       → Loaded x (sheetBy x (sheetLines 0 [] (lines x)) .sheet)
@@ -60,6 +60,9 @@ read-loaded : (x : Text) → sheetOutcome x ≡ Read → Loaded x (sheetWith (pl
 read-loaded x e =
     let (ends, read) = lines-read x e in
     rw read at (walked x read (length x) _ _ 0 0 (gone-start {s = sheetWith []} refl ends) (omega arith))
+
+pub sheet-loaded : (x : Text) → sheetOutcome x ≡ Read → Loaded x (sheetRead x .sheet)
+sheet-loaded x e = rw e (read-loaded x e)
 
 -- in front of what fills an array up, and in it
 at-front : {A B : Type 0} (f : A → B) (u : B) (n : ℕ) (l : List A) (k : ℕ) (d : A) → k < length l → getD (map f l ++ replicate n u) k u ≡ f (getD l k d)

@@ -30,18 +30,6 @@ pub record Loaded (s : Text) (r : Sheet) : Type 0 where
   pub kinds-are : partsOf s (r .kinds) ≡ map kind (lines s)
   pub entries-good : (k : ℕ) (d : Entry) → k < length (lines s) → EntryGood s (getD (r .entries) k d) (getD (lines s) k [])
 
-pub record LoadedBy (s : Text) (o : SheetRead) (r : SheetRead) : Type 0 where
-  pub reads : r ≡ o
-  pub loaded : r .outcome ≡ Read → Loaded s (r .sheet)
-
--- a refused sheet is not loaded
-pub not-loaded : {s : Text} {o r : SheetRead} {f : SheetFault} {n : ℕ} → r ≡ sheetBy [] (Refused f n) → sheetBy [] (Refused f n) ≡ o → LoadedBy s o r
-not-loaded e q =
-    record {
-      reads = e ∙ q;
-      loaded = λ g. let z : _≡_ {A = ℕ} 0 1 = cc (ap (λ r. r .outcome) e, g) in absurd (omega arith);
-    }
-
 -- what the loop holds before line n, which begins at `at`
 pub record Gone (x : Text) (kinds : Names) (entries : List Entry) (n at : ℕ) : Type 0 where
   pub stand : Stand x n at
@@ -173,7 +161,7 @@ module _ {x : Text} {kinds : Names} {entries : List Entry} {n at : ℕ} (w : Gon
             answer = w .answer ∙ rw (drop-cons (lines x) n [] (v .counted), lt-leb maxRules n o, v .line-is, z, line-more, add-one);
           }
 
-  gone-loaded : length x ≤ at → Loaded x (record { kinds = kinds; entries = entries })
+  pub gone-loaded : length x ≤ at → Loaded x (record { kinds = kinds; entries = entries })
   gone-loaded h =
       let c = stand-stop x n at (w .stand) h in
       record {
@@ -185,9 +173,9 @@ module _ {x : Text} {kinds : Names} {entries : List Entry} {n at : ℕ} (w : Gon
   abbrev read : SheetRead
   read = record { outcome = Read; sheet = record { kinds = kinds; entries = entries } }
 
-  end-is : length x ≤ at → read ≡ sheetBy x (sheetLines 0 [] (lines x))
+  pub gone-end : length x ≤ at → read ≡ sheetBy x (sheetLines 0 [] (lines x))
   unfolding ps
-  end-is h =
+  gone-end h =
       let c = stand-stop x n at (w .stand) h in
       let m : n ≡ length ps = c ∙ sym (placed-length 0 (lines x)) in
       let t : take n ps ≡ ps = take-all n ps (omega arith) in
@@ -200,6 +188,3 @@ module _ {x : Text} {kinds : Names} {entries : List Entry} {n at : ℕ} (w : Gon
       let f : entries ≡ map entryOf ps ++ replicate (maxRules - length ps) noEntry =
       w .entries-are ∙ ap₂ (λ q j. map entryOf q ++ replicate (64 - j) noEntry) t m in
       rw (a, k, f)
-
-  pub gone-end : length x ≤ at → LoadedBy x (sheetBy x (sheetLines 0 [] (lines x))) read
-  gone-end h = record { reads = end-is h; loaded = λ _. gone-loaded h }

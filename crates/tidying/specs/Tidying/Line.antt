@@ -8,11 +8,11 @@ use lib.ListN.{length, take, drop, getD, length-append, length-take, length-drop
 use borrow.{Author.Tests.le-leb, Rule.Slice.PartMut.putMid}
 use Rattle.fields.specs.{Tests.tells-le, Tests.tells-and, Bytes.Text, Bytes.isName, Bytes.bytes, Limits.maxName, Children.shortName}
 use Rattle.fields.specs.{Split.Laws.rejoined, Split.Laws.joined-split}
-use Rattle.fields.specs.{declared.split.Heads.Heads, Heads.headsOf, Heads.Laws.Three, Heads.Laws.fields-three}
+use Rattle.fields.specs.{declared.split.Heads.Heads, Heads.headsOf, Heads.Laws.Three, Heads.Laws.fields-enough}
 use Rattle.fields.specs.Split.{lineFeed, tab, fields, field, part}
 use Rattle.fields.specs.Put.{Put, Begun, Laws.put-length, Laws.put-first, Laws.begun-all, Laws.piece-put}
 use Rattle.model.specs.{Answer.answer, Answer.answer-is, Fault.accepted, Accept.Length.text-short, Accept.Laws.accepted-within}
-use Rattle.sheet.specs.{Listing.Laws.enough, Sheet.kind, Sheet.model, Sheet.Laws.part-size, Sheet.Good.Accepted}
+use Rattle.sheet.specs.{Sheet.kind, Sheet.model, Sheet.Laws.part-size, Sheet.Good.Accepted}
 use Rattle.canonical.specs.{declared.fault.WriteFault.WriteFault, declared.write.Written.Written, Canonical.canonical}
 use Rattle.canonical.specs.declared.write.Written.the-variants.{Length, Refused}
 use Rattle.canonical.specs.Canonical.{writeReply, wrote, writtenOf, bufferWritten, Accepted.canonical-formed, Accepted.canonical-within}
@@ -110,7 +110,7 @@ module _ {l : Text} (r : RuleFits l) where
   -- by the ends of its fields
   module _ {h : Heads} (e : h ≡ headsOf l) where
     pub rule-three : Three l h
-    rule-three = fields-three l h e (enough l h e (omega (arith, r .three)))
+    rule-three = fields-enough l h e (omega (arith, r .three))
 
     start-is : h .second + 1 ≡ length (head l)
     start-is =

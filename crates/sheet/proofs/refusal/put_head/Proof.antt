@@ -3,77 +3,37 @@ use borrow.Author.Needs.{needs}
 use Rattle.sheet.proofs.refusal.put_head.Statement.{statement}
 use Rattle.sheet.proofs.refusal.put_head.Tie as tie
 
--- each source's arm, from its call
-abbrev sheet : tie.After-put-arg2 → tie.After-enum-told
-sheet c = c .before .before
-
-abbrev cues : tie.After-put-arg4 → tie.After-enum-told2
-cues c = c .before .before
-
-abbrev listing : tie.After-put-arg6 → tie.After-enum-told3
-listing c = c .before .before
-
-enum-told : tie.Need-enum-told
-enum-told c = search needs
-
-slice-aggregate-put : tie.Need-slice-aggregate-put
-slice-aggregate-put c = search needs
-
-put-requires : tie.Need-put-requires
-put-requires c κs = search needs
-
-enum-told-2 : tie.Need-enum-told-2
-enum-told-2 c = search needs
-
-slice-aggregate-put-2 : tie.Need-slice-aggregate-put-2
-slice-aggregate-put-2 c = search needs
-
-put-requires-2 : tie.Need-put-requires-2
-put-requires-2 c κs = search needs
-
-enum-told-3 : tie.Need-enum-told-3
-enum-told-3 c = search needs
-
-slice-aggregate-put-3 : tie.Need-slice-aggregate-put-3
-slice-aggregate-put-3 c = search needs
-
-put-requires-3 : tie.Need-put-requires-3
-put-requires-3 c κs = search needs
-
-same-length : tie.Need-same-length
-same-length c = search needs
-
 returns : tie.Need-returns
-returns c = rw (sheet (c .before .before .before) .enum-told .given .1) (c .before .before .put .ensures)
-
-same-length-2 : tie.Need-same-length-2
-same-length-2 c = search needs
+returns c =
+    let p = c .before .before in
+    rw (p .before .before .before .enum-told .given .1) (p .put .ensures)
 
 returns-2 : tie.Need-returns-2
-returns-2 c = rw (cues (c .before .before .before) .enum-told2 .given .1) (c .before .before .put2 .ensures)
-
-same-length-3 : tie.Need-same-length-3
-same-length-3 c = search needs
+returns-2 c =
+    let p = c .before .before in
+    rw (p .before .before .before .enum-told2 .given .1) (p .put2 .ensures)
 
 returns-3 : tie.Need-returns-3
-returns-3 c = rw (listing (c .before .before .before) .enum-told3 .given .1) (c .before .before .put3 .ensures)
+returns-3 c =
+    let p = c .before .before in
+    rw (p .before .before .before .enum-told3 .given .1) (p .put3 .ensures)
 
 pub put-head-spec : {M : Type 1} → statement M
 put-head-spec =
     tie.close
     (tie.spec
-    enum-told
-    slice-aggregate-put
-    put-requires
-    enum-told-2
-    slice-aggregate-put-2
-    put-requires-2
-    enum-told-3
-    slice-aggregate-put-3
-    put-requires-3
-    same-length
+    (λ c. search needs)
+    (λ c. search needs)
+    (λ c κs. search needs)
+    (λ c. search needs)
+    (λ c. search needs)
+    (λ c κs. search needs)
+    (λ c. search needs)
+    (λ c. search needs)
+    (λ c κs. search needs)
+    (λ c. search needs)
     returns
-    same-length-2
+    (λ c. search needs)
     returns-2
-    same-length-3
+    (λ c. search needs)
     returns-3)

@@ -1,8 +1,9 @@
 -- A walk over the lines: those passed are good and in their places.
+use mathlib.Core.Path.{_∙_}
 use Prim.Native.Nat.{_-_, _≤_, _<_}
 use lib.ListN.{length}
 use Rattle.fields.specs.{Limits.maxFile, Bytes.Text, Split.lineFeed, Split.Laws.end-bounds}
-use Rattle.sheet.specs.Sheet.Walk.{Gone, gone-start, gone-many, gone-bad, gone-next, gone-end, not-loaded}
+use Rattle.sheet.specs.Sheet.Walk.{Gone, gone-start, gone-many, gone-bad, gone-next, gone-end}
 use borrow.Author.Needs.{needs}
 use native.Mathlib.Omega.{arith}
 use Rattle.sheet.proofs.sheet.read_lines.Statement.{statement}
@@ -36,7 +37,7 @@ loop-holds c = let p = c .before .before .before .before .pre in (gone-start (c 
 returns : tie.Need-returns Inv μ
 returns c =
     let i = c .before .before in
-    not-loaded (c .refused .ensures) (gone-many (i .before .loop .inv .0) (c .before .if1 .taken) (i .loop-test .taken))
+    c .refused .ensures ∙ gone-many (i .before .loop .inv .0) (c .before .if1 .taken) (i .loop-test .taken)
 
 read-line-requires : tie.Need-read-line-requires Inv μ
 read-line-requires c κs = (bounds c .0, bounds c .1, loop c .loop .inv .1)
@@ -45,9 +46,9 @@ returns-2 : tie.Need-returns-2 Inv μ
 returns-2 c =
     let r = c .before .before .before .before in
     let e = r .before in
-    not-loaded (c .refused2 .ensures)
-    (gone-bad (loop e .loop .inv .0) (room e) (e .before .before .loop-test .taken) (e .part-end .ensures) (r .read-line .ensures)
-    (c .before .before .checked .given .1))
+    c .refused2 .ensures
+    ∙ gone-bad (loop e .loop .inv .0) (room e) (e .before .before .loop-test .taken) (e .part-end .ensures) (r .read-line .ensures)
+    (c .before .before .checked .given .1)
 
 loop-again : tie.Need-loop-again Inv μ
 loop-again c =

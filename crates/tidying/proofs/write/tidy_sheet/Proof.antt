@@ -1,7 +1,7 @@
 -- Sheet, length, lines: nothing is written before the length is known.
 use mathlib.Core.Path.{_≡_, refl, sym, ap, _∙_}
 use lib.ListN.{length}
-use Rattle.sheet.specs.{declared.sheet.SheetOutcome.the-variants.Read, Sheet.sheetOutcome, Coded.Laws.outcome-is}
+use Rattle.sheet.specs.{declared.sheet.SheetOutcome.the-variants.Read, Sheet.sheetOutcome, Sheet.Good.outcome-is}
 use Rattle.tidying.specs.Tidying.Laws.{good-sheet, tidied-refused, tidied-long, tidied-written, buffer-tidied}
 use native.Mathlib.Omega.{arith}
 use borrow.Author.Needs.{needs}
