@@ -1,12 +1,13 @@
 -- A tidied sheet is read again, if a file may be so long, and is its own tidied sheet.
-use mathlib.Core.{Path._≡_, Path.refl, Path.sym, Path.ap, Path._∙_, Bool.cond, Bool.not, Bool._||_, Option.Option, Option.none, Option.some}
+use mathlib.Core.{Path._≡_, Path.refl, Path.sym, Path.ap, Path.ap₂, Path._∙_, Bool.true, Bool.cond, Bool.not, Bool._||_, Option.Option, Option.none, Option.some}
 use mathlib.Core.List.{List, [], _∷_, _++_, map, append-assoc}
 use Prim.Native.Nat.{ℕ, zero, suc, _≤_, _<_}
 use native.Mathlib.Omega.{arith}
 use lib.{Dec.T, Dec.leb, Dec.eqb, ListN.length, ListN.getD, ListN.length-map}
+use mir.Facts.{yes-and}
 use borrow.Author.Tests.{le-ltb}
 use Rattle.fields.specs.{Limits.maxFile, Bytes.Text, Bytes.bytes, Bytes.sameText, Bytes.all, Bytes.Runs.all-append, Children.shortName}
-use Rattle.fields.specs.Split.{lineFeed, tab, split, butLast, last, lines, behind, fields, other}
+use Rattle.fields.specs.Split.{lineFeed, tab, lines, behind, ended, fields, other, noneHas, Joined.split-joined, Joined.lines-ended}
 use Rattle.model.specs.{Syntax.text, Answer.answer, Answer.answer-is, Fault.accepted}
 use Rattle.sheet.specs.{declared.sheet.SheetFault.SheetFault, declared.sheet.SheetOutcome.SheetOutcome}
 use Rattle.sheet.specs.declared.sheet.SheetFault.the-variants.{ManyRules, BadFields, NoKind, Repeated}
@@ -15,7 +16,7 @@ use Rattle.sheet.specs.Sheet.{maxRules, kind, model, among, modelFault, lineFau
 use Rattle.canonical.specs.{Canonical.canonical, Canonical.Accepted.canonical-formed, Ends.text-accepted, Ends.same-rows, Ends.written-twice}
 use Rattle.tidying.specs.Tidying.{tidyModel, tidyLine, tidyLines, tidySheet, LineKept, Laws.good-sheet}
 use Rattle.tidying.specs.Tidying.Line.{RuleFits, tree-is, kind-named, fields-are}
-use Rattle.tidying.specs.Tidying.Visible.{visible, Visible, name-visible, text-visible, visible-free, split-behind, split-free-of}
+use Rattle.tidying.specs.Tidying.Visible.{visible, Visible, name-visible, text-visible, visible-free}
 
 -- the model
 module _ {m : Text} (a : Accepted m) where
@@ -54,9 +55,9 @@ module _ {l : Text} (r : RuleFits l) where
 
   bare-fields : fields (bare l) ≡ bytes "rule" ∷ (kind l ∷ (tidyModel (model l) ∷ []))
   bare-fields =
-      split-behind tab (bytes "rule") (kind l ++ (tab ∷ tidyModel (model l))) tt
-      ∙ ap (λ fs. bytes "rule" ∷ fs) (split-behind tab (kind l) (tidyModel (model l)) (kind-free tab tt))
-      ∙ ap (λ fs. bytes "rule" ∷ (kind l ∷ fs)) (split-free-of tab (tidyModel (model l)) (model-free tab tt))
+      let model-lacks = yes-and (all (other tab) (tidyModel (model l))) true (model-free tab tt) tt in
+      split-joined tab (bytes "rule") (kind l ∷ (tidyModel (model l) ∷ []))
+      (yes-and (all (other tab) (kind l)) (noneHas tab (tidyModel (model l) ∷ [])) (kind-free tab tt) model-lacks)
 
   bare-free : T (all (other lineFeed) (bare l))
   bare-free =
@@ -82,26 +83,21 @@ AllFit ls = (i : ℕ) → i < length ls → RuleFits (getD ls i [])
 rest-fit : (l : Text) (ls : List Text) → AllFit (l ∷ ls) → AllFit ls
 rest-fit l ls f i h = f (suc i) (omega arith)
 
-split-again : (ls : List Text) → AllFit ls → split lineFeed (tidyLines ls) ≡ map bare ls ++ ([] ∷ [])
-split-again [] f = refl
-split-again (l ∷ ls) f =
-    ap (split lineFeed) (regrouped (bytes "rule") (kind l) (tidyModel (model l)))
-    ∙ split-behind lineFeed (bare l) (tidyLines ls) (bare-free (f 0 (omega arith)))
-    ∙ ap (λ ps. bare l ∷ ps) (split-again ls (rest-fit l ls f))
+-- each line with its line feed
+ended-bare : (ls : List Text) → tidyLines ls ≡ ended (map bare ls)
+ended-bare [] = refl
+ended-bare (l ∷ ls) = ap₂ (λ x y. x ++ y) (regrouped (bytes "rule") (kind l) (tidyModel (model l))) (ended-bare ls)
   where
-    regrouped : (a b c : Text)
-        → (a ++ (tab ∷ (b ++ (tab ∷ (c ++ (lineFeed ∷ [])))))) ++ tidyLines ls ≡ (a ++ (tab ∷ (b ++ (tab ∷ c)))) ++ (lineFeed ∷ tidyLines ls)
+    regrouped : (a b c : Text) → a ++ (tab ∷ (b ++ (tab ∷ (c ++ (lineFeed ∷ []))))) ≡ (a ++ (tab ∷ (b ++ (tab ∷ c)))) ++ (lineFeed ∷ [])
     regrouped a b c = simp append-assoc
 
-but-last : (ps : List Text) → butLast (ps ++ ([] ∷ [])) ≡ ps
-but-last [] = refl
-but-last (p ∷ []) = refl
-but-last (p ∷ q ∷ ps) = ap (λ r. p ∷ r) (but-last (q ∷ ps))
+bare-lack : (ls : List Text) → AllFit ls → T (noneHas lineFeed (map bare ls))
+bare-lack [] f = tt
+bare-lack (l ∷ ls) f =
+    yes-and (all (other lineFeed) (bare l)) (noneHas lineFeed (map bare ls)) (bare-free (f 0 (omega arith))) (bare-lack ls (rest-fit l ls f))
 
-last-is : (ps : List Text) → last (ps ++ ([] ∷ [])) ≡ []
-last-is [] = refl
-last-is (p ∷ []) = refl
-last-is (p ∷ q ∷ ps) = last-is (q ∷ ps)
+split-again : (ls : List Text) → AllFit ls → (lines (tidyLines ls) ≡ map bare ls) × (behind (tidyLines ls) ≡ [])
+split-again ls f = rw (ended-bare ls) (lines-ended (map bare ls) (bare-lack ls f))
 
 lines-again : (ls : List Text) → AllFit ls → tidyLines (map bare ls) ≡ tidyLines ls
 lines-again [] f = refl
@@ -130,7 +126,7 @@ module _ (x : Text) (read : sheetOutcome x ≡ Read) where
   fit = good-sheet x read .fit
 
   lines-are : lines (tidySheet x) ≡ map bare (lines x)
-  lines-are = ap butLast (split-again (lines x) fit) ∙ but-last (map bare (lines x))
+  lines-are = split-again (lines x) fit .0
 
   pub lines-counted : length (lines (tidySheet x)) ≡ length (lines x)
   lines-counted = ap length lines-are ∙ length-map (lines x) bare
@@ -155,5 +151,4 @@ module _ (x : Text) (read : sheetOutcome x ≡ Read) where
 
   pub tidied-read : length (tidySheet x) ≤ maxFile → sheetOutcome (tidySheet x) ≡ Read
   tidied-read h =
-      let e : behind (tidySheet x) ≡ [] = ap last (split-again (lines x) fit) ∙ last-is (map bare (lines x)) in
-      rw (le-ltb maxFile (length (tidySheet x)) h, e, lines-are) (read-again (lines x) fit 0 [] ∙ lines-read x read .1)
+      rw (le-ltb maxFile (length (tidySheet x)) h, split-again (lines x) fit .1, lines-are) (read-again (lines x) fit 0 [] ∙ lines-read x read .1)

@@ -1,11 +1,9 @@
--- A model text has neither tab nor line feed, and what is put together with such a separator is parted there again.
-use mathlib.Core.{Path._≡_, Path.refl, Bool.Bool, Bool.false, Bool.not, Bool._&&_, List.[], List._∷_, List._++_}
+-- A model text has neither tab nor line feed.
+use mathlib.Core.{Bool.Bool, Bool.not, Bool._&&_, List._++_}
 use Prim.Native.Nat.{ℕ}
-use lib.Dec.{T, eqb}
-use mir.Facts.{and-yes}
-use borrow.Author.Tests.{eq-eqb, not-true}
+use lib.Dec.{T}
 use Rattle.fields.specs.Bytes.{Text, bytes, isDigit, isInner, isName, isNumeral, all}
-use Rattle.fields.specs.{Bytes.Laws.T-true, Bytes.Laws.apart, Split.tab, Split.lineFeed, Split.split, Split.other}
+use Rattle.fields.specs.{Bytes.Laws.apart, Split.tab, Split.lineFeed, Split.other}
 use Rattle.fields.specs.Bytes.Runs.{digit-inner, all-map, all-append, numeral-digits}
 use Rattle.model.specs.declared.rule.{Sign.Sign, Mark.Mark}
 use Rattle.model.specs.declared.rule.Sign.the-variants.{None, Sequence, Choice, Interleaving}
@@ -67,17 +65,3 @@ mutual
 -- a separator is none of these bytes
 pub visible-free : (s : ℕ) → T (not (visible s)) → (x : Text) → Visible x → T (all (other s) x)
 visible-free s n = all-map visible (other s) (λ b h. rw (apart visible b s h n) tt)
-
-module _ (s : ℕ) where
-  free-first : (b : ℕ) (u : Text) → T (all (other s) (b ∷ u)) → (eqb b s ≡ false) × T (all (other s) u)
-  free-first b u h =
-      let q = and-yes (other s b) (all (other s) u) h in
-      (not-true (eqb b s) (T-true (other s b) (q .0)), q .1)
-
-  pub split-behind : (u y : Text) → T (all (other s) u) → split s (u ++ (s ∷ y)) ≡ u ∷ split s y
-  split-behind [] y h = rw (eq-eqb s s refl)
-  split-behind (b ∷ u) y h = let q = free-first b u h in rw (q .0, split-behind u y (q .1))
-
-  pub split-free-of : (u : Text) → T (all (other s) u) → split s u ≡ u ∷ []
-  split-free-of [] h = refl
-  split-free-of (b ∷ u) h = let q = free-first b u h in rw (q .0, split-free-of u (q .1))
