@@ -1,15 +1,14 @@
 -- A listing whose verdicts are kept as bytes, and what the parts of a listing's making know of each other.
 pub mod Laws
-use mathlib.Core.{Path._≡_, Bool.cond, List.List, List.[], List._∷_, List._++_}
-use Prim.Native.Nat.{ℕ, suc, _+_, _≤_, _<_}
-use lib.{Dec.T, Dec.eqb, ListN.length, ListN.getD}
-use Rattle.fields.specs.{Bytes.Text, Split.lines, Children.allNames}
+use mathlib.Core.{Path._≡_, Bool.cond, List.List, List.[], List._∷_, List._++_, List.map}
+use Prim.Native.Nat.{ℕ, _+_, _≤_}
+use lib.{Dec.T, Dec.eqb, ListN.length, ListN.take}
+use Rattle.fields.specs.{Bytes.Text, Split.lineFeed, Split.lines, Split.ended, Children.allNames}
 use Rattle.judge.specs.{declared.reading.NamePlace.NamePlace, declared.verdict.ChildrenJudged.ChildrenJudged}
 use Rattle.judge.specs.declared.verdict.ChildrenJudged.the-variants.{Verdict, ModelRefused, ChildrenRefused}
-use Rattle.sheet.specs.{Cues.children, Cues.cuesRead, Cues.CueFits}
-use Rattle.lister.specs.{declared.line.Said.Said, Listing.wordOf, Listing.listingLine, Listing.said}
-use Rattle.sheet.specs.{declared.cues.CuesRead.the-variants.Count, declared.sheet.SheetOutcome.the-variants.Read, Sheet.sheetOutcome}
-use Rattle.lister.specs.declared.line.Said.the-variants.{Complete, Open, Dead, NoSheet}
+use Rattle.sheet.specs.Cues.{children, CueFits, Walk.GoodCues}
+use Rattle.lister.specs.declared.said.Said.{Said, the-variants.Complete, the-variants.Open, the-variants.Dead, the-variants.NoSheet}
+use Rattle.lister.specs.Listing.{wordOf, listingLine, said, totalLine}
 
 -- by what `judge_children` answers
 abbrev pub saidFrom : ChildrenJudged → Said
@@ -26,10 +25,15 @@ codeOf NoSheet = 3
 abbrev pub decoded : ℕ → Said
 decoded n = cond (eqb n 0) Complete (cond (eqb n 1) Open (cond (eqb n 2) Dead NoSheet))
 
--- by the bytes from place i on
-abbrev pub listingCoded : List ℕ → ℕ → List Text → Text
-listingCoded vs i [] = []
-listingCoded vs i (l ∷ ls) = listingLine l (decoded (getD vs i 0)) ++ listingCoded vs (suc i) ls
+-- a byte for each cue line
+abbrev pub linesCoded : List ℕ → List Text → List Text
+linesCoded vs [] = []
+linesCoded [] (l ∷ ls) = []
+linesCoded (v ∷ vs) (l ∷ ls) = listingLine l (decoded v) ∷ linesCoded vs ls
+
+-- no line of a listing is longer, with its line feed
+abbrev pub maxLine : ℕ
+maxLine = 66000
 
 -- the place lies in the sheet's text; the cue line is good
 pub record CueReady (s : Text) (p : NamePlace) (l : Text) : Type 0 where
@@ -39,15 +43,14 @@ pub record CueReady (s : Text) (p : NamePlace) (l : Text) : Type 0 where
 
 -- the bytes of the first n cue lines
 abbrev pub CodedUpTo : ℕ → Text → Text → List ℕ → Type 0
-CodedUpTo n s c codes = (i : ℕ) → i < n → getD codes i 0 ≡ codeOf (said (lines s) (getD (lines c) i []))
+CodedUpTo n s c codes = take n codes ≡ map codeOf (map (said (lines s)) (take n (lines c)))
 
-abbrev pub Coded : Text → Text → List ℕ → Type 0
-Coded s c codes = CodedUpTo (length (lines c)) s c codes
+-- the lines of all cues and the last line, by the byte of each cue
+abbrev pub listingCoded : List ℕ → Text → Text
+listingCoded vs c = ended (linesCoded vs (lines c)) ++ (totalLine (map decoded vs) ++ (lineFeed ∷ []))
 
--- a sheet and a cue list that were read, the byte of each cue, and how long the listing is
-pub record ListingReady (s c : Text) (codes : List ℕ) (total : ℕ) : Type 0 where
-  pub sheet-read : sheetOutcome s ≡ Read
-  pub count : ℕ
-  pub cues-read : cuesRead c ≡ Count count
-  pub coded : Coded s c codes
-  pub total-is : total ≡ length (listingCoded codes 0 (lines c))
+-- a cue list that was read, and a byte for each of its lines
+pub record CuesCoded (c : Text) (vs : List ℕ) : Type 0 where
+  pub good : GoodCues c
+  pub counted : length vs ≡ length (lines c)
+  pub are-codes : vs ≡ map codeOf (map decoded vs)

@@ -1,22 +1,18 @@
--- A listing, a line for each cue in order: document 01, "Files".
+-- A listing, a line for each cue in order and a last line: document 01, "Files"; document 02, W6.
 pub mod Laws
-use mathlib.Core.{Bool.cond, List.List, List.[], List._∷_, List._++_, List.map}
-use Prim.Native.Nat.{ℕ, zero, suc}
-use lib.{Dec.leb, ListN.length, ListN.drop, ListN.getD}
+pub mod Total
+pub mod Lines
+use mathlib.Core.{Path._≡_, Bool.cond, List.List, List.[], List._∷_, List._++_, List.map}
+use Prim.Native.Nat.{ℕ, zero, suc, _+_}
+use lib.ListN.{length, getD}
 use Rattle.model.specs.{declared.verdict.Verdict.Verdict, Syntax.writtenNames, Syntax.numberIn, Fault.Answer, Fault.refused, Fault.accepted, Answer.answer}
 use Rattle.model.specs.{Model.modelOf, Model.typeOf, Verdict.verdict}
 use Rattle.model.specs.declared.verdict.Verdict.the-variants.{Complete as IsComplete, Open as IsOpen, Dead as IsDead}
-use Rattle.fields.specs.{Bytes.Text, Bytes.bytes, Bytes.digits, Split.lineFeed, Split.tab, Split.lines, Split.field}
+use Rattle.fields.specs.{Bytes.Text, Bytes.bytes, Bytes.sameText, Bytes.digits}
+use Rattle.fields.specs.Split.{tab, joined, lines, ended, fields, field}
 use Rattle.judge.specs.Named.{rowOf}
-use Rattle.sheet.specs.{declared.cues.CuesRead.CuesRead, declared.sheet.SheetOutcome.SheetOutcome}
-use Rattle.lister.specs.{declared.line.Said.Said}
-use Rattle.sheet.specs.{Cues.children, Cues.cuesRead}
-use Rattle.lister.specs.{declared.listing.Listed.Listed}
-use Rattle.lister.specs.declared.line.Said.the-variants.{Complete, Open, Dead, NoSheet}
-use Rattle.sheet.specs.declared.cues.CuesRead.the-variants.{Count, Refused}
-use Rattle.sheet.specs.declared.sheet.SheetOutcome.the-variants.{Read, Refused as SheetIsRefused}
-use Rattle.lister.specs.declared.listing.Listed.the-variants.{Written, SheetRefused, CueRefused, TooLong}
-use Rattle.sheet.specs.Sheet.{kind, model, sheetOutcome}
+use Rattle.sheet.specs.{Cues.children, Sheet.kind, Sheet.model}
+use Rattle.lister.specs.declared.said.Said.{Said, the-variants.Complete, the-variants.Open, the-variants.Dead, the-variants.NoSheet}
 
 abbrev pub word : Said → Text
 word Complete = bytes "complete"
@@ -26,12 +22,20 @@ word NoSheet = bytes "nosheet"
 
 -- of a cue line and what is said of it: number, kind, verdict, how many children
 abbrev pub listingLine : Text → Said → Text
-listingLine l v = field 1 l ++ (tab ∷ (field 2 l ++ (tab ∷ (word v ++ (tab ∷ (digits (length (children l)) ++ (lineFeed ∷ [])))))))
+listingLine l v = joined tab (field 1 l ∷ (field 2 l ∷ (word v ∷ (digits (length (children l)) ∷ []))))
 
--- by what is said of each cue line
-abbrev pub listingBy : (Text → Said) → List Text → Text
-listingBy f [] = []
-listingBy f (l ∷ ls) = listingLine l (f l) ++ listingBy f ls
+-- how often a word is said
+abbrev pub saidTimes : Said → List Said → ℕ
+saidTimes v [] = 0
+saidTimes v (w ∷ ws) = cond (sameText (word w) (word v)) (suc (saidTimes v ws)) (saidTimes v ws)
+
+-- of how many cues anything is said, and each word: document 02, W6
+abbrev pub totals : List Said → List ℕ
+totals vs = length vs ∷ (saidTimes Complete vs ∷ (saidTimes Open vs ∷ (saidTimes Dead vs ∷ (saidTimes NoSheet vs ∷ []))))
+
+-- the last line
+abbrev pub totalLine : List Said → Text
+totalLine vs = joined tab (bytes "total" ∷ map digits (totals vs))
 
 abbrev pub wordOf : Verdict → Said
 wordOf IsComplete = Complete
@@ -57,5 +61,21 @@ saidAt ls (suc k) cs = saidOf (model (getD ls k [])) cs
 abbrev pub said : List Text → Text → Said
 said ls l = saidAt ls (numberIn (map kind ls) (field 2 l)) (children l)
 
+-- a line for each cue line in order, and the last
+abbrev pub listingLines : List Text → List Text → List Text
+listingLines ls cs = map (λ l. listingLine l (said ls l)) cs ++ (totalLine (map (said ls) cs) ∷ [])
+
 abbrev pub listing : Text → Text → Text
-listing s c = listingBy (said (lines s)) (lines c)
+listing s c = ended (listingLines (lines s) (lines c))
+
+-- how many lines have that word as their third field
+abbrev pub linesWith : Said → List Text → ℕ
+linesWith v [] = 0
+linesWith v (l ∷ ls) = cond (sameText (field 2 l) (word v)) (suc (linesWith v ls)) (linesWith v ls)
+
+-- what a last line says of the lines above it (`Ends.total-exactly`)
+pub record Totals (above : List Text) (l : Text) : Type 0 where
+  pub fields-are :
+      fields l ≡ bytes "total" ∷ map digits
+      (length above ∷ (linesWith Complete above ∷ (linesWith Open above ∷ (linesWith Dead above ∷ (linesWith NoSheet above ∷ [])))))
+  pub sum : linesWith Complete above + linesWith Open above + linesWith Dead above + linesWith NoSheet above ≡ length above

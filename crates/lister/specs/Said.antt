@@ -8,7 +8,7 @@ use Rattle.model.specs.{declared.verdict.Verdict.Verdict, Syntax.Syntax, Syntax
 use Rattle.model.specs.{Verdict.Says}
 use Rattle.judge.specs.Named.{rowOf}
 use Rattle.sheet.specs.{Cues.children, Sheet.kind, Sheet.model}
-use Rattle.lister.specs.{declared.line.Said.Said, declared.line.Said.the-variants.NoSheet, Listing.wordOf}
+use Rattle.lister.specs.{declared.said.Said.Said, declared.said.Said.the-variants.NoSheet, Listing.wordOf}
 
 pub data CueSaid (ls : List Text) (l : Text) : Said → Type 0 where
   -- no line of the sheet has its kind

@@ -1,5 +1,7 @@
 // The listing of a cue list by a sheet.
 
-pub mod line;
+mod line;
 pub mod listing;
 pub mod refusal;
+mod said;
+mod total;

@@ -1,25 +1,18 @@
 // A line of the listing.
 
 ghost use mathlib.Core.{Path._≡_, List.[], List._∷_, List._++_};
-ghost use Prim.Native.Nat.{_≤_, _<_};
+ghost use Prim.Native.Nat.{_+_, _≤_, _<_};
 ghost use lib.ListN.{length};
-ghost use Rattle.fields.specs.{Bytes.digits, Split.tab};
+ghost use Rattle.fields.specs.{Bytes.digits, Split.tab, Split.lineFeed};
 ghost use Rattle.fields.specs.Put.{Put, putEnd, putAt};
 ghost use Rattle.sheet.specs.{Cues.CueFits};
 ghost use Rattle.lister.specs.{Listing.word, Listing.listingLine};
+use crate::said::Said;
 use fields::put::put;
 use fields::put::put_number;
 use fields::split::TAB;
 use fields::split::first_fields;
 use fields::split::times_in;
-
-// What is said of a cue: the verdict on its row, or that the sheet lacks its kind.
-pub(crate) enum Said {
-    Complete,
-    Open,
-    Dead,
-    NoSheet,
-}
 
 // Writes a verdict between tabs, as `put` writes bytes.
 fn put_word(buffer: &mut [u8], at: usize, said: Said) -> usize
@@ -61,10 +54,10 @@ fn number_length(number: usize) -> usize
     if number < 10000 { 4 } else { 5 }
 }
 
-// How long the line of a cue is.
+// How long the line of a cue is, with its line feed.
 pub(crate) fn line_length(cue: &[u8], said: Said) -> usize
     requires { ⌜ CueFits (now cue) ⌝ }
-    ensures { λ r. ⌜ r ≡ length (listingLine (now (cue .entry)) said) ⌝ }
+    ensures { λ r. ⌜ r ≡ length (listingLine (now (cue .entry)) said) + 1 ⌝ }
 {
     let ends = first_fields(cue);
     let second = ends.second;
@@ -75,8 +68,8 @@ pub(crate) fn line_length(cue: &[u8], said: Said) -> usize
 
 // Writes the line of a cue: number, kind, what is said of it, how many children.
 pub(crate) fn write_line(buffer: &mut [u8], cue: &[u8], said: Said) -> usize
-    requires { ⌜ CueFits (now cue) × (length (listingLine (now cue) said) ≤ length (now buffer)) ⌝ }
-    ensures { λ r. ⌜ Put (now (buffer .entry)) (now (buffer .exit)) 0 (listingLine (now (cue .entry)) said) r ⌝ }
+    requires { ⌜ CueFits (now cue) × (length (listingLine (now cue) said ++ (lineFeed ∷ [])) ≤ length (now buffer)) ⌝ }
+    ensures { λ r. ⌜ Put (now (buffer .entry)) (now (buffer .exit)) 0 (listingLine (now (cue .entry)) said ++ (lineFeed ∷ [])) r ⌝ }
 {
     let ends = first_fields(cue);
     let first = ends.first;

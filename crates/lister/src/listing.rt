@@ -1,20 +1,25 @@
 // The listing.
 
 ghost use mathlib.Core.{Path._≡_, Bool.cond};
-ghost use Prim.Native.Nat.{_-_, _≤_};
+ghost use Prim.Native.Nat.{_*_, _-_, _≤_};
 ghost use lib.{Dec.eqb, ListN.length};
 ghost use Rattle.model.specs.Syntax.{numberIn};
 ghost use Rattle.judge.specs.Reading.{partAt, partsOf};
-ghost use Rattle.fields.specs.Split.{lines, field};
-ghost use Rattle.fields.specs.Put.{PutWhole};
+ghost use Rattle.fields.specs.{Limits.maxFile, Split.lines, Split.ended, Split.field, Put.Put};
 ghost use Rattle.sheet.specs.{Cues.children, Cues.CueFits, Cues.Walk.GoodCues, Sheet.Walk.Loaded};
-ghost use Rattle.lister.specs.{Listing.saidOf, Listing.listing, Listed.listed, Listed.bufferAfter};
-ghost use Rattle.lister.specs.Coded.{saidFrom, codeOf, decoded, CueReady, Coded, listingCoded};
-use crate::line::Said;
+ghost use Rattle.lister.specs.{Listing.saidOf, Listing.listing, Listed.fitted, Listed.listed, Listed.bufferAfter};
+ghost use Rattle.lister.specs.Coded.{codeOf, linesCoded, listingCoded, maxLine, CueReady, CuesCoded, CodedUpTo};
 use crate::line::line_length;
 use crate::line::write_line;
+use crate::said::Said;
+use crate::said::code_of;
+use crate::said::decode;
+use crate::said::said_from;
+use crate::total::TOTAL_SIZE;
+use crate::total::write_total;
 use fields::fault::CueFault;
 use fields::limits::MAX_FILE;
+use fields::put::put;
 use fields::split::LINE_FEED;
 use fields::split::first_fields;
 use fields::split::part_end;
@@ -22,8 +27,6 @@ use judge::reading::NamePlace;
 use judge::reading::Names;
 use judge::reading::number_of;
 use judge::reply::judge_children;
-use judge::verdict::ChildrenJudged;
-use model::verdict::Verdict;
 use sheet::cues::CuesRead;
 use sheet::cues::read_cues;
 use sheet::sheet::Sheet;
@@ -38,47 +41,6 @@ pub enum Listed {
     SheetRefused(SheetFault, usize),
     CueRefused(CueFault, usize),
     TooLong,
-}
-
-fn said_from(judged: ChildrenJudged) -> Said
-    ensures { λ r. ⌜ r ≡ saidFrom judged ⌝ }
-{
-    match judged {
-        ChildrenJudged::Verdict(v) => match v {
-            Verdict::Complete => Said::Complete,
-            Verdict::Open => Said::Open,
-            Verdict::Dead => Said::Dead,
-        },
-        ChildrenJudged::ModelRefused(_) => Said::Dead,
-        ChildrenJudged::ChildrenRefused(_) => Said::Dead,
-    }
-}
-
-// What is said of a cue, as a byte.
-fn code_of(said: Said) -> u8
-    ensures { λ r. ⌜ r ≡ codeOf said ⌝ }
-{
-    match said {
-        Said::Complete => 0,
-        Said::Open => 1,
-        Said::Dead => 2,
-        Said::NoSheet => 3,
-    }
-}
-
-fn decode(code: u8) -> Said
-    ensures { λ r. ⌜ r ≡ decoded code ⌝ }
-{
-    if code == 0 {
-        return Said::Complete;
-    }
-    if code == 1 {
-        return Said::Open;
-    }
-    if code == 2 {
-        return Said::Dead;
-    }
-    Said::NoSheet
 }
 
 // What the model at a place of the sheet's text says of a cue.
@@ -129,7 +91,7 @@ fn one_less(n: usize) -> usize
 // What the sheet says of each cue.
 fn say_all(sheet: &[u8], rules: Sheet, cues: &[u8], codes: &mut [u8])
     requires { ⌜ Loaded (now sheet) rules × GoodCues (now cues) × (length (now codes) ≡ 65535) ⌝ }
-    ensures { λ r. ⌜ Coded (now (sheet .entry)) (now (cues .entry)) (now (codes .exit)) ⌝ }
+    ensures { λ r. ⌜ CodedUpTo (length (lines (now (cues .entry)))) (now (sheet .entry)) (now (cues .entry)) (now (codes .exit)) ⌝ }
 {
     let kinds = rules.kinds;
     let mut n: usize = 0;
@@ -149,28 +111,29 @@ fn say_all(sheet: &[u8], rules: Sheet, cues: &[u8], codes: &mut [u8])
     }
 }
 
-// How long the listing is.
-fn total_length(cues: &[u8], codes: &[u8]) -> usize
-    requires { ⌜ GoodCues (now cues) × (length (now codes) ≡ 65535) ⌝ }
-    ensures { λ r. ⌜ r ≡ length (listingCoded (now (codes .entry)) 0 (lines (now (cues .entry)))) ⌝ }
+// How long the lines of all cues are.
+fn lines_length(cues: &[u8], codes: &[u8]) -> usize
+    requires { ⌜ CuesCoded (now cues) (now codes) ⌝ }
+    ensures { λ r. ⌜ r ≡ length (ended (linesCoded (now (codes .entry)) (lines (now (cues .entry))))) ⌝ }
+    ensures { λ r. ⌜ r ≤ maxFile * maxLine ⌝ }
 {
-    let mut total: usize = 0;
+    let mut length: usize = 0;
     let mut n: usize = 0;
     let mut at: usize = 0;
     while at < cues.len() {
         let end = part_end(cues, at, LINE_FEED);
         let said = decode(codes[n]);
-        total += line_length(&cues[at..end], said);
+        length += line_length(&cues[at..end], said);
         n += 1;
         at = end + 1;
     }
-    total
+    length
 }
 
-// Writes the listing: each line goes into the part of the buffer that the earlier ones left free.
-fn write_lines(buffer: &mut [u8], cues: &[u8], codes: &[u8])
-    requires { ⌜ GoodCues (now cues) × (length (now codes) ≡ 65535) × (length (listingCoded (now codes) 0 (lines (now cues))) ≤ length (now buffer)) ⌝ }
-    ensures { λ r. ⌜ PutWhole (now (buffer .entry)) (now (buffer .exit)) (listingCoded (now (codes .entry)) 0 (lines (now (cues .entry)))) ⌝ }
+// Writes the lines of all cues: each goes into the part of the buffer that the earlier ones left free.
+fn write_lines(buffer: &mut [u8], cues: &[u8], codes: &[u8]) -> usize
+    requires { ⌜ CuesCoded (now cues) (now codes) × (length (ended (linesCoded (now codes) (lines (now cues)))) ≤ length (now buffer)) ⌝ }
+    ensures { λ r. ⌜ Put (now (buffer .entry)) (now (buffer .exit)) 0 (ended (linesCoded (now (codes .entry)) (lines (now (cues .entry))))) r ⌝ }
 {
     let mut written: usize = 0;
     let mut n: usize = 0;
@@ -183,6 +146,24 @@ fn write_lines(buffer: &mut [u8], cues: &[u8], codes: &[u8])
         n += 1;
         at = end + 1;
     }
+    written
+}
+
+// Writes the listing by what is said of each cue, where the buffer has room for it.
+fn write_listing(buffer: &mut [u8], cues: &[u8], codes: &[u8]) -> Listed
+    requires { ⌜ CuesCoded (now cues) (now codes) ⌝ }
+    ensures { λ r. ⌜ r ≡ fitted (listingCoded (now (codes .entry)) (now (cues .entry))) (length (now (buffer .entry))) ⌝ }
+    ensures { λ r. ⌜ now (buffer .exit) ≡ bufferAfter r (listingCoded (now (codes .entry)) (now (cues .entry))) (now (buffer .entry)) ⌝ }
+{
+    let mut last = [0u8; TOTAL_SIZE];
+    let below = write_total(&mut last, codes);
+    let length = lines_length(cues, codes) + below;
+    if buffer.len() < length {
+        return Listed::TooLong;
+    }
+    let above = write_lines(buffer, cues, codes);
+    put(buffer, above, &last[0..below]);
+    Listed::Written(length)
 }
 
 fn no_codes() -> [u8; MAX_FILE] {
@@ -202,19 +183,14 @@ pub fn list(sheet: &[u8], cues: &[u8], buffer: &mut [u8]) -> Listed
             return Listed::SheetRefused(f, n);
         }
     }
-    match read_cues(cues) {
-        CuesRead::Count(_) => {}
+    let count = match read_cues(cues) {
+        CuesRead::Count(n) => n,
         CuesRead::Refused(f, n) => {
             return Listed::CueRefused(f, n);
         }
-    }
+    };
     let rules = read.sheet;
     let mut codes = no_codes();
     say_all(sheet, rules, cues, &mut codes);
-    let total = total_length(cues, &codes);
-    if buffer.len() < total {
-        return Listed::TooLong;
-    }
-    write_lines(buffer, cues, &codes);
-    Listed::Written(total)
+    write_listing(buffer, cues, &codes[0..count])
 }

@@ -20,6 +20,9 @@ put-first {old} {new} {s} p =
     let e : 0 + length s ≡ length s = omega arith in
     (p .end-is ∙ e, p .text-is ∙ rw (p .end-is))
 
+pub put-front : {old new s : Text} {end : ℕ} → Put old new 0 s end → take end new ≡ s
+put-front {old} {new} {s} {end} p = let f = put-first p in ap (take end) (f .1) ∙ take-at s (drop end old) end (sym (f .0))
+
 -- two writes, the second behind the first
 pub put-then : {old mid new : Text} {at a b : ℕ} {s t : Text} → Put old mid at s a → Put mid new a t b → Put old new at (s ++ t) b
 put-then {old} {mid} {new} {at} {a} {b} {s} {t} p q =

@@ -33,18 +33,18 @@ split-ended (l ∷ ls) h =
     let i = and-yes (all (other lineFeed) l) (noneHas lineFeed ls) h in
     ap (split lineFeed) (append-assoc l (lineFeed ∷ []) (ended ls)) ∙ split-behind lineFeed l (ended ls) (i .0) ∙ ap (λ r. l ∷ r) (split-ended ls (i .1))
 
-but-last : (ps : List Text) → butLast (ps ++ ([] ∷ [])) ≡ ps
-but-last [] = refl
-but-last (p ∷ []) = refl
-but-last (p ∷ q ∷ ps) = ap (λ r. p ∷ r) (but-last (q ∷ ps))
+pub but-last-is : (ps : List Text) (l : Text) → butLast (ps ++ (l ∷ [])) ≡ ps
+but-last-is [] l = refl
+but-last-is (p ∷ []) l = refl
+but-last-is (p ∷ q ∷ ps) l = ap (λ r. p ∷ r) (but-last-is (q ∷ ps) l)
 
-last-is : (ps : List Text) → last (ps ++ ([] ∷ [])) ≡ []
-last-is [] = refl
-last-is (p ∷ []) = refl
-last-is (p ∷ q ∷ ps) = last-is (q ∷ ps)
+pub last-is : (ps : List Text) (l : Text) → last (ps ++ (l ∷ [])) ≡ l
+last-is [] l = refl
+last-is (p ∷ []) l = refl
+last-is (p ∷ q ∷ ps) l = last-is (q ∷ ps) l
 
 pub lines-ended : (ls : List Text) → T (noneHas lineFeed ls) → (lines (ended ls) ≡ ls) × (behind (ended ls) ≡ [])
-lines-ended ls h = (ap butLast (split-ended ls h) ∙ but-last ls, ap last (split-ended ls h) ∙ last-is ls)
+lines-ended ls h = (ap butLast (split-ended ls h) ∙ but-last-is ls [], ap last (split-ended ls h) ∙ last-is ls [])
 
 -- what lacks a byte: each part of a text that does, a part of those, and what is put together of them
 pub split-lacks : (s t : ℕ) (x : Text) → T (all (other t) x) → T (noneHas t (split s x))

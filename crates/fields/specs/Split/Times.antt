@@ -1,10 +1,10 @@
--- How often a byte stands in a text, counted from the beginning, byte by byte and part by part.
-use mathlib.Core.{Path._≡_, Path.refl, List.[], List._∷_}
+-- How often a byte stands in a text, counted from the beginning, byte by byte and part by part; how many lines there are.
+use mathlib.Core.{Path._≡_, Path.refl, Path.ap, Path._∙_, List.List, List.[], List._∷_}
 use Prim.Native.Nat.{ℕ, zero, suc, _+_, _-_, _≤_, _<_}
 use native.Mathlib.{Omega.arith, Numerals.add-one}
 use lib.{Dec.eqb, ListN.length, ListN.take, ListN.drop, ListN.getD, ListN.drop-of-length-le, Seq.drop-cons, Seq.drop-drop}
 use borrow.Author.Tests.{eq-eqb, ne-eqb}
-use Rattle.fields.specs.{Tests.by-test, Bytes.Text, Split.part, Split.times}
+use Rattle.fields.specs.{Tests.by-test, Bytes.Text, Split.lineFeed, Split.butLast, Split.lines, Split.part, Split.times, Split.Laws.parted, Split.Laws.split-count}
 
 module _ (s : ℕ) where
   -- in the first k bytes, and behind them
@@ -35,3 +35,14 @@ module _ (s : ℕ) (x : Text) where
   pub part-counted : (a e n k : ℕ) → a ≤ e → n + times s (drop a x) ≡ times s x → k ≡ times s (part x a e)
       → (n + k + times s (drop e x) ≡ times s x) × (n + k ≤ length x)
   part-counted a e n k h i c = (omega (arith, times-part a e h), omega (arith, times-part a e h, times-few s x))
+
+but-last-length : (p : Text) (ps : List Text) → length (butLast (p ∷ ps)) ≡ length ps
+but-last-length p [] = refl
+but-last-length p (q ∷ ps) = ap suc (but-last-length q ps)
+
+-- no more lines than bytes
+pub lines-few : (x : Text) → length (lines x) ≤ length x
+lines-few x =
+    let h = parted lineFeed x in
+    let n = ap (λ ps. length (butLast ps)) (h .is) ∙ but-last-length (h .first) (h .rest) in
+    omega (arith, n, ap length (h .is), split-count lineFeed x, times-few lineFeed x)

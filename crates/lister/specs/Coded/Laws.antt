@@ -1,31 +1,29 @@
 -- How a listing is made: what is said of a cue, the verdicts as bytes, and the lines one behind the other.
-use mathlib.Core.{Path._≡_, Path.refl, Path.ap, Path.ap₂, Path.sym, Path._∙_, Logic.by-cases, Bool.true, Bool.cond, List.List, List.[]}
-use mathlib.Core.{List._∷_, List._++_, List.map}
+use mathlib.Core.{Bool.true, Bool.cond, List.List, List.[], List._∷_, List._++_, List.map, List.map-append, List.append-assoc, List.append-nil}
+use mathlib.Core.Path.{_≡_, refl, ap, ap₂, sym, _∙_}
 use Prim.Native.Nat.{ℕ, suc, _+_, _-_, _≤_, _<_}
-use native.Mathlib.{Decide.decLt, Omega.arith, Numerals.add-one}
+use native.Mathlib.{Omega.arith, Numerals.add-one}
 use lib.Dec.{eqb}
 use lib.ListN.{length, take, drop, getD, set, length-map, length-take, length-drop}
-use lib.Seq.{drop-cons, drop-length, getD-set-same, getD-set-other}
+use lib.Seq.{take-length, take-suc, take-suc-set, drop-cons, drop-length}
 use borrow.Author.Tests.{eqb-true, eqb-false, le-leb, lt-leb, le-ltb, lt-ltb}
-use Rattle.fields.specs.{Tests.by-test, Bytes.Text, Bytes.Laws.T-true, Limits.maxRow, Limits.maxFile, declared.fault.CueFault.CueFault}
+use Rattle.fields.specs.{Tests.by-test, Bytes.Text, Bytes.sameText, Bytes.Laws.T-true, Limits.maxRow, Limits.maxFile, declared.fault.CueFault.CueFault}
 use Rattle.fields.specs.{declared.split.Heads.Heads, Heads.headsOf, Children.allNames, Bytes.Numeral.digits-length, Heads.Laws.Three, Heads.Laws.more-none}
-use Rattle.fields.specs.Split.{tab, split, lines, field, part, Laws.part-rest}
+use Rattle.fields.specs.{Split.lineFeed, Split.tab, Split.split, Split.lines, Split.ended, Split.field, Split.part, Split.times, Split.Laws.part-rest, Put.Put}
 use Rattle.judge.specs.{declared.reading.NamePlace.NamePlace, declared.reading.Names.Names, Reading.partAt, Reading.partsOf}
 use Rattle.judge.specs.Reply.{childrenIn, row, replyBy, rowIn, childrenReply, judgedOf}
 use Rattle.model.specs.{Syntax.numberIn, Fault.Answer, Fault.refused, Fault.accepted, Answer.answer, Model.modelOf, Model.typeOf, Verdict.verdict}
 use Rattle.model.specs.{Syntax.Number.number-below}
-use Rattle.fields.specs.Put.{Put}
 use Rattle.sheet.specs.{declared.sheet.Entry.Entry, declared.sheet.Sheet.Sheet, declared.sheet.SheetFault.SheetFault}
 use Rattle.sheet.specs.{declared.sheet.SheetOutcome.the-variants.Read, declared.sheet.SheetOutcome.the-variants.Refused as SheetIsRefused}
-use Rattle.sheet.specs.{declared.cues.CuesRead.the-variants.Refused as CuesRefused, Cues.children, Cues.cuesRead, Cues.CueFits, Cues.Laws.cue-three}
-use Rattle.sheet.specs.Cues.Walk.{AtLine, Cue, cues-passed}
+use Rattle.sheet.specs.{declared.cues.CuesRead.the-variants.Count as CuesCount, declared.cues.CuesRead.the-variants.Refused as CuesRefused, Cues.children, Cues.cuesRead, Cues.CueFits, Cues.Laws.cue-three}
+use Rattle.sheet.specs.Cues.Walk.{GoodCues, AtLine, Cue, cues-passed}
 use Rattle.sheet.specs.Sheet.{kind, sheetOutcome, Walk.Loaded}
-use Rattle.lister.specs.declared.line.Said.{Said}
-use Rattle.lister.specs.declared.line.Said.the-variants.{Complete, Open, Dead, NoSheet}
+use Rattle.lister.specs.declared.said.Said.{Said, the-variants.Complete, the-variants.Open, the-variants.Dead, the-variants.NoSheet}
 use Rattle.lister.specs.declared.listing.Listed.the-variants.{Written, SheetRefused, CueRefused, TooLong}
-use Rattle.lister.specs.Listing.{listingLine, listingBy, saidBy, saidOf, said, listing, Laws.line-length, Laws.word-short}
-use Rattle.lister.specs.Listed.{listed, bufferAfter}
-use Rattle.lister.specs.Coded.{saidFrom, codeOf, decoded, listingCoded, CueReady, CodedUpTo, ListingReady}
+use Rattle.lister.specs.Listing.{word, listingLine, saidTimes, totals, totalLine, saidBy, saidOf, said, listing, Laws.line-length, Laws.word-short}
+use Rattle.lister.specs.{Listed.fitted, Listed.listed, Listed.bufferAfter}
+use Rattle.lister.specs.Coded.{saidFrom, codeOf, decoded, linesCoded, maxLine, listingCoded, CueReady, CuesCoded, CodedUpTo}
 
 -- of children that are good, the judge's answer says what the model says
 said-judged : (m c : Text) → length c ≤ maxFile → allNames (childrenIn c) ≡ true → length (childrenIn c) ≤ maxRow
@@ -64,23 +62,52 @@ module _ {s m : Text} {p : NamePlace} {l : Text} {h : Heads} (r : CueReady s p l
       say c (children-in c (ap allNames (sym q) ∙ ready-named) ∙ sym q) (rw (length-take, length-drop) (omega arith))
 
 -- the bytes give the verdicts back
-pub decoded-code : (v : Said) → decoded (codeOf v) ≡ v
+decoded-code : (v : Said) → decoded (codeOf v) ≡ v
 decoded-code Complete = refl
 decoded-code Open = refl
 decoded-code Dead = refl
 decoded-code NoSheet = refl
 
-coded-from : (f : Text → Said) (vs : List ℕ) (i : ℕ) (ls : List Text)
-    → ((k : ℕ) → k < length ls → getD vs (i + k) 0 ≡ codeOf (f (getD ls k []))) → listingCoded vs i ls ≡ listingBy f ls
-coded-from f vs i [] h = refl
-coded-from f vs i (l ∷ ls) h =
-    let z : i ≡ i + 0 = omega arith in
-    let e : decoded (getD vs i 0) ≡ f l = ap (λ k. decoded (getD vs k 0)) z ∙ ap decoded (h 0 (omega arith)) ∙ decoded-code (f l) in
-    ap₂ (λ a b. a ++ b) (ap (listingLine l) e)
-    (coded-from f vs (suc i) ls (λ k o. let y : suc i + k ≡ i + suc k = omega arith in ap (λ j. getD vs j 0) y ∙ h (suc k) (omega arith)))
+codes-back : (ws : List Said) → map decoded (map codeOf ws) ≡ ws
+codes-back [] = refl
+codes-back (w ∷ ws) = ap₂ (λ v vs. v ∷ vs) (decoded-code w) (codes-back ws)
 
--- no line is longer than this
-pub line-short : {l : Text} (v : Said) → CueFits l → length (listingLine l v) ≤ 66000
+lines-coded : (f : Text → Said) (ls : List Text) → linesCoded (map codeOf (map f ls)) ls ≡ map (λ l. listingLine l (f l)) ls
+lines-coded f [] = refl
+lines-coded f (l ∷ ls) = ap₂ (λ x xs. x ∷ xs) (ap (listingLine l) (decoded-code (f l))) (lines-coded f ls)
+
+-- a byte stands as often as its word is said
+same-code : (w v : Said) → eqb (codeOf w) (codeOf v) ≡ sameText (word w) (word v)
+same-code Complete Complete = refl
+same-code Complete Open = refl
+same-code Complete Dead = refl
+same-code Complete NoSheet = refl
+same-code Open Complete = refl
+same-code Open Open = refl
+same-code Open Dead = refl
+same-code Open NoSheet = refl
+same-code Dead Complete = refl
+same-code Dead Open = refl
+same-code Dead Dead = refl
+same-code Dead NoSheet = refl
+same-code NoSheet Complete = refl
+same-code NoSheet Open = refl
+same-code NoSheet Dead = refl
+same-code NoSheet NoSheet = refl
+
+times-coded : (v : Said) (ws : List Said) → times (codeOf v) (map codeOf ws) ≡ saidTimes v ws
+times-coded v [] = refl
+times-coded v (w ∷ ws) = rw (same-code w v, times-coded v ws)
+
+pub totals-coded : (vs : List ℕ) {a b c d : ℕ} → vs ≡ map codeOf (map decoded vs) → a ≡ times (codeOf Complete) vs → b ≡ times (codeOf Open) vs
+    → c ≡ times (codeOf Dead) vs → d ≡ times (codeOf NoSheet) vs → length vs ∷ (a ∷ (b ∷ (c ∷ (d ∷ [])))) ≡ totals (map decoded vs)
+totals-coded vs e p q r s =
+    rw (p, q, r, s, counted Complete, counted Open, counted Dead, counted NoSheet, length-map)
+  where
+    counted : (v : Said) → times (codeOf v) vs ≡ saidTimes v (map decoded vs)
+    counted v = ap (times (codeOf v)) e ∙ times-coded v (map decoded vs)
+
+pub line-short : {l : Text} (v : Said) → CueFits l → length (listingLine l v) + 1 ≤ maxLine
 line-short {l} v f =
     let t = cue-three {l = l} {h = headsOf l} refl f in
     omega (arith, line-length v t refl, t .ascending, word-short v, digits-length 4 (length (children l)) (omega (arith, f .few)), f .short)
@@ -89,11 +116,13 @@ pub part-at-place : (s : Text) (p : NamePlace) → part s (p .start) (p .start +
 part-at-place s p = let e : (p .start + p .len) - p .start ≡ p .len = omega arith in ap (λ n. take n (drop (p .start) s)) e
 
 -- one line more of the listing
-pub coded-next : (vs : List ℕ) {v : Said} {c : Text} {n at end : ℕ} → Cue c n at end → v ≡ decoded (getD vs n 0)
-    → listingCoded vs n (drop n (lines c)) ≡ listingLine (part c at end) v ++ listingCoded vs (n + 1) (drop (n + 1) (lines c))
-coded-next vs {v} {c} {n} m d = rw (drop-cons (lines c) n [] (m .counted), m .line-is, add-one, d)
+module _ (vs : List ℕ) {c : Text} {n at end : ℕ} (k : length vs ≡ length (lines c)) where
+  pub coded-next : {v : Said} → Cue c n at end → v ≡ decoded (getD vs n 0)
+      → ended (linesCoded (drop n vs) (drop n (lines c)))
+      ≡ (listingLine (part c at end) v ++ (lineFeed ∷ [])) ++ ended (linesCoded (drop (n + 1) vs) (drop (n + 1) (lines c)))
+  coded-next m d = rw (drop-cons (lines c) n [] (m .counted), drop-cons vs n 0 (omega (arith, m .counted)), m .line-is, add-one, d)
 
-pub coded-end : (vs : List ℕ) {c : Text} {n at : ℕ} → AtLine c n at → length c ≤ at → listingCoded vs n (drop n (lines c)) ≡ []
+pub coded-end : (vs : List ℕ) {c : Text} {n at : ℕ} → AtLine c n at → length c ≤ at → ended (linesCoded (drop n vs) (drop n (lines c))) ≡ []
 coded-end vs {c} b h = rw (cues-passed b h, drop-length (lines c))
 
 -- what the sheet says of a cue, by the number of its kind
@@ -128,12 +157,36 @@ module _ {s : Text} {rules : Sheet} {kinds : Names} {c : Text} {n at end k : ℕ
   place-ready d o = record { inside = w .entries-good (k - 1) d (rule-inside o) .inside; fits = m .fits; named = m .named }
 
 -- one byte more
-pub coded-set : (s c : Text) (vs : List ℕ) (n : ℕ) {v : ℕ} → n < length vs → CodedUpTo n s c vs → v ≡ codeOf (said (lines s) (getD (lines c) n []))
-    → CodedUpTo (n + 1) s c (set vs n v)
-coded-set s c vs n {v} o h e i k =
-    by-cases (decLt i n)
-    (λ q. rw (getD-set-other vs n i v 0 (λ y. omega (arith, y))) (h i q))
-    (λ q. let y : i ≡ n = omega arith in rw (y, getD-set-same vs n v 0 o) e)
+pub coded-set : (s c : Text) (vs : List ℕ) (n : ℕ) {v : ℕ} → n < length vs → n < length (lines c) → CodedUpTo n s c vs
+    → v ≡ codeOf (said (lines s) (getD (lines c) n [])) → CodedUpTo (n + 1) s c (set vs n v)
+coded-set s c vs n o k h e =
+    rw (add-one, take-suc-set vs n _ o, take-suc (lines c) n [] k, map-append, map-append, h, e)
+
+ended-last : (ls : List Text) (l : Text) → ended (ls ++ (l ∷ [])) ≡ ended ls ++ (l ++ (lineFeed ∷ []))
+ended-last [] l = append-nil (l ++ (lineFeed ∷ []))
+ended-last (p ∷ ls) l = ap (λ r. (p ++ (lineFeed ∷ [])) ++ r) (ended-last ls l) ∙ sym (append-assoc (p ++ (lineFeed ∷ [])) (ended ls) (l ++ (lineFeed ∷ [])))
+
+-- the bytes of all lines
+pub coded-all : (s c : Text) (codes : List ℕ) {n : ℕ} → CodedUpTo (length (lines c)) s c codes → n ≡ length (lines c)
+    → take (n - 0) codes ≡ map codeOf (map (said (lines s)) (lines c))
+coded-all s c codes {n} h e =
+    let z : n - 0 ≡ length (lines c) = omega arith in
+    rw z (h ∙ ap (λ ls. map codeOf (map (said (lines s)) ls)) (take-length (lines c)))
+
+module _ (s c : Text) {vs : List ℕ} (e : vs ≡ map codeOf (map (said (lines s)) (lines c))) where
+  pub listing-coded : listingCoded vs c ≡ listing s c
+  listing-coded =
+      let ws = map (said (lines s)) (lines c) in
+      rw (e, codes-back ws, lines-coded (said (lines s)) (lines c))
+      (sym (ended-last (map (λ l. listingLine l (said (lines s) l)) (lines c)) (totalLine ws)))
+
+  pub cues-coded : GoodCues c → CuesCoded c vs
+  cues-coded g =
+      record {
+        good = g;
+        counted = ap length e ∙ length-map (map (said (lines s)) (lines c)) codeOf ∙ length-map (lines c) (said (lines s));
+        are-codes = rw (e, codes-back (map (said (lines s)) (lines c)));
+      }
 
 -- what the listing is answered
 module _ (s c : Text) (room : ℕ) where
@@ -143,22 +196,16 @@ module _ (s c : Text) (room : ℕ) where
   pub listed-cues : {f : CueFault} {n : ℕ} → sheetOutcome s ≡ Read → cuesRead c ≡ CuesRefused f n → CueRefused f n ≡ listed s c room
   listed-cues e k = rw (e, k)
 
-module _ {s c : Text} {codes : List ℕ} {total : ℕ} (r : ListingReady s c codes total) where
-  coded-listing : listingCoded codes 0 (lines c) ≡ listing s c
-  coded-listing =
-      coded-from (said (lines s)) codes 0 (lines c) (λ i h. let z : 0 + i ≡ i = omega arith in ap (λ j. getD codes j 0) z ∙ r .coded i h)
+  pub listed-fitted : {n : ℕ} → sheetOutcome s ≡ Read → cuesRead c ≡ CuesCount n → fitted (listing s c) room ≡ listed s c room
+  listed-fitted e k = rw (e, k)
 
-  total-listing : total ≡ length (listing s c)
-  total-listing = r .total-is ∙ ap length coded-listing
+-- a text that is longer than the buffer, and one that is written into it
+module _ (x : Text) {size : ℕ} (e : size ≡ length x) where
+  pub fitted-not : (room : ℕ) → room < size → TooLong ≡ fitted x room
+  fitted-not room h = rw (lt-leb (length x) room (omega arith))
 
-  pub listed-long : (room : ℕ) → room < total → TooLong ≡ listed s c room
-  listed-long room h = rw (r .sheet-read, r .cues-read, lt-leb (length (listing s c)) room (omega (arith, total-listing)))
+  pub fitted-written : (room : ℕ) → size ≤ room → Written size ≡ fitted x room
+  fitted-written room h = rw (le-leb (length x) room (omega arith), e)
 
-  pub listed-written : (room : ℕ) → total ≤ room → Written total ≡ listed s c room
-  listed-written room h = rw (r .sheet-read, r .cues-read, le-leb (length (listing s c)) room (omega (arith, total-listing)), total-listing)
-
-  pub buffer-written : {old new : Text} → Put old new 0 (listingCoded codes 0 (lines c)) (length (listingCoded codes 0 (lines c)))
-      → new ≡ bufferAfter (Written total) (listing s c) old
-  buffer-written {old} p =
-      let z : 0 + length (listingCoded codes 0 (lines c)) ≡ total = omega (arith, r .total-is) in
-      p .text-is ∙ ap₂ (λ w j. w ++ drop j old) coded-listing z
+  pub buffer-written : {old new : Text} {end : ℕ} → Put old new 0 x end → new ≡ bufferAfter (Written size) x old
+  buffer-written {old} p = let z : 0 + length x ≡ size = omega arith in p .text-is ∙ ap (λ j. x ++ drop j old) z

@@ -9,12 +9,12 @@ use Rattle.sheet.specs.{declared.cues.CuesRead.CuesRead, declared.sheet.SheetOu
 use Rattle.sheet.specs.declared.cues.CuesRead.the-variants.{Count, Refused}
 use Rattle.sheet.specs.declared.sheet.SheetOutcome.the-variants.{Read, Refused as SheetIsRefused}
 use Rattle.sheet.specs.{Refusal.SheetAnswers, Refusal.CuesAnswers, Ends.sheet-exactly, Ends.cues-exactly}
-use Rattle.lister.specs.{declared.listing.Listed.Listed, Listing.listing, Listed.byCues, Listed.bySheet, Listed.listed, Listed.Lists}
+use Rattle.lister.specs.{declared.listing.Listed.Listed, Listing.listing, Listed.byCues, Listed.bySheet, Listed.fitted, Listed.listed, Listed.Lists}
 use Rattle.lister.specs.declared.listing.Listed.the-variants.{Written, SheetRefused, CueRefused, TooLong}
 
 module _ (s c : Text) (size : ℕ) where
   lists-by : (o : SheetOutcome) → SheetAnswers s o → (r : CuesRead) → CuesAnswers c r
-      → Lists s c size (bySheet o (byCues r (cond (leb (length (listing s c)) size) (Written (length (listing s c))) TooLong)))
+      → Lists s c size (bySheet o (byCues r (fitted (listing s c) size)))
   lists-by (SheetIsRefused f n) h r k = h
   lists-by Read h (Refused f n) k = (h, k)
   lists-by Read h (Count n) k =

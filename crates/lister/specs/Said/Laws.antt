@@ -9,7 +9,7 @@ use Rattle.model.specs.{Answer.answer-is, Accept.Laws.accepted-counts, Model.mo
 use Rattle.model.specs.{Verdict.Laws.verdict-says, Verdict.Laws.verdict-is}
 use Rattle.judge.specs.{Named.rowOf, Reading.Laws.number-of-name}
 use Rattle.sheet.specs.{declared.sheet.SheetFault.the-variants.Repeated}
-use Rattle.lister.specs.{declared.line.Said.Said, declared.line.Said.the-variants.NoSheet}
+use Rattle.lister.specs.{declared.said.Said.Said, declared.said.Said.the-variants.NoSheet}
 use Rattle.sheet.specs.{declared.sheet.SheetOutcome.the-variants.Read, Cues.children, Sheet.kind, Sheet.model, Sheet.sheetOutcome}
 use Rattle.sheet.specs.{Sheet.Good.line-accepted, Refusal.Laws.sheet-is}
 use Rattle.lister.specs.{Listing.wordOf, Listing.saidAt, Listing.said, Said.CueSaid, Said.lacking}

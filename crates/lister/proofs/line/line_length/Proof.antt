@@ -66,7 +66,7 @@ returns : tie.Need-returns
 returns c =
     let w = c .before in
     let e = ends (counted w) in
-    rw (w .word-length .ensures, c .number-length .ensures) (sym (line-length (start e .args .said) (three e) (children-are (counted w))))
+    omega (arith, w .word-length .ensures, c .number-length .ensures, line-length (start e .args .said) (three e) (children-are (counted w)))
 
 pub line-length-spec : {M : Type 1} → statement M
 line-length-spec =

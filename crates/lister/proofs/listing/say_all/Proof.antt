@@ -40,7 +40,7 @@ free c = omega (arith, cue c .bounds, loop c .loop .inv .3)
 loop-holds : tie.Need-loop-holds Inv-loop μ-loop
 loop-holds c =
     let pre = c .before .before .before .before .pre in
-    (before-first (pre .1), pre .0, refl, pre .2, λ i h. absurd (omega arith))
+    (before-first (pre .1), pre .0, refl, pre .2, refl)
 
 sub-cue : tie.Need-sub-cue Inv-loop μ-loop
 sub-cue c = omega (arith, cue c .bounds)
@@ -91,7 +91,7 @@ loop-again c =
     let inv = l .loop .inv in
     let a = start l .args in
     let said-is = code-said (inv .1) (inv .2) m (o .before .line-of .ensures) _ (rw (o .one-less .ensures) at (c .code-for .ensures)) in
-    let coded = coded-set (a .sheet .now) (a .cues .now) (l .loop .codes) (l .loop .n) (free (ended o)) (inv .4) said-is in
+    let coded = coded-set (a .sheet .now) (a .cues .now) (l .loop .codes) (l .loop .n) (free (ended o)) (m .counted) (inv .4) said-is in
     (m .next, inv .1, inv .2, rw length-set (inv .3), coded)
 
 same-length : tie.Need-same-length Inv-loop μ-loop
@@ -100,7 +100,7 @@ same-length c = c .before .loop .inv .3 ∙ sym (start (c .before) .pre .2)
 returns : tie.Need-returns Inv-loop μ-loop
 returns c =
     let inv = c .before .loop .inv in
-    λ i h. inv .4 i (omega (arith, cues-passed (inv .0) (c .loop-test .left)))
+    rw (← cues-passed (inv .0) (c .loop-test .left)) (inv .4)
 
 pub say-all-spec : {M : Type 1} → statement M
 say-all-spec =

@@ -1,8 +1,8 @@
 -- By the tests.
 use mathlib.Core.Path.{refl}
 use borrow.Author.Tests.{eq-eqb, ne-eqb}
-use Rattle.lister.proofs.listing.decode.Statement.{statement}
-use Rattle.lister.proofs.listing.decode.Tie as tie
+use Rattle.lister.proofs.said.decode.Statement.{statement}
+use Rattle.lister.proofs.said.decode.Tie as tie
 
 returns : tie.Need-returns
 returns c = rw (eq-eqb _ _ (c .if1 .taken)) refl
