@@ -3,7 +3,7 @@ pub mod Laws
 use mathlib.Core.{Path._≡_, Bool.cond, List.List, List.[], List._∷_, List._++_, List.map}
 use Prim.Native.Nat.{ℕ, _+_, _≤_}
 use lib.{Dec.T, Dec.eqb, ListN.length, ListN.take}
-use Rattle.fields.specs.{Bytes.Text, Split.lineFeed, Split.lines, Split.ended, Children.allNames}
+use Rattle.fields.specs.{Bytes.Text, Split.lineFeed, Split.lines, Split.unlines, Children.allNames}
 use Rattle.judge.specs.{declared.reading.NamePlace.NamePlace, declared.verdict.ChildrenJudged.ChildrenJudged}
 use Rattle.judge.specs.declared.verdict.ChildrenJudged.the-variants.{Verdict, ModelRefused, ChildrenRefused}
 use Rattle.sheet.specs.Cues.{children, CueFits, Walk.GoodCues}
@@ -47,7 +47,7 @@ CodedUpTo n s c codes = take n codes ≡ map codeOf (map (said (lines s)) (take 
 
 -- the lines of all cues and the last line, by the byte of each cue
 abbrev pub listingCoded : List ℕ → Text → Text
-listingCoded vs c = ended (linesCoded vs (lines c)) ++ (totalLine (map decoded vs) ++ (lineFeed ∷ []))
+listingCoded vs c = unlines (linesCoded vs (lines c)) ++ (totalLine (map decoded vs) ++ (lineFeed ∷ []))
 
 -- a cue list that was read, and a byte for each of its lines
 pub record CuesCoded (c : Text) (vs : List ℕ) : Type 0 where

@@ -3,7 +3,7 @@
 use mathlib.Core.{Path._≡_, Logic._↔_, List.[], List._∷_}
 use Prim.Native.Nat.{ℕ}
 use lib.ListN.{length}
-use Rattle.fields.specs.{Bytes.Text, Bytes.bytes, Split.tab, Split.joined, Split.butLast, Split.last, Split.lines, Split.behind, Split.ended}
+use Rattle.fields.specs.{Bytes.Text, Bytes.bytes, Split.tab, Split.joinedBy, Split.butLast, Split.last, Split.lines, Split.behind, Split.unlines}
 use Rattle.sheet.specs.{declared.sheet.SheetOutcome.the-variants.Read, Sheet.sheetOutcome}
 use Rattle.lister.specs.{declared.said.Said.Said, declared.listing.Listed.Listed, Listing.said, Listed.listed, Listed.Lists, Listed.Laws.listed-is}
 use Rattle.lister.specs.{Said.CueSaid, Said.Laws.cue-is}
@@ -31,5 +31,5 @@ cues-counted = above-count
 
 -- Of no cues it says `total` and five zeros.
 pub none-listed : (s : Text)
-    → listing s [] ≡ ended (joined tab (bytes "total" ∷ (bytes "0" ∷ (bytes "0" ∷ (bytes "0" ∷ (bytes "0" ∷ (bytes "0" ∷ [])))))) ∷ [])
+    → listing s [] ≡ unlines (joinedBy tab (bytes "total" ∷ (bytes "0" ∷ (bytes "0" ∷ (bytes "0" ∷ (bytes "0" ∷ (bytes "0" ∷ [])))))) ∷ [])
 none-listed = none-are

@@ -21,11 +21,11 @@ abbrev pub bySheet : SheetOutcome → Listed → Listed
 bySheet Read good = good
 bySheet (SheetIsRefused f n) good = SheetRefused f n
 
-abbrev pub fitted : Text → ℕ → Listed
-fitted x size = cond (leb (length x) size) (Written (length x)) TooLong
+abbrev pub byRoom : Text → ℕ → Listed
+byRoom x size = cond (leb (length x) size) (Written (length x)) TooLong
 
 abbrev pub listed : Text → Text → ℕ → Listed
-listed s c size = bySheet (sheetOutcome s) (byCues (cuesRead c) (fitted (listing s c) size))
+listed s c size = bySheet (sheetOutcome s) (byCues (cuesRead c) (byRoom (listing s c) size))
 
 -- by the table, in a buffer of this size: the sheet's own first, then the list's (sheet/Refusal), and 50 last
 abbrev pub Lists : Text → Text → ℕ → Listed → Type 0

@@ -9,7 +9,7 @@ use Rattle.model.specs.{declared.verdict.Verdict.Verdict, Syntax.writtenNames, 
 use Rattle.model.specs.{Model.modelOf, Model.typeOf, Verdict.verdict}
 use Rattle.model.specs.declared.verdict.Verdict.the-variants.{Complete as IsComplete, Open as IsOpen, Dead as IsDead}
 use Rattle.fields.specs.{Bytes.Text, Bytes.bytes, Bytes.sameText, Bytes.digits}
-use Rattle.fields.specs.Split.{tab, joined, lines, ended, fields, field}
+use Rattle.fields.specs.Split.{tab, joinedBy, lines, unlines, fields, field}
 use Rattle.judge.specs.Named.{rowOf}
 use Rattle.sheet.specs.{Cues.children, Sheet.kind, Sheet.model}
 use Rattle.lister.specs.declared.said.Said.{Said, the-variants.Complete, the-variants.Open, the-variants.Dead, the-variants.NoSheet}
@@ -22,7 +22,7 @@ word NoSheet = bytes "nosheet"
 
 -- of a cue line and what is said of it: number, kind, verdict, how many children
 abbrev pub listingLine : Text → Said → Text
-listingLine l v = joined tab (field 1 l ∷ (field 2 l ∷ (word v ∷ (digits (length (children l)) ∷ []))))
+listingLine l v = joinedBy tab (field 1 l ∷ (field 2 l ∷ (word v ∷ (digits (length (children l)) ∷ []))))
 
 -- how often a word is said
 abbrev pub saidTimes : Said → List Said → ℕ
@@ -35,7 +35,7 @@ totals vs = length vs ∷ (saidTimes Complete vs ∷ (saidTimes Open vs ∷ (sai
 
 -- the last line
 abbrev pub totalLine : List Said → Text
-totalLine vs = joined tab (bytes "total" ∷ map digits (totals vs))
+totalLine vs = joinedBy tab (bytes "total" ∷ map digits (totals vs))
 
 abbrev pub wordOf : Verdict → Said
 wordOf IsComplete = Complete
@@ -66,7 +66,7 @@ abbrev pub listingLines : List Text → List Text → List Text
 listingLines ls cs = map (λ l. listingLine l (said ls l)) cs ++ (totalLine (map (said ls) cs) ∷ [])
 
 abbrev pub listing : Text → Text → Text
-listing s c = ended (listingLines (lines s) (lines c))
+listing s c = unlines (listingLines (lines s) (lines c))
 
 -- how many lines have that word as their third field
 abbrev pub linesWith : Said → List Text → ℕ
@@ -75,7 +75,7 @@ linesWith v (l ∷ ls) = cond (sameText (field 2 l) (word v)) (suc (linesWith v 
 
 -- what a last line says of the lines above it (`Ends.total-exactly`)
 pub record Totals (above : List Text) (l : Text) : Type 0 where
-  pub fields-are :
+  pub numbers-are :
       fields l ≡ bytes "total" ∷ map digits
       (length above ∷ (linesWith Complete above ∷ (linesWith Open above ∷ (linesWith Dead above ∷ (linesWith NoSheet above ∷ [])))))
-  pub sum : linesWith Complete above + linesWith Open above + linesWith Dead above + linesWith NoSheet above ≡ length above
+  pub adds-up : linesWith Complete above + linesWith Open above + linesWith Dead above + linesWith NoSheet above ≡ length above

@@ -5,9 +5,9 @@ ghost use Prim.Native.Nat.{_*_, _-_, _≤_};
 ghost use lib.{Dec.eqb, ListN.length};
 ghost use Rattle.model.specs.Syntax.{numberIn};
 ghost use Rattle.judge.specs.Reading.{partAt, partsOf};
-ghost use Rattle.fields.specs.{Limits.maxFile, Split.lines, Split.ended, Split.field, Put.Put};
+ghost use Rattle.fields.specs.{Limits.maxFile, Split.lines, Split.unlines, Split.field, Put.Put};
 ghost use Rattle.sheet.specs.{Cues.children, Cues.CueFits, Cues.Walk.GoodCues, Sheet.Walk.Loaded};
-ghost use Rattle.lister.specs.{Listing.saidOf, Listing.listing, Listed.fitted, Listed.listed, Listed.bufferAfter};
+ghost use Rattle.lister.specs.{Listing.saidOf, Listing.listing, Listed.byRoom, Listed.listed, Listed.bufferAfter};
 ghost use Rattle.lister.specs.Coded.{codeOf, linesCoded, listingCoded, maxLine, CueReady, CuesCoded, CodedUpTo};
 use crate::line::line_length;
 use crate::line::write_line;
@@ -114,7 +114,7 @@ fn say_all(sheet: &[u8], rules: Sheet, cues: &[u8], codes: &mut [u8])
 // How long the lines of all cues are.
 fn lines_length(cues: &[u8], codes: &[u8]) -> usize
     requires { ⌜ CuesCoded (now cues) (now codes) ⌝ }
-    ensures { λ r. ⌜ r ≡ length (ended (linesCoded (now (codes .entry)) (lines (now (cues .entry))))) ⌝ }
+    ensures { λ r. ⌜ r ≡ length (unlines (linesCoded (now (codes .entry)) (lines (now (cues .entry))))) ⌝ }
     ensures { λ r. ⌜ r ≤ maxFile * maxLine ⌝ }
 {
     let mut length: usize = 0;
@@ -132,8 +132,8 @@ fn lines_length(cues: &[u8], codes: &[u8]) -> usize
 
 // Writes the lines of all cues: each goes into the part of the buffer that the earlier ones left free.
 fn write_lines(buffer: &mut [u8], cues: &[u8], codes: &[u8]) -> usize
-    requires { ⌜ CuesCoded (now cues) (now codes) × (length (ended (linesCoded (now codes) (lines (now cues)))) ≤ length (now buffer)) ⌝ }
-    ensures { λ r. ⌜ Put (now (buffer .entry)) (now (buffer .exit)) 0 (ended (linesCoded (now (codes .entry)) (lines (now (cues .entry))))) r ⌝ }
+    requires { ⌜ CuesCoded (now cues) (now codes) × (length (unlines (linesCoded (now codes) (lines (now cues)))) ≤ length (now buffer)) ⌝ }
+    ensures { λ r. ⌜ Put (now (buffer .entry)) (now (buffer .exit)) 0 (unlines (linesCoded (now (codes .entry)) (lines (now (cues .entry))))) r ⌝ }
 {
     let mut written: usize = 0;
     let mut n: usize = 0;
@@ -152,7 +152,7 @@ fn write_lines(buffer: &mut [u8], cues: &[u8], codes: &[u8]) -> usize
 // Writes the listing by what is said of each cue, where the buffer has room for it.
 fn write_listing(buffer: &mut [u8], cues: &[u8], codes: &[u8]) -> Listed
     requires { ⌜ CuesCoded (now cues) (now codes) ⌝ }
-    ensures { λ r. ⌜ r ≡ fitted (listingCoded (now (codes .entry)) (now (cues .entry))) (length (now (buffer .entry))) ⌝ }
+    ensures { λ r. ⌜ r ≡ byRoom (listingCoded (now (codes .entry)) (now (cues .entry))) (length (now (buffer .entry))) ⌝ }
     ensures { λ r. ⌜ now (buffer .exit) ≡ bufferAfter r (listingCoded (now (codes .entry)) (now (cues .entry))) (now (buffer .entry)) ⌝ }
 {
     let mut last = [0u8; TOTAL_SIZE];

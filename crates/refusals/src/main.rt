@@ -54,10 +54,16 @@ fn tell_list(what: &[u8], cues: &[u8]) {
     tell(what, b"rule\ta\tb\n", cues);
 }
 
-// One byte less than the listing has.
+// A buffer of one byte less than the listing has, and one that it just fits: of a cue, and of none.
 fn tell_short() {
-    let mut buffer = [0u8; 14];
-    answer(b"50", b"rule\ta\tb\n", b"cue\t1\ta\tb\n", &mut buffer);
+    let mut less = [0u8; 30];
+    answer(b"50", b"rule\ta\tb\n", b"cue\t1\ta\tb\n", &mut less);
+    let mut just = [0u8; 31];
+    answer(b"fits", b"rule\ta\tb\n", b"cue\t1\ta\tb\n", &mut just);
+    let mut less_of_none = [0u8; 15];
+    answer(b"50 no cues", b"", b"", &mut less_of_none);
+    let mut just_none = [0u8; 16];
+    answer(b"fits no cues", b"", b"", &mut just_none);
 }
 
 // The program's own, and the longest line that there can be.

@@ -12,7 +12,7 @@ use Rattle.fields.specs.{Children.cueNumber, Children.allNames, Children.childr
 use Rattle.fields.specs.declared.fault.CueFault.the-variants.{LongFile, NoName, ManyChildren, NoChild}
 use Rattle.fields.specs.declared.children.Children.the-variants.{Count, Refused}
 use Rattle.fields.specs.Split.{tab, split, part, partEnd, more}
-use Rattle.fields.specs.Split.{joined, Laws.joined-split, Laws.part-at, Laws.end-within}
+use Rattle.fields.specs.Split.{joinedBy, Laws.joined-split, Laws.part-at, Laws.end-within}
 use Rattle.model.specs.{declared.fault.ModelFault.ModelFault, Syntax.Syntax, Syntax.writtenNames, Syntax.numberIn, Answer.answer, Answer.answered}
 use Rattle.model.specs.{Fault.Answered.name-inside, Syntax.Number.number-below}
 use Rattle.model.specs.Fault.{modelNumber, Answer, Answers, refused, accepted, places}
@@ -224,12 +224,12 @@ module _ (m c : Text) (k : ℕ) where
         go (accepted t) d o = let z : _≡_ {A = ℕ} 0 1 = cc in absurd (omega arith)
 
 -- a child lies inside the children text
-start-within : (l : List Text) (i : ℕ) → i < length l → startIn l i + length (getD l i []) ≤ length (joined tab l)
+start-within : (l : List Text) (i : ℕ) → i < length l → startIn l i + length (getD l i []) ≤ length (joinedBy tab l)
 start-within [] i h = absurd (omega arith)
 start-within (p ∷ []) zero h = omega arith
 start-within (p ∷ []) (suc i) h = absurd (omega arith)
-start-within (p ∷ q ∷ l) zero h = omega (arith, length-append p (tab ∷ joined tab (q ∷ l)))
-start-within (p ∷ q ∷ l) (suc i) h = omega (arith, length-append p (tab ∷ joined tab (q ∷ l)), start-within (q ∷ l) i (omega arith))
+start-within (p ∷ q ∷ l) zero h = omega (arith, length-append p (tab ∷ joinedBy tab (q ∷ l)))
+start-within (p ∷ q ∷ l) (suc i) h = omega (arith, length-append p (tab ∷ joinedBy tab (q ∷ l)), start-within (q ∷ l) i (omega arith))
 
 child-within : (c : Text) (i : ℕ) → i < length (childrenIn c) → startIn (childrenIn c) i + length (getD (childrenIn c) i []) ≤ length c
 child-within [] i h = absurd (omega arith)

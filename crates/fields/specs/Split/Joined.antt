@@ -5,7 +5,7 @@ use lib.{Dec.T, Dec.eqb, ListN.getD}
 use mir.Facts.{and-yes, yes-and}
 use borrow.Author.Tests.{eq-eqb, not-true}
 use Rattle.fields.specs.{Tests.by-test, Bytes.Text, Bytes.all, Bytes.Laws.T-true, Bytes.Runs.all-append, Split.Laws.parted, Split.Laws.split-free}
-use Rattle.fields.specs.Split.{lineFeed, split, joined, butLast, last, lines, behind, ended, other, noneHas}
+use Rattle.fields.specs.Split.{lineFeed, split, joinedBy, butLast, last, lines, behind, unlines, other, noneHas}
 
 module _ (s : ℕ) where
   free-first : (b : ℕ) (u : Text) → T (all (other s) (b ∷ u)) → (eqb b s ≡ false) × T (all (other s) u)
@@ -21,30 +21,30 @@ module _ (s : ℕ) where
   split-whole [] h = refl
   split-whole (b ∷ u) h = let q = free-first b u h in rw (q .0, split-whole u (q .1))
 
-  pub split-joined : (p : Text) (ps : List Text) → T (noneHas s (p ∷ ps)) → split s (joined s (p ∷ ps)) ≡ p ∷ ps
+  pub split-joined : (p : Text) (ps : List Text) → T (noneHas s (p ∷ ps)) → split s (joinedBy s (p ∷ ps)) ≡ p ∷ ps
   split-joined p [] h = split-whole p (and-yes (all (other s) p) true h .0)
   split-joined p (q ∷ ps) h =
       let i = and-yes (all (other s) p) (noneHas s (q ∷ ps)) h in
-      split-behind p (joined s (q ∷ ps)) (i .0) ∙ ap (λ r. p ∷ r) (split-joined q ps (i .1))
+      split-behind p (joinedBy s (q ∷ ps)) (i .0) ∙ ap (λ r. p ∷ r) (split-joined q ps (i .1))
 
-split-ended : (ls : List Text) → T (noneHas lineFeed ls) → split lineFeed (ended ls) ≡ ls ++ ([] ∷ [])
-split-ended [] h = refl
-split-ended (l ∷ ls) h =
+split-unlines : (ls : List Text) → T (noneHas lineFeed ls) → split lineFeed (unlines ls) ≡ ls ++ ([] ∷ [])
+split-unlines [] h = refl
+split-unlines (l ∷ ls) h =
     let i = and-yes (all (other lineFeed) l) (noneHas lineFeed ls) h in
-    ap (split lineFeed) (append-assoc l (lineFeed ∷ []) (ended ls)) ∙ split-behind lineFeed l (ended ls) (i .0) ∙ ap (λ r. l ∷ r) (split-ended ls (i .1))
+    ap (split lineFeed) (append-assoc l (lineFeed ∷ []) (unlines ls)) ∙ split-behind lineFeed l (unlines ls) (i .0) ∙ ap (λ r. l ∷ r) (split-unlines ls (i .1))
 
-pub but-last-is : (ps : List Text) (l : Text) → butLast (ps ++ (l ∷ [])) ≡ ps
-but-last-is [] l = refl
-but-last-is (p ∷ []) l = refl
-but-last-is (p ∷ q ∷ ps) l = ap (λ r. p ∷ r) (but-last-is (q ∷ ps) l)
+pub but-last-snoc : (ps : List Text) (l : Text) → butLast (ps ++ (l ∷ [])) ≡ ps
+but-last-snoc [] l = refl
+but-last-snoc (p ∷ []) l = refl
+but-last-snoc (p ∷ q ∷ ps) l = ap (λ r. p ∷ r) (but-last-snoc (q ∷ ps) l)
 
-pub last-is : (ps : List Text) (l : Text) → last (ps ++ (l ∷ [])) ≡ l
-last-is [] l = refl
-last-is (p ∷ []) l = refl
-last-is (p ∷ q ∷ ps) l = last-is (q ∷ ps) l
+pub last-snoc : (ps : List Text) (l : Text) → last (ps ++ (l ∷ [])) ≡ l
+last-snoc [] l = refl
+last-snoc (p ∷ []) l = refl
+last-snoc (p ∷ q ∷ ps) l = last-snoc (q ∷ ps) l
 
-pub lines-ended : (ls : List Text) → T (noneHas lineFeed ls) → (lines (ended ls) ≡ ls) × (behind (ended ls) ≡ [])
-lines-ended ls h = (ap butLast (split-ended ls h) ∙ but-last-is ls [], ap last (split-ended ls h) ∙ last-is ls [])
+pub lines-unlines : (ls : List Text) → T (noneHas lineFeed ls) → (lines (unlines ls) ≡ ls) × (behind (unlines ls) ≡ [])
+lines-unlines ls h = (ap butLast (split-unlines ls h) ∙ but-last-snoc ls [], ap last (split-unlines ls h) ∙ last-snoc ls [])
 
 -- what lacks a byte: each part of a text that does, a part of those, and what is put together of them
 pub split-lacks : (s t : ℕ) (x : Text) → T (all (other t) x) → T (noneHas t (split s x))
@@ -64,12 +64,12 @@ lacks-at t [] (suc i) h = tt
 lacks-at t (p ∷ ps) zero h = and-yes (all (other t) p) (noneHas t ps) h .0
 lacks-at t (p ∷ ps) (suc i) h = lacks-at t ps i (and-yes (all (other t) p) (noneHas t ps) h .1)
 
-pub joined-lacks : (s t : ℕ) → T (other t s) → (ps : List Text) → T (noneHas t ps) → T (all (other t) (joined s ps))
+pub joined-lacks : (s t : ℕ) → T (other t s) → (ps : List Text) → T (noneHas t ps) → T (all (other t) (joinedBy s ps))
 joined-lacks s t d [] h = tt
 joined-lacks s t d (p ∷ []) h = and-yes (all (other t) p) true h .0
 joined-lacks s t d (p ∷ q ∷ ps) h =
     let i = and-yes (all (other t) p) (noneHas t (q ∷ ps)) h in
-    all-append (other t) p (s ∷ joined s (q ∷ ps)) (i .0) (yes-and (other t s) (all (other t) (joined s (q ∷ ps))) d (joined-lacks s t d (q ∷ ps) (i .1)))
+    all-append (other t) p (s ∷ joinedBy s (q ∷ ps)) (i .0) (yes-and (other t s) (all (other t) (joinedBy s (q ∷ ps))) d (joined-lacks s t d (q ∷ ps) (i .1)))
 
 but-last-lacks : (t : ℕ) (ps : List Text) → T (noneHas t ps) → T (noneHas t (butLast ps))
 but-last-lacks t [] h = tt

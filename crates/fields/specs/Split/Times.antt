@@ -4,7 +4,8 @@ use Prim.Native.Nat.{ℕ, zero, suc, _+_, _-_, _≤_, _<_}
 use native.Mathlib.{Omega.arith, Numerals.add-one}
 use lib.{Dec.eqb, ListN.length, ListN.take, ListN.drop, ListN.getD, ListN.drop-of-length-le, Seq.drop-cons, Seq.drop-drop}
 use borrow.Author.Tests.{eq-eqb, ne-eqb}
-use Rattle.fields.specs.{Tests.by-test, Bytes.Text, Split.lineFeed, Split.butLast, Split.lines, Split.part, Split.times, Split.Laws.parted, Split.Laws.split-count}
+use Rattle.fields.specs.{Tests.by-test, Bytes.Text}
+use Rattle.fields.specs.Split.{lineFeed, butLast, lines, part, times, Laws.parted, Laws.split-count}
 
 module _ (s : ℕ) where
   -- in the first k bytes, and behind them

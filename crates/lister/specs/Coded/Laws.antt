@@ -9,20 +9,21 @@ use lib.Seq.{take-length, take-suc, take-suc-set, drop-cons, drop-length}
 use borrow.Author.Tests.{eqb-true, eqb-false, le-leb, lt-leb, le-ltb, lt-ltb}
 use Rattle.fields.specs.{Tests.by-test, Bytes.Text, Bytes.sameText, Bytes.Laws.T-true, Limits.maxRow, Limits.maxFile, declared.fault.CueFault.CueFault}
 use Rattle.fields.specs.{declared.split.Heads.Heads, Heads.headsOf, Children.allNames, Bytes.Numeral.digits-length, Heads.Laws.Three, Heads.Laws.more-none}
-use Rattle.fields.specs.{Split.lineFeed, Split.tab, Split.split, Split.lines, Split.ended, Split.field, Split.part, Split.times, Split.Laws.part-rest, Put.Put}
+use Rattle.fields.specs.Split.{lineFeed, tab, split, lines, unlines, field, part, times, Laws.part-rest}
+use Rattle.fields.specs.Put.{Put}
 use Rattle.judge.specs.{declared.reading.NamePlace.NamePlace, declared.reading.Names.Names, Reading.partAt, Reading.partsOf}
 use Rattle.judge.specs.Reply.{childrenIn, row, replyBy, rowIn, childrenReply, judgedOf}
 use Rattle.model.specs.{Syntax.numberIn, Fault.Answer, Fault.refused, Fault.accepted, Answer.answer, Model.modelOf, Model.typeOf, Verdict.verdict}
 use Rattle.model.specs.{Syntax.Number.number-below}
 use Rattle.sheet.specs.{declared.sheet.Entry.Entry, declared.sheet.Sheet.Sheet, declared.sheet.SheetFault.SheetFault}
 use Rattle.sheet.specs.{declared.sheet.SheetOutcome.the-variants.Read, declared.sheet.SheetOutcome.the-variants.Refused as SheetIsRefused}
-use Rattle.sheet.specs.{declared.cues.CuesRead.the-variants.Count as CuesCount, declared.cues.CuesRead.the-variants.Refused as CuesRefused, Cues.children, Cues.cuesRead, Cues.CueFits, Cues.Laws.cue-three}
-use Rattle.sheet.specs.Cues.Walk.{GoodCues, AtLine, Cue, cues-passed}
+use Rattle.sheet.specs.declared.cues.CuesRead.the-variants.{Count as CuesCount, Refused as CuesRefused}
+use Rattle.sheet.specs.Cues.{children, cuesRead, CueFits, Laws.cue-three, Walk.GoodCues, Walk.AtLine, Walk.Cue, Walk.cues-passed}
 use Rattle.sheet.specs.Sheet.{kind, sheetOutcome, Walk.Loaded}
 use Rattle.lister.specs.declared.said.Said.{Said, the-variants.Complete, the-variants.Open, the-variants.Dead, the-variants.NoSheet}
 use Rattle.lister.specs.declared.listing.Listed.the-variants.{Written, SheetRefused, CueRefused, TooLong}
 use Rattle.lister.specs.Listing.{word, listingLine, saidTimes, totals, totalLine, saidBy, saidOf, said, listing, Laws.line-length, Laws.word-short}
-use Rattle.lister.specs.{Listed.fitted, Listed.listed, Listed.bufferAfter}
+use Rattle.lister.specs.{Listed.byRoom, Listed.listed, Listed.bufferAfter}
 use Rattle.lister.specs.Coded.{saidFrom, codeOf, decoded, linesCoded, maxLine, listingCoded, CueReady, CuesCoded, CodedUpTo}
 
 -- of children that are good, the judge's answer says what the model says
@@ -118,11 +119,11 @@ part-at-place s p = let e : (p .start + p .len) - p .start ≡ p .len = omega ar
 -- one line more of the listing
 module _ (vs : List ℕ) {c : Text} {n at end : ℕ} (k : length vs ≡ length (lines c)) where
   pub coded-next : {v : Said} → Cue c n at end → v ≡ decoded (getD vs n 0)
-      → ended (linesCoded (drop n vs) (drop n (lines c)))
-      ≡ (listingLine (part c at end) v ++ (lineFeed ∷ [])) ++ ended (linesCoded (drop (n + 1) vs) (drop (n + 1) (lines c)))
+      → unlines (linesCoded (drop n vs) (drop n (lines c)))
+      ≡ (listingLine (part c at end) v ++ (lineFeed ∷ [])) ++ unlines (linesCoded (drop (n + 1) vs) (drop (n + 1) (lines c)))
   coded-next m d = rw (drop-cons (lines c) n [] (m .counted), drop-cons vs n 0 (omega (arith, m .counted)), m .line-is, add-one, d)
 
-pub coded-end : (vs : List ℕ) {c : Text} {n at : ℕ} → AtLine c n at → length c ≤ at → ended (linesCoded (drop n vs) (drop n (lines c))) ≡ []
+pub coded-end : (vs : List ℕ) {c : Text} {n at : ℕ} → AtLine c n at → length c ≤ at → unlines (linesCoded (drop n vs) (drop n (lines c))) ≡ []
 coded-end vs {c} b h = rw (cues-passed b h, drop-length (lines c))
 
 -- what the sheet says of a cue, by the number of its kind
@@ -162,9 +163,10 @@ pub coded-set : (s c : Text) (vs : List ℕ) (n : ℕ) {v : ℕ} → n < length 
 coded-set s c vs n o k h e =
     rw (add-one, take-suc-set vs n _ o, take-suc (lines c) n [] k, map-append, map-append, h, e)
 
-ended-last : (ls : List Text) (l : Text) → ended (ls ++ (l ∷ [])) ≡ ended ls ++ (l ++ (lineFeed ∷ []))
-ended-last [] l = append-nil (l ++ (lineFeed ∷ []))
-ended-last (p ∷ ls) l = ap (λ r. (p ++ (lineFeed ∷ [])) ++ r) (ended-last ls l) ∙ sym (append-assoc (p ++ (lineFeed ∷ [])) (ended ls) (l ++ (lineFeed ∷ [])))
+unlines-snoc : (ls : List Text) (l : Text) → unlines (ls ++ (l ∷ [])) ≡ unlines ls ++ (l ++ (lineFeed ∷ []))
+unlines-snoc [] l = append-nil (l ++ (lineFeed ∷ []))
+unlines-snoc (p ∷ ls) l =
+    ap (λ r. (p ++ (lineFeed ∷ [])) ++ r) (unlines-snoc ls l) ∙ sym (append-assoc (p ++ (lineFeed ∷ [])) (unlines ls) (l ++ (lineFeed ∷ [])))
 
 -- the bytes of all lines
 pub coded-all : (s c : Text) (codes : List ℕ) {n : ℕ} → CodedUpTo (length (lines c)) s c codes → n ≡ length (lines c)
@@ -178,7 +180,7 @@ module _ (s c : Text) {vs : List ℕ} (e : vs ≡ map codeOf (map (said (lines s
   listing-coded =
       let ws = map (said (lines s)) (lines c) in
       rw (e, codes-back ws, lines-coded (said (lines s)) (lines c))
-      (sym (ended-last (map (λ l. listingLine l (said (lines s) l)) (lines c)) (totalLine ws)))
+      (sym (unlines-snoc (map (λ l. listingLine l (said (lines s) l)) (lines c)) (totalLine ws)))
 
   pub cues-coded : GoodCues c → CuesCoded c vs
   cues-coded g =
@@ -196,16 +198,16 @@ module _ (s c : Text) (room : ℕ) where
   pub listed-cues : {f : CueFault} {n : ℕ} → sheetOutcome s ≡ Read → cuesRead c ≡ CuesRefused f n → CueRefused f n ≡ listed s c room
   listed-cues e k = rw (e, k)
 
-  pub listed-fitted : {n : ℕ} → sheetOutcome s ≡ Read → cuesRead c ≡ CuesCount n → fitted (listing s c) room ≡ listed s c room
-  listed-fitted e k = rw (e, k)
+  pub listed-room : {n : ℕ} → sheetOutcome s ≡ Read → cuesRead c ≡ CuesCount n → byRoom (listing s c) room ≡ listed s c room
+  listed-room e k = rw (e, k)
 
 -- a text that is longer than the buffer, and one that is written into it
 module _ (x : Text) {size : ℕ} (e : size ≡ length x) where
-  pub fitted-not : (room : ℕ) → room < size → TooLong ≡ fitted x room
-  fitted-not room h = rw (lt-leb (length x) room (omega arith))
+  pub room-short : (room : ℕ) → room < size → TooLong ≡ byRoom x room
+  room-short room h = rw (lt-leb (length x) room (omega arith))
 
-  pub fitted-written : (room : ℕ) → size ≤ room → Written size ≡ fitted x room
-  fitted-written room h = rw (le-leb (length x) room (omega arith), e)
+  pub room-enough : (room : ℕ) → size ≤ room → Written size ≡ byRoom x room
+  room-enough room h = rw (le-leb (length x) room (omega arith), e)
 
   pub buffer-written : {old new : Text} {end : ℕ} → Put old new 0 x end → new ≡ bufferAfter (Written size) x old
   buffer-written {old} p = let z : 0 + length x ≡ size = omega arith in p .text-is ∙ ap (λ j. x ++ drop j old) z

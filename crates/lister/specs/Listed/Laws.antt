@@ -9,12 +9,12 @@ use Rattle.sheet.specs.{declared.cues.CuesRead.CuesRead, declared.sheet.SheetOu
 use Rattle.sheet.specs.declared.cues.CuesRead.the-variants.{Count, Refused}
 use Rattle.sheet.specs.declared.sheet.SheetOutcome.the-variants.{Read, Refused as SheetIsRefused}
 use Rattle.sheet.specs.{Refusal.SheetAnswers, Refusal.CuesAnswers, Ends.sheet-exactly, Ends.cues-exactly}
-use Rattle.lister.specs.{declared.listing.Listed.Listed, Listing.listing, Listed.byCues, Listed.bySheet, Listed.fitted, Listed.listed, Listed.Lists}
+use Rattle.lister.specs.{declared.listing.Listed.Listed, Listing.listing, Listed.byCues, Listed.bySheet, Listed.byRoom, Listed.listed, Listed.Lists}
 use Rattle.lister.specs.declared.listing.Listed.the-variants.{Written, SheetRefused, CueRefused, TooLong}
 
 module _ (s c : Text) (size : ℕ) where
   lists-by : (o : SheetOutcome) → SheetAnswers s o → (r : CuesRead) → CuesAnswers c r
-      → Lists s c size (bySheet o (byCues r (fitted (listing s c) size)))
+      → Lists s c size (bySheet o (byCues r (byRoom (listing s c) size)))
   lists-by (SheetIsRefused f n) h r k = h
   lists-by Read h (Refused f n) k = (h, k)
   lists-by Read h (Count n) k =
@@ -29,7 +29,9 @@ module _ (s c : Text) (size : ℕ) where
   lists-only (Written n) (h, k, i, e) = rw (sheet-exactly s Read .1 h, cues-exactly c (Count (length (lines c))) .1 (k, refl), le-leb _ _ i, e)
 
   pub listed-is : (r : Listed) → (listed s c size ≡ r) ↔ Lists s c size r
-  listed-is r = (λ e. rw e at (lists-by (sheetOutcome s) (sheet-exactly s (sheetOutcome s) .0 refl) (cuesRead c) (cues-exactly c (cuesRead c) .0 refl)), lists-only r)
+  listed-is r =
+      let listed-lists = lists-by (sheetOutcome s) (sheet-exactly s (sheetOutcome s) .0 refl) (cuesRead c) (cues-exactly c (cuesRead c) .0 refl) in
+      (λ e. rw e at listed-lists, lists-only r)
 
 -- what is written is no longer than the buffer
 pub written-fits : (s c : Text) (room : ℕ) {n : ℕ} → Written n ≡ listed s c room → n ≤ room

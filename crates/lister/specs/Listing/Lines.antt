@@ -5,8 +5,8 @@ use native.Mathlib.Omega.{arith}
 use lib.{Dec.T, ListN.length, ListN.getD, ListN.length-map}
 use mir.Facts.{and-yes, yes-and}
 use Rattle.fields.specs.Bytes.{Text, bytes, digits, isDigit, isInner, all, sameText, Laws.apart, Runs.digit-inner, Runs.all-map, Numeral.all-digits}
-use Rattle.fields.specs.Split.{lineFeed, tab, split, joined, butLast, last, lines, behind, ended, fields, field, other, noneHas, Laws.split-free}
-use Rattle.fields.specs.Split.Joined.{split-joined, lines-ended, but-last-is, last-is, split-lacks, lacks-at, joined-lacks, lines-lack}
+use Rattle.fields.specs.Split.{lineFeed, tab, split, joinedBy, butLast, last, lines, behind, unlines, fields, field, other, noneHas, Laws.split-free}
+use Rattle.fields.specs.Split.Joined.{split-joined, lines-unlines, but-last-snoc, last-snoc, split-lacks, lacks-at, joined-lacks, lines-lack}
 use Rattle.sheet.specs.Cues.{children}
 use Rattle.lister.specs.declared.said.Said.{Said, the-variants.Complete, the-variants.Open, the-variants.Dead, the-variants.NoSheet}
 use Rattle.lister.specs.Listing.{word, listingLine, saidTimes, totals, totalLine, said, listingLines, listing, linesWith, Totals}
@@ -88,13 +88,17 @@ module _ (s c : Text) where
   above = lined f (lines c)
 
   last-lacks : T (noneHas lineFeed (totalLine vs ∷ []))
-  last-lacks = yes-and (all (other lineFeed) (totalLine vs)) true (joined-lacks tab lineFeed tt (bytes "total" ∷ map digits (totals vs)) (total-lacks lineFeed tt vs)) tt
+  last-lacks =
+      let line = joined-lacks tab lineFeed tt (bytes "total" ∷ map digits (totals vs)) (total-lacks lineFeed tt vs) in
+      yes-and (all (other lineFeed) (totalLine vs)) true line tt
 
   pub lines-are : (lines (listing s c) ≡ listingLines (lines s) (lines c)) × (behind (listing s c) ≡ [])
-  lines-are = lines-ended (listingLines (lines s) (lines c)) (append-lacks lineFeed above (totalLine vs ∷ []) (lined-lack f (lines c) (lines-lack c)) last-lacks)
+  lines-are =
+      let lack = append-lacks lineFeed above (totalLine vs ∷ []) (lined-lack f (lines c) (lines-lack c)) last-lacks in
+      lines-unlines (listingLines (lines s) (lines c)) lack
 
   above-are : butLast (lines (listing s c)) ≡ above
-  above-are = ap butLast (lines-are .0) ∙ but-last-is above (totalLine vs)
+  above-are = ap butLast (lines-are .0) ∙ but-last-snoc above (totalLine vs)
 
   pub above-count : length (butLast (lines (listing s c))) ≡ length (lines c)
   above-count = ap length above-are ∙ length-map (lines c) (λ l. listingLine l (f l))
@@ -107,13 +111,14 @@ module _ (s c : Text) where
       let dead = lines-said f Dead (lines c) in
       let nosheet = lines-said f NoSheet (lines c) in
       record {
-        fields-are = rw (n, complete, open′, dead, nosheet) (total-fields vs);
-        sum = rw (n, complete, open′, dead, nosheet) (said-sum vs);
+        numbers-are = rw (n, complete, open′, dead, nosheet) (total-fields vs);
+        adds-up = rw (n, complete, open′, dead, nosheet) (said-sum vs);
       }
 
   pub totals-are : Totals (butLast (lines (listing s c))) (last (lines (listing s c)))
-  totals-are = rw (above-are, ap last (lines-are .0) ∙ last-is above (totalLine vs)) above-totals
+  totals-are = rw (above-are, ap last (lines-are .0) ∙ last-snoc above (totalLine vs)) above-totals
 
-pub none-are : (s : Text) → listing s [] ≡ ended (joined tab (bytes "total" ∷ (bytes "0" ∷ (bytes "0" ∷ (bytes "0" ∷ (bytes "0" ∷ (bytes "0" ∷ [])))))) ∷ [])
+pub none-are : (s : Text)
+    → listing s [] ≡ unlines (joinedBy tab (bytes "total" ∷ (bytes "0" ∷ (bytes "0" ∷ (bytes "0" ∷ (bytes "0" ∷ (bytes "0" ∷ [])))))) ∷ [])
 unfolding digits
 none-are s = refl

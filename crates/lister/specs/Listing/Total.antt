@@ -4,7 +4,7 @@ use Prim.Native.Nat.{ℕ, _+_, _≤_, _<_}
 use native.Mathlib.{Omega.arith, Numerals.add-one}
 use lib.{ListN.length, ListN.drop, ListN.getD, ListN.length-append, Seq.drop-cons}
 use Rattle.fields.specs.{Limits.maxFile, Tests.by-test, Bytes.Text, Bytes.bytes, Bytes.sameText, Bytes.digits, Bytes.Numeral.digits-length}
-use Rattle.fields.specs.Split.{lineFeed, tab, joined}
+use Rattle.fields.specs.Split.{lineFeed, tab, joinedBy}
 use Rattle.lister.specs.declared.said.Said.{Said, the-variants.Complete, the-variants.Open, the-variants.Dead, the-variants.NoSheet}
 use Rattle.lister.specs.Listing.{word, saidTimes, totals, totalLine}
 
@@ -13,10 +13,10 @@ abbrev pub tabbed : List ℕ → Text
 tabbed [] = lineFeed ∷ []
 tabbed (n ∷ ns) = tab ∷ (digits n ++ tabbed ns)
 
-joined-tabbed : (p : Text) (ns : List ℕ) → p ++ tabbed ns ≡ joined tab (p ∷ map digits ns) ++ (lineFeed ∷ [])
+joined-tabbed : (p : Text) (ns : List ℕ) → p ++ tabbed ns ≡ joinedBy tab (p ∷ map digits ns) ++ (lineFeed ∷ [])
 joined-tabbed p [] = refl
 joined-tabbed p (n ∷ ns) =
-    ap (λ r. p ++ (tab ∷ r)) (joined-tabbed (digits n) ns) ∙ sym (append-assoc p (tab ∷ joined tab (digits n ∷ map digits ns)) (lineFeed ∷ []))
+    ap (λ r. p ++ (tab ∷ r)) (joined-tabbed (digits n) ns) ∙ sym (append-assoc p (tab ∷ joinedBy tab (digits n ∷ map digits ns)) (lineFeed ∷ []))
 
 pub total-is : (vs : List Said) → bytes "total" ++ tabbed (totals vs) ≡ totalLine vs ++ (lineFeed ∷ [])
 total-is vs = joined-tabbed (bytes "total") (totals vs)

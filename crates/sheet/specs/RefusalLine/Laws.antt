@@ -12,8 +12,8 @@ head-short Source.Cues = omega arith
 head-short Source.Listing = omega arith
 
 -- a 32-bit number has at most 10 digits, a 64-bit one 20
-pub line-short : (s : Source) (n k : ℕ) → n < 2 ^ 32 → k < 2 ^ 64 → length (refusalLine s n k) ≤ 48
-line-short s n k h i =
+pub refusal-short : (s : Source) (n k : ℕ) → n < 2 ^ 32 → k < 2 ^ 64 → length (refusalLine s n k) ≤ 48
+refusal-short s n k h i =
     let all = length-append (refusalHead s) (digits n ++ (tab ∷ (digits k ++ (lineFeed ∷ [])))) in
     let numbers = length-append (digits n) (tab ∷ (digits k ++ (lineFeed ∷ []))) in
     let last = length-append (digits k) (lineFeed ∷ []) in

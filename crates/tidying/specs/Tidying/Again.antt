@@ -1,5 +1,6 @@
 -- A tidied sheet is read again, if a file may be so long, and is its own tidied sheet.
-use mathlib.Core.{Path._≡_, Path.refl, Path.sym, Path.ap, Path.ap₂, Path._∙_, Bool.true, Bool.cond, Bool.not, Bool._||_, Option.Option, Option.none, Option.some}
+use mathlib.Core.{Bool.true, Bool.cond, Bool.not, Bool._||_, Option.Option, Option.none, Option.some}
+use mathlib.Core.Path.{_≡_, refl, sym, ap, ap₂, _∙_}
 use mathlib.Core.List.{List, [], _∷_, _++_, map, append-assoc}
 use Prim.Native.Nat.{ℕ, zero, suc, _≤_, _<_}
 use native.Mathlib.Omega.{arith}
@@ -7,7 +8,7 @@ use lib.{Dec.T, Dec.leb, Dec.eqb, ListN.length, ListN.getD, ListN.length-map}
 use mir.Facts.{yes-and}
 use borrow.Author.Tests.{le-ltb}
 use Rattle.fields.specs.{Limits.maxFile, Bytes.Text, Bytes.bytes, Bytes.sameText, Bytes.all, Bytes.Runs.all-append, Children.shortName}
-use Rattle.fields.specs.Split.{lineFeed, tab, lines, behind, ended, fields, other, noneHas, Joined.split-joined, Joined.lines-ended}
+use Rattle.fields.specs.Split.{lineFeed, tab, lines, behind, unlines, fields, other, noneHas, Joined.split-joined, Joined.lines-unlines}
 use Rattle.model.specs.{Syntax.text, Answer.answer, Answer.answer-is, Fault.accepted}
 use Rattle.sheet.specs.{declared.sheet.SheetFault.SheetFault, declared.sheet.SheetOutcome.SheetOutcome}
 use Rattle.sheet.specs.declared.sheet.SheetFault.the-variants.{ManyRules, BadFields, NoKind, Repeated}
@@ -84,9 +85,9 @@ rest-fit : (l : Text) (ls : List Text) → AllFit (l ∷ ls) → AllFit ls
 rest-fit l ls f i h = f (suc i) (omega arith)
 
 -- each line with its line feed
-ended-bare : (ls : List Text) → tidyLines ls ≡ ended (map bare ls)
-ended-bare [] = refl
-ended-bare (l ∷ ls) = ap₂ (λ x y. x ++ y) (regrouped (bytes "rule") (kind l) (tidyModel (model l))) (ended-bare ls)
+unlines-bare : (ls : List Text) → tidyLines ls ≡ unlines (map bare ls)
+unlines-bare [] = refl
+unlines-bare (l ∷ ls) = ap₂ (λ x y. x ++ y) (regrouped (bytes "rule") (kind l) (tidyModel (model l))) (unlines-bare ls)
   where
     regrouped : (a b c : Text) → a ++ (tab ∷ (b ++ (tab ∷ (c ++ (lineFeed ∷ []))))) ≡ (a ++ (tab ∷ (b ++ (tab ∷ c)))) ++ (lineFeed ∷ [])
     regrouped a b c = simp append-assoc
@@ -97,7 +98,7 @@ bare-lack (l ∷ ls) f =
     yes-and (all (other lineFeed) (bare l)) (noneHas lineFeed (map bare ls)) (bare-free (f 0 (omega arith))) (bare-lack ls (rest-fit l ls f))
 
 split-again : (ls : List Text) → AllFit ls → (lines (tidyLines ls) ≡ map bare ls) × (behind (tidyLines ls) ≡ [])
-split-again ls f = rw (ended-bare ls) (lines-ended (map bare ls) (bare-lack ls f))
+split-again ls f = rw (unlines-bare ls) (lines-unlines (map bare ls) (bare-lack ls f))
 
 lines-again : (ls : List Text) → AllFit ls → tidyLines (map bare ls) ≡ tidyLines ls
 lines-again [] f = refl

@@ -7,7 +7,7 @@ use lib.{Seq.take-at, Seq.drop-at}
 use lib.ListN.{length, take, drop, getD, length-append, length-take, length-drop}
 use borrow.{Author.Tests.le-leb, Rule.Slice.PartMut.putMid}
 use Rattle.fields.specs.{Tests.tells-le, Tests.tells-and, Bytes.Text, Bytes.isName, Bytes.bytes, Limits.maxName, Children.shortName}
-use Rattle.fields.specs.{Split.joined, Split.Laws.joined-split}
+use Rattle.fields.specs.{Split.joinedBy, Split.Laws.joined-split}
 use Rattle.fields.specs.{declared.split.Heads.Heads, Heads.headsOf, Heads.Laws.Three, Heads.Laws.fields-enough}
 use Rattle.fields.specs.Split.{lineFeed, tab, fields, field, part}
 use Rattle.fields.specs.Put.{Put, Begun, Laws.put-length, Laws.put-first, Laws.begun-all, Laws.piece-put}
@@ -98,7 +98,7 @@ module _ {l : Text} (r : RuleFits l) where
 
   line-is : l ≡ head l ++ model l
   line-is =
-      sym (joined-split tab l) ∙ ap (joined tab) fields-are
+      sym (joined-split tab l) ∙ ap (joinedBy tab) fields-are
       ∙ ap (λ z. bytes "rule" ++ (tab ∷ z)) (sym (append-assoc (kind l) (tab ∷ []) (model l)))
 
   pub kind-named : (isName (kind l) ≡ true) × (length (kind l) ≤ maxName)

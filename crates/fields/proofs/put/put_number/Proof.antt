@@ -25,8 +25,9 @@ start l = l .before .before
 room : (l : tie.At-loop Inv-loop μ-loop) → length (digits (l .loop .rest)) ≤ l .loop .i + 1
 room l =
     let n = start l .args .number in
+    let few = digits-length 19 n (omega (arith, start l .fits .number .fits)) in
     let written = ap length (l .loop .inv .0) ∙ length-append (digits (l .loop .rest)) (drop (l .loop .i + 1) (l .loop .digits)) in
-    omega (arith, written, length-drop (l .loop .i + 1) (l .loop .digits), l .loop .inv .1, l .loop .inv .2, digits-length 19 n (omega (arith, start l .fits .number .fits)))
+    omega (arith, few, written, length-drop (l .loop .i + 1) (l .loop .digits), l .loop .inv .1, l .loop .inv .2)
 
 loop-holds : tie.Need-loop-holds Inv-loop μ-loop
 loop-holds c = (sym (append-nil (digits (c .before .args .number))), refl, omega arith)

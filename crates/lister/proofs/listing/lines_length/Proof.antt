@@ -2,7 +2,7 @@
 use mathlib.Core.{Path._≡_, Path.ap, Path._∙_, List.[], List._∷_, List._++_}
 use Prim.Native.Nat.{_+_, _*_, _-_, _≤_}
 use lib.ListN.{length, drop, length-append}
-use Rattle.fields.specs.Split.{lineFeed, lines, ended, part}
+use Rattle.fields.specs.Split.{lineFeed, lines, unlines, part}
 use Rattle.sheet.specs.Cues.Walk.{AtLine, Cue, before-first, before-cue}
 use Rattle.lister.specs.{Listing.listingLine, Coded.linesCoded, Coded.maxLine}
 use Rattle.lister.specs.Coded.Laws.{line-short, coded-next, coded-end}
@@ -14,7 +14,7 @@ use Rattle.lister.proofs.listing.lines_length.Tie as tie
 abbrev Inv-loop : tie.InvT-loop
 Inv-loop cues codes length₀ n₀ at₀ len n at =
     AtLine cues n at × (length codes ≡ length (lines cues))
-    × (len + length (ended (linesCoded (drop n codes) (drop n (lines cues)))) ≡ length (ended (linesCoded codes (lines cues)))) × (len ≤ n * maxLine)
+    × (len + length (unlines (linesCoded (drop n codes) (drop n (lines cues)))) ≡ length (unlines (linesCoded codes (lines cues)))) × (len ≤ n * maxLine)
 
 abbrev μ-loop : tie.MeasureT-loop
 μ-loop cues codes length₀ n₀ at₀ len n at = length cues - at
@@ -26,14 +26,14 @@ start l = l .before .before .before
 abbrev loop : tie.After-part-end Inv-loop μ-loop → tie.At-loop Inv-loop μ-loop
 loop c = c .before .before
 
-abbrev end-found : tie.After-line-length Inv-loop μ-loop → tie.After-part-end Inv-loop μ-loop
-end-found c = c .before .before .before .before
+abbrev ended : tie.After-line-length Inv-loop μ-loop → tie.After-part-end Inv-loop μ-loop
+ended c = c .before .before .before .before
 
 cue : (c : tie.After-part-end Inv-loop μ-loop) → Cue (start (loop c) .args .cues .now) (loop c .loop .n) (loop c .loop .at) (c .part-end .result)
 cue c = before-cue (loop c .loop .inv .0) (c .before .loop-test .taken) (c .part-end .ensures)
 
 short : (c : tie.After-line-length Inv-loop μ-loop) → c .line-length .result ≤ maxLine
-short c = omega (arith, line-short (c .before .before .decode .result) (cue (end-found c) .fits), c .line-length .ensures)
+short c = omega (arith, line-short (c .before .before .decode .result) (cue (ended c) .fits), c .line-length .ensures)
 
 loop-holds : tie.Need-loop-holds Inv-loop μ-loop
 loop-holds c =
@@ -56,25 +56,25 @@ line-length-requires : tie.Need-line-length-requires Inv-loop μ-loop
 line-length-requires c κs = cue (c .before .before .before) .fits
 
 add-length : tie.Need-add-length Inv-loop μ-loop
-add-length c = omega (arith, cue (end-found c) .bounds, loop (end-found c) .loop .inv .3, short c)
+add-length c = omega (arith, cue (ended c) .bounds, loop (ended c) .loop .inv .3, short c)
 
 add-n : tie.Need-add-n Inv-loop μ-loop
-add-n c = omega (arith, cue (end-found c) .bounds)
+add-n c = omega (arith, cue (ended c) .bounds)
 
 add-at : tie.Need-add-at Inv-loop μ-loop
-add-at c = omega (arith, cue (end-found c) .bounds)
+add-at c = omega (arith, cue (ended c) .bounds)
 
 loop-less : tie.Need-loop-less Inv-loop μ-loop
-loop-less c = omega (arith, cue (end-found c) .bounds)
+loop-less c = omega (arith, cue (ended c) .bounds)
 
 loop-again : tie.Need-loop-again Inv-loop μ-loop
 loop-again c =
-    let l = loop (end-found c) in
+    let l = loop (ended c) in
     let a = start l .args in
-    let line = listingLine (part (a .cues .now) (l .loop .at) (end-found c .part-end .result)) (c .before .before .decode .result) in
-    let next = ap length (coded-next (a .codes .now) (l .loop .inv .1) (cue (end-found c)) (c .before .before .decode .ensures)) in
+    let line = listingLine (part (a .cues .now) (l .loop .at) (ended c .part-end .result)) (c .before .before .decode .result) in
+    let next = ap length (coded-next (a .codes .now) (l .loop .inv .1) (cue (ended c)) (c .before .before .decode .ensures)) in
     let more = next ∙ length-append (line ++ (lineFeed ∷ [])) _ in (
-      cue (end-found c) .next,
+      cue (ended c) .next,
       l .loop .inv .1,
       omega (arith, l .loop .inv .2, more, length-append line (lineFeed ∷ []), c .line-length .ensures),
       omega (arith, l .loop .inv .3, short c),

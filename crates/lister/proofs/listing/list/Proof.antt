@@ -6,14 +6,15 @@ use Rattle.fields.specs.{Bytes.Text, Split.lines, Split.Times.lines-few}
 use Rattle.sheet.specs.declared.{cues.CuesRead.the-variants.Count, sheet.SheetOutcome.the-variants.Read}
 use Rattle.sheet.specs.{Cues.cuesRead, Cues.Good.good-cues, Cues.Walk.GoodCues, Sheet.sheetOutcome, Sheet.Good.outcome-is, Sheet.Places.sheet-loaded}
 use Rattle.sheet.specs.Ends.{cues-exactly}
-use Rattle.lister.specs.{Listing.said, Listed.fitted, Listed.bufferAfter, Coded.codeOf}
-use Rattle.lister.specs.Coded.Laws.{coded-all, listing-coded, cues-coded, listed-sheet, listed-cues, listed-fitted}
+use Rattle.lister.specs.{Listing.said, Listed.byRoom, Listed.bufferAfter, Coded.codeOf}
+use Rattle.lister.specs.Coded.Laws.{coded-all, listing-coded, cues-coded, listed-sheet, listed-cues, listed-room}
 use native.Mathlib.Omega.{arith}
 use borrow.Author.Needs.{needs}
 use Rattle.lister.proofs.listing.list.Statement.{statement}
 use Rattle.lister.proofs.listing.list.Tie as tie
 
--- the call, from where the sheet was read, that from where it is known to be good, that from where the list is, and that from where all is said
+-- the call, from where the sheet was read, that from where it is known to be good, that from where the list is, that from where all is
+-- said, and that from the end
 abbrev start : tie.After-read-sheet → tie.Start
 start c = c .before .before .before .before
 
@@ -25,6 +26,9 @@ sheet-good c = c .before .before .before
 
 abbrev counted : tie.After-say-all → tie.After-n
 counted c = c .before .before .before .before .before
+
+abbrev all-said : tie.After-write-listing → tie.After-say-all
+all-said c = c .before .before .before .before .before
 
 told : (c : tie.After-read-sheet) → sheetOutcome (start c .args .sheet .now) ≡ c .read-sheet .result .outcome
 told c = sym (outcome-is (start c .args .sheet .now)) ∙ sym (ap (λ r. r .outcome) (c .read-sheet .ensures))
@@ -88,13 +92,13 @@ write-listing-requires c κs =
 returns-3 : tie.Need-returns-3
 returns-3 c =
     let p = c .before .before in
-    let w = p .before .before .before .before .before in
+    let w = all-said p in
     let n = counted w in
     let s = sheet-good n in
     let old = start (loaded s) .args .buffer .now in
     let listing-is = listing-coded (sheet n) (cues n) (coded w) in
-    let answer = p .write-listing .ensures .0 ∙ ap (λ x. fitted x (length old)) listing-is in (
-      answer ∙ listed-fitted (sheet n) (cues n) (length old) (sheet-read s) (cues-read n),
+    let answer = p .write-listing .ensures .0 ∙ ap (λ x. byRoom x (length old)) listing-is in (
+      answer ∙ listed-room (sheet n) (cues n) (length old) (sheet-read s) (cues-read n),
       p .write-listing .ensures .1 ∙ ap (λ x. bufferAfter (p .write-listing .result) x old) listing-is,
     )
 

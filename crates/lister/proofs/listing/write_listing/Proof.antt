@@ -3,10 +3,10 @@ use mathlib.Core.{Path._≡_, Path.refl, Path.ap, Path._∙_, List.[], List._∷
 use Prim.Native.Nat.{_+_, _-_, _≤_}
 use lib.ListN.{length, take, length-append}
 use lib.Seq.{take-at}
-use Rattle.fields.specs.{Bytes.Text, Split.lineFeed, Split.lines, Split.ended, Split.Times.lines-few, Put.Put, Put.putEnd, Put.putAt}
+use Rattle.fields.specs.{Bytes.Text, Split.lineFeed, Split.lines, Split.unlines, Split.Times.lines-few, Put.Put, Put.putEnd, Put.putAt}
 use Rattle.fields.specs.Put.Laws.{put-ends, put-front, put-fits, put-then}
 use Rattle.lister.specs.{Listing.totalLine, Coded.decoded, Coded.linesCoded, Coded.listingCoded, Coded.maxLine}
-use Rattle.lister.specs.Coded.Laws.{fitted-not, fitted-written, buffer-written}
+use Rattle.lister.specs.Coded.Laws.{room-short, room-enough, buffer-written}
 use native.Mathlib.{Nat.sub-zero, Omega.arith}
 use borrow.Author.Needs.{needs}
 use Rattle.lister.proofs.listing.write_listing.Statement.{statement}
@@ -26,7 +26,7 @@ abbrev lined : tie.After-put → tie.After-write-lines
 lined c = c .before .before .before .before .before .before
 
 abbrev above : tie.Start → Text
-above s = ended (linesCoded (s .args .codes .now) (lines (s .args .cues .now)))
+above s = unlines (linesCoded (s .args .codes .now) (lines (s .args .cues .now)))
 
 abbrev below : tie.Start → Text
 below s = totalLine (map decoded (s .args .codes .now)) ++ (lineFeed ∷ [])
@@ -51,7 +51,7 @@ returns : tie.Need-returns
 returns c =
     let l = c .before in
     let a = start (totalled l) .args in
-    (fitted-not (listingCoded (a .codes .now) (a .cues .now)) (size l) (length (a .buffer .now)) (c .if1 .taken), refl)
+    (room-short (listingCoded (a .codes .now) (a .cues .now)) (size l) (length (a .buffer .now)) (c .if1 .taken), refl)
 
 write-lines-requires : tie.Need-write-lines-requires
 write-lines-requires c κs =
@@ -65,7 +65,9 @@ part-put-end c =
     omega (arith, p .fits, put-ends p)
 
 -- the last line behind the others
-written : (c : tie.After-put) → let s = start (totalled (measured (lined c))) in Put (s .args .buffer .now) (c .put .last .0) 0 (above s ++ below s) (c .put .result)
+written : (c : tie.After-put)
+    → let s = start (totalled (measured (lined c))) in
+    Put (s .args .buffer .now) (c .put .last .0) 0 (above s ++ below s) (c .put .result)
 written c =
     let w = lined c in
     let l = measured w in
@@ -86,7 +88,7 @@ returns-2 c =
     let l = measured w in
     let a = start (totalled l) .args in
     let x = listingCoded (a .codes .now) (a .cues .now) in
-    (fitted-written x (size l) (length (a .buffer .now)) (w .before .before .if1 .left), buffer-written x (size l) (written p))
+    (room-enough x (size l) (length (a .buffer .now)) (w .before .before .if1 .left), buffer-written x (size l) (written p))
 
 pub write-listing-spec : {M : Type 1} → statement M
 write-listing-spec =

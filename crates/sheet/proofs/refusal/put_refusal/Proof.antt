@@ -3,7 +3,7 @@ use mathlib.Core.List.{[], _∷_}
 use Prim.Native.Nat.{_≤_}
 use lib.ListN.{length}
 use Rattle.fields.specs.{Split.tab, Split.lineFeed, Put.Laws.begun-none, Put.Laws.begun-put, Put.Laws.begun-end}
-use Rattle.sheet.specs.RefusalLine.{refusalLine, Laws.line-short}
+use Rattle.sheet.specs.RefusalLine.{refusalLine, Laws.refusal-short}
 use native.Mathlib.Omega.{arith}
 use borrow.Author.Needs.{needs}
 use Rattle.sheet.proofs.refusal.put_refusal.Statement.{statement}
@@ -26,7 +26,7 @@ abbrev line : tie.After-put2 → tie.After-put-number2
 line c = c .before .before .before .before .before
 
 room : (s : tie.Start) → length (refusalLine (s .args .source) (s .args .number) (s .args .line)) ≤ length (s .args .buffer .now)
-room s = omega (arith, line-short (s .args .source) (s .args .number) (s .args .line) (s .fits .number .fits) (s .fits .line .fits), s .pre)
+room s = omega (arith, refusal-short (s .args .source) (s .args .number) (s .args .line) (s .fits .number .fits) (s .fits .line .fits), s .pre)
 
 returns : tie.Need-returns
 returns c =
