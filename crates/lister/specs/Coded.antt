@@ -8,7 +8,7 @@ use Rattle.judge.specs.{declared.reading.NamePlace.NamePlace, declared.verdict.
 use Rattle.judge.specs.declared.verdict.ChildrenJudged.the-variants.{Verdict, ModelRefused, ChildrenRefused}
 use Rattle.sheet.specs.Cues.{children, CueFits, Walk.GoodCues}
 use Rattle.lister.specs.declared.said.Said.{Said, the-variants.Complete, the-variants.Open, the-variants.Dead, the-variants.NoSheet}
-use Rattle.lister.specs.Listing.{wordOf, listingLine, said, totalLine}
+use Rattle.lister.specs.Listing.{word, wordOf, listingLine, said, totalLine}
 
 -- by what `judge_children` answers
 abbrev pub saidFrom : ChildrenJudged → Said
@@ -24,6 +24,9 @@ codeOf NoSheet = 3
 
 abbrev pub decoded : ℕ → Said
 decoded n = cond (eqb n 0) Complete (cond (eqb n 1) Open (cond (eqb n 2) Dead NoSheet))
+
+abbrev pub wordsCoded : List ℕ → List Text
+wordsCoded vs = map (λ v. word (decoded v)) vs
 
 -- a byte for each cue line
 abbrev pub linesCoded : List ℕ → List Text → List Text
@@ -47,7 +50,7 @@ CodedUpTo n s c codes = take n codes ≡ map codeOf (map (said (lines s)) (take 
 
 -- the lines of all cues and the last line, by the byte of each cue
 abbrev pub listingCoded : List ℕ → Text → Text
-listingCoded vs c = unlines (linesCoded vs (lines c)) ++ (totalLine (map decoded vs) ++ (lineFeed ∷ []))
+listingCoded vs c = unlines (linesCoded vs (lines c)) ++ (totalLine (wordsCoded vs) ++ (lineFeed ∷ []))
 
 -- a cue list that was read, and a byte for each of its lines
 pub record CuesCoded (c : Text) (vs : List ℕ) : Type 0 where

@@ -1,9 +1,9 @@
 -- The ends: when a listing is refused, by the table; what it says of each cue, by the meaning of the models; what its last line says of the others.
 -- Each proof is a citation.
-use mathlib.Core.{Path._≡_, Logic._↔_, List.[], List._∷_}
+use mathlib.Core.{Path._≡_, Logic._↔_, List.[], List._∷_, List.map}
 use Prim.Native.Nat.{ℕ}
 use lib.ListN.{length}
-use Rattle.fields.specs.{Bytes.Text, Bytes.bytes, Split.tab, Split.joinedBy, Split.butLast, Split.last, Split.lines, Split.behind, Split.unlines}
+use Rattle.fields.specs.{Bytes.Text, Bytes.bytes, Split.tab, Split.joinedBy, Split.butLast, Split.last, Split.lines, Split.behind, Split.unlines, Split.field}
 use Rattle.sheet.specs.{declared.sheet.SheetOutcome.the-variants.Read, Sheet.sheetOutcome}
 use Rattle.lister.specs.{declared.said.Said.Said, declared.listing.Listed.Listed, Listing.said, Listed.listed, Listed.Lists, Listed.Laws.listed-is}
 use Rattle.lister.specs.{Said.CueSaid, Said.Laws.cue-is}
@@ -21,8 +21,9 @@ cue-said = cue-is
 pub lines-exactly : (s c : Text) → (lines (listing s c) ≡ listingLines (lines s) (lines c)) × (behind (listing s c) ≡ [])
 lines-exactly = lines-are
 
--- The last is `total`, how many stand above it, and how many of those say complete, open, dead and nosheet; the four add to the first.
-pub total-exactly : (s c : Text) → Totals (butLast (lines (listing s c))) (last (lines (listing s c)))
+-- The last is `total`, how many stand above it, and how many of those have complete, open, dead and nosheet as their third field; the four add to the
+-- first.
+pub total-exactly : (s c : Text) → Totals (map (field 2) (butLast (lines (listing s c)))) (last (lines (listing s c)))
 total-exactly = totals-are
 
 -- As many stand above it as there are cues.

@@ -24,18 +24,19 @@ word NoSheet = bytes "nosheet"
 abbrev pub listingLine : Text → Said → Text
 listingLine l v = joinedBy tab (field 1 l ∷ (field 2 l ∷ (word v ∷ (digits (length (children l)) ∷ []))))
 
--- how often a word is said
-abbrev pub saidTimes : Said → List Said → ℕ
-saidTimes v [] = 0
-saidTimes v (w ∷ ws) = cond (sameText (word w) (word v)) (suc (saidTimes v ws)) (saidTimes v ws)
+-- how often a text stands among texts
+abbrev pub timesAmong : Text → List Text → ℕ
+timesAmong x [] = 0
+timesAmong x (y ∷ ys) = cond (sameText y x) (suc (timesAmong x ys)) (timesAmong x ys)
 
--- of how many cues anything is said, and each word: document 02, W6
-abbrev pub totals : List Said → List ℕ
-totals vs = length vs ∷ (saidTimes Complete vs ∷ (saidTimes Open vs ∷ (saidTimes Dead vs ∷ (saidTimes NoSheet vs ∷ []))))
+-- how many words there are, and how often each stands among them: document 02, W6
+abbrev pub totals : List Text → List ℕ
+totals ws =
+    length ws ∷ (timesAmong (word Complete) ws ∷ (timesAmong (word Open) ws ∷ (timesAmong (word Dead) ws ∷ (timesAmong (word NoSheet) ws ∷ []))))
 
--- the last line
-abbrev pub totalLine : List Said → Text
-totalLine vs = joinedBy tab (bytes "total" ∷ map digits (totals vs))
+-- the last line, by the words above it
+abbrev pub totalLine : List Text → Text
+totalLine ws = joinedBy tab (bytes "total" ∷ map digits (totals ws))
 
 abbrev pub wordOf : Verdict → Said
 wordOf IsComplete = Complete
@@ -63,19 +64,12 @@ said ls l = saidAt ls (numberIn (map kind ls) (field 2 l)) (children l)
 
 -- a line for each cue line in order, and the last
 abbrev pub listingLines : List Text → List Text → List Text
-listingLines ls cs = map (λ l. listingLine l (said ls l)) cs ++ (totalLine (map (said ls) cs) ∷ [])
+listingLines ls cs = map (λ l. listingLine l (said ls l)) cs ++ (totalLine (map (λ l. word (said ls l)) cs) ∷ [])
 
 abbrev pub listing : Text → Text → Text
 listing s c = unlines (listingLines (lines s) (lines c))
 
--- how many lines have that word as their third field
-abbrev pub linesWith : Said → List Text → ℕ
-linesWith v [] = 0
-linesWith v (l ∷ ls) = cond (sameText (field 2 l) (word v)) (suc (linesWith v ls)) (linesWith v ls)
-
--- what a last line says of the lines above it (`Ends.total-exactly`)
-pub record Totals (above : List Text) (l : Text) : Type 0 where
-  pub numbers-are :
-      fields l ≡ bytes "total" ∷ map digits
-      (length above ∷ (linesWith Complete above ∷ (linesWith Open above ∷ (linesWith Dead above ∷ (linesWith NoSheet above ∷ [])))))
-  pub adds-up : linesWith Complete above + linesWith Open above + linesWith Dead above + linesWith NoSheet above ≡ length above
+-- what a last line says of words, which are those of the lines above it (`Ends.total-exactly`)
+pub record Totals (ws : List Text) (l : Text) : Type 0 where
+  pub numbers-are : fields l ≡ bytes "total" ∷ map digits (totals ws)
+  pub adds-up : timesAmong (word Complete) ws + timesAmong (word Open) ws + timesAmong (word Dead) ws + timesAmong (word NoSheet) ws ≡ length ws

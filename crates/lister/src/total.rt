@@ -5,7 +5,7 @@ ghost use Prim.Native.Nat.{_≤_};
 ghost use lib.ListN.{length};
 ghost use Rattle.fields.specs.{Limits.maxFile, Split.lineFeed, Split.times};
 ghost use Rattle.fields.specs.Put.{Put};
-ghost use Rattle.lister.specs.{Listing.totals, Listing.totalLine, Coded.codeOf, Coded.decoded};
+ghost use Rattle.lister.specs.{Listing.totals, Listing.totalLine, Coded.codeOf, Coded.decoded, Coded.wordsCoded};
 use crate::said::Said;
 use crate::said::code_of;
 use fields::put::put;
@@ -28,7 +28,7 @@ fn times_said(codes: &[u8], said: Said) -> usize
 // How many cues there are, and of how many each word is said.
 fn totals_of(codes: &[u8]) -> [usize; TOTALS]
     requires { ⌜ now codes ≡ map codeOf (map decoded (now codes)) ⌝ }
-    ensures { λ r. ⌜ r ≡ totals (map decoded (now (codes .entry))) ⌝ }
+    ensures { λ r. ⌜ r ≡ totals (wordsCoded (now (codes .entry))) ⌝ }
 {
     let complete = times_said(codes, Said::Complete);
     let open = times_said(codes, Said::Open);
@@ -40,7 +40,7 @@ fn totals_of(codes: &[u8]) -> [usize; TOTALS]
 // Writes the last line by what is said of each cue.
 pub(crate) fn write_total(buffer: &mut [u8], codes: &[u8]) -> usize
     requires { ⌜ (length (now codes) ≤ maxFile) × (now codes ≡ map codeOf (map decoded (now codes))) × (36 ≤ length (now buffer)) ⌝ }
-    ensures { λ r. ⌜ Put (now (buffer .entry)) (now (buffer .exit)) 0 (totalLine (map decoded (now (codes .entry))) ++ (lineFeed ∷ [])) r ⌝ }
+    ensures { λ r. ⌜ Put (now (buffer .entry)) (now (buffer .exit)) 0 (totalLine (wordsCoded (now (codes .entry))) ++ (lineFeed ∷ [])) r ⌝ }
 {
     let totals = totals_of(codes);
     let mut end = put(buffer, 0, b"total");

@@ -1,5 +1,5 @@
 -- Lines and fields that are put together are parted there again.
-use mathlib.Core.{Path._≡_, Path.refl, Path.ap, Path._∙_, Bool.true, Bool.false, Bool._&&_, List.List, List.[], List._∷_, List._++_, List.append-assoc}
+use mathlib.Core.{Path._≡_, Path.refl, Path.ap, Path._∙_, Bool.true, Bool.false, List.List, List.[], List._∷_, List._++_, List.append-assoc}
 use Prim.Native.Nat.{ℕ, zero, suc}
 use lib.{Dec.T, Dec.eqb, ListN.getD}
 use mir.Facts.{and-yes, yes-and}

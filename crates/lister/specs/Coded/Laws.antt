@@ -22,9 +22,9 @@ use Rattle.sheet.specs.Cues.{children, cuesRead, CueFits, Laws.cue-three, Walk.
 use Rattle.sheet.specs.Sheet.{kind, sheetOutcome, Walk.Loaded}
 use Rattle.lister.specs.declared.said.Said.{Said, the-variants.Complete, the-variants.Open, the-variants.Dead, the-variants.NoSheet}
 use Rattle.lister.specs.declared.listing.Listed.the-variants.{Written, SheetRefused, CueRefused, TooLong}
-use Rattle.lister.specs.Listing.{word, listingLine, saidTimes, totals, totalLine, saidBy, saidOf, said, listing, Laws.line-length, Laws.word-short}
+use Rattle.lister.specs.Listing.{word, listingLine, timesAmong, totals, totalLine, saidBy, saidOf, said, listing, Laws.line-length, Laws.word-short}
 use Rattle.lister.specs.{Listed.byRoom, Listed.listed, Listed.bufferAfter}
-use Rattle.lister.specs.Coded.{saidFrom, codeOf, decoded, linesCoded, maxLine, listingCoded, CueReady, CuesCoded, CodedUpTo}
+use Rattle.lister.specs.Coded.{saidFrom, codeOf, decoded, wordsCoded, linesCoded, maxLine, listingCoded, CueReady, CuesCoded, CodedUpTo}
 
 -- of children that are good, the judge's answer says what the model says
 said-judged : (m c : Text) → length c ≤ maxFile → allNames (childrenIn c) ≡ true → length (childrenIn c) ≤ maxRow
@@ -73,6 +73,10 @@ codes-back : (ws : List Said) → map decoded (map codeOf ws) ≡ ws
 codes-back [] = refl
 codes-back (w ∷ ws) = ap₂ (λ v vs. v ∷ vs) (decoded-code w) (codes-back ws)
 
+words-coded : (f : Text → Said) (ls : List Text) → wordsCoded (map codeOf (map f ls)) ≡ map (λ l. word (f l)) ls
+words-coded f [] = refl
+words-coded f (l ∷ ls) = ap₂ (λ w ws. w ∷ ws) (ap word (decoded-code (f l))) (words-coded f ls)
+
 lines-coded : (f : Text → Said) (ls : List Text) → linesCoded (map codeOf (map f ls)) ls ≡ map (λ l. listingLine l (f l)) ls
 lines-coded f [] = refl
 lines-coded f (l ∷ ls) = ap₂ (λ x xs. x ∷ xs) (ap (listingLine l) (decoded-code (f l))) (lines-coded f ls)
@@ -96,17 +100,17 @@ same-code NoSheet Open = refl
 same-code NoSheet Dead = refl
 same-code NoSheet NoSheet = refl
 
-times-coded : (v : Said) (ws : List Said) → times (codeOf v) (map codeOf ws) ≡ saidTimes v ws
-times-coded v [] = refl
-times-coded v (w ∷ ws) = rw (same-code w v, times-coded v ws)
+times-coded : (v : Said) (vs : List ℕ) → vs ≡ map codeOf (map decoded vs) → times (codeOf v) vs ≡ timesAmong (word v) (wordsCoded vs)
+times-coded v vs e = ap (times (codeOf v)) e ∙ go vs
+  where
+    go : (us : List ℕ) → times (codeOf v) (map codeOf (map decoded us)) ≡ timesAmong (word v) (wordsCoded us)
+    go [] = refl
+    go (u ∷ us) = rw (same-code (decoded u) v, go us)
 
 pub totals-coded : (vs : List ℕ) {a b c d : ℕ} → vs ≡ map codeOf (map decoded vs) → a ≡ times (codeOf Complete) vs → b ≡ times (codeOf Open) vs
-    → c ≡ times (codeOf Dead) vs → d ≡ times (codeOf NoSheet) vs → length vs ∷ (a ∷ (b ∷ (c ∷ (d ∷ [])))) ≡ totals (map decoded vs)
+    → c ≡ times (codeOf Dead) vs → d ≡ times (codeOf NoSheet) vs → length vs ∷ (a ∷ (b ∷ (c ∷ (d ∷ [])))) ≡ totals (wordsCoded vs)
 totals-coded vs e p q r s =
-    rw (p, q, r, s, counted Complete, counted Open, counted Dead, counted NoSheet, length-map)
-  where
-    counted : (v : Said) → times (codeOf v) vs ≡ saidTimes v (map decoded vs)
-    counted v = ap (times (codeOf v)) e ∙ times-coded v (map decoded vs)
+    rw (p, q, r, s, times-coded Complete vs e, times-coded Open vs e, times-coded Dead vs e, times-coded NoSheet vs e, length-map)
 
 pub line-short : {l : Text} (v : Said) → CueFits l → length (listingLine l v) + 1 ≤ maxLine
 line-short {l} v f =
@@ -178,9 +182,8 @@ coded-all s c codes {n} h e =
 module _ (s c : Text) {vs : List ℕ} (e : vs ≡ map codeOf (map (said (lines s)) (lines c))) where
   pub listing-coded : listingCoded vs c ≡ listing s c
   listing-coded =
-      let ws = map (said (lines s)) (lines c) in
-      rw (e, codes-back ws, lines-coded (said (lines s)) (lines c))
-      (sym (unlines-snoc (map (λ l. listingLine l (said (lines s) l)) (lines c)) (totalLine ws)))
+      rw (e, words-coded (said (lines s)) (lines c), lines-coded (said (lines s)) (lines c))
+      (sym (unlines-snoc (map (λ l. listingLine l (said (lines s) l)) (lines c)) (totalLine (map (λ l. word (said (lines s) l)) (lines c)))))
 
   pub cues-coded : GoodCues c → CuesCoded c vs
   cues-coded g =

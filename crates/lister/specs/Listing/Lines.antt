@@ -1,15 +1,15 @@
 -- The lines of a listing as they are printed: a line for each cue, and what the last one says of them.
-use mathlib.Core.{Path._≡_, Path.refl, Path.ap, Path.ap₂, Path.sym, Path._∙_, Bool.true, Bool.not, List.List, List.[], List._∷_, List._++_, List.map}
+use mathlib.Core.{Path._≡_, Path.refl, Path.ap, Path.ap₂, Path._∙_, Bool.true, Bool.not, List.List, List.[], List._∷_, List._++_, List.map}
 use Prim.Native.Nat.{ℕ, suc, _+_}
 use native.Mathlib.Omega.{arith}
 use lib.{Dec.T, ListN.length, ListN.getD, ListN.length-map}
 use mir.Facts.{and-yes, yes-and}
-use Rattle.fields.specs.Bytes.{Text, bytes, digits, isDigit, isInner, all, sameText, Laws.apart, Runs.digit-inner, Runs.all-map, Numeral.all-digits}
-use Rattle.fields.specs.Split.{lineFeed, tab, split, joinedBy, butLast, last, lines, behind, unlines, fields, field, other, noneHas, Laws.split-free}
+use Rattle.fields.specs.Bytes.{Text, bytes, digits, isDigit, isInner, all, Laws.apart, Runs.digit-inner, Runs.all-map, Numeral.all-digits}
+use Rattle.fields.specs.Split.{lineFeed, tab, joinedBy, butLast, last, lines, behind, unlines, fields, field, other, noneHas, Laws.split-free}
 use Rattle.fields.specs.Split.Joined.{split-joined, lines-unlines, but-last-snoc, last-snoc, split-lacks, lacks-at, joined-lacks, lines-lack}
 use Rattle.sheet.specs.Cues.{children}
 use Rattle.lister.specs.declared.said.Said.{Said, the-variants.Complete, the-variants.Open, the-variants.Dead, the-variants.NoSheet}
-use Rattle.lister.specs.Listing.{word, listingLine, saidTimes, totals, totalLine, said, listingLines, listing, linesWith, Totals}
+use Rattle.lister.specs.Listing.{word, listingLine, timesAmong, totals, totalLine, said, listingLines, listing, Totals}
 
 word-inner : (v : Said) → T (all isInner (word v))
 word-inner Complete = tt
@@ -33,8 +33,8 @@ module _ (t : ℕ) (n : T (not (isInner t))) where
   numbers-lack [] = tt
   numbers-lack (k ∷ ns) = yes-and (all (other t) (digits k)) (noneHas t (map digits ns)) (digits-lack k) (numbers-lack ns)
 
-  total-lacks : (vs : List Said) → T (noneHas t (bytes "total" ∷ map digits (totals vs)))
-  total-lacks vs = yes-and (all (other t) (bytes "total")) (noneHas t (map digits (totals vs))) (inner-lacks (bytes "total") tt) (numbers-lack (totals vs))
+  total-lacks : (ws : List Text) → T (noneHas t (bytes "total" ∷ map digits (totals ws)))
+  total-lacks ws = yes-and (all (other t) (bytes "total")) (noneHas t (map digits (totals ws))) (inner-lacks (bytes "total") tt) (numbers-lack (totals ws))
 
   line-lacks : (l : Text) (v : Said) → T (noneHas t (fields l)) → T (noneHas t (lineFields l v))
   line-lacks l v h =
@@ -44,8 +44,8 @@ module _ (t : ℕ) (n : T (not (isInner t))) where
 line-fields : (l : Text) (v : Said) → fields (listingLine l v) ≡ lineFields l v
 line-fields l v = split-joined tab (field 1 l) _ (line-lacks tab tt l v (rw (split-free tab l) tt))
 
-total-fields : (vs : List Said) → fields (totalLine vs) ≡ bytes "total" ∷ map digits (totals vs)
-total-fields vs = split-joined tab (bytes "total") _ (total-lacks tab tt vs)
+total-fields : (ws : List Text) → fields (totalLine ws) ≡ bytes "total" ∷ map digits (totals ws)
+total-fields ws = split-joined tab (bytes "total") _ (total-lacks tab tt ws)
 
 -- no line holds a line feed
 module _ (f : Text → Said) where
@@ -59,17 +59,24 @@ module _ (f : Text → Said) where
       let line = joined-lacks tab lineFeed tt (lineFields l (f l)) (line-lacks lineFeed tt l (f l) (split-lacks tab lineFeed l (i .0))) in
       yes-and (all (other lineFeed) (listingLine l (f l))) (noneHas lineFeed (lined ls)) line (lined-lack ls (i .1))
 
-  -- a word stands in as many lines as it is said
-  lines-said : (v : Said) (ls : List Text) → linesWith v (lined ls) ≡ saidTimes v (map f ls)
-  lines-said v [] = refl
-  lines-said v (l ∷ ls) = rw (ap (λ fs. getD fs 2 []) (line-fields l (f l)), lines-said v ls)
+  -- the third field of a line is what is said of the cue
+  words-are : (ls : List Text) → map (field 2) (lined ls) ≡ map (λ l. word (f l)) ls
+  words-are [] = refl
+  words-are (l ∷ ls) = ap₂ (λ w ws. w ∷ ws) (ap (λ fs. getD fs 2 []) (line-fields l (f l))) (words-are ls)
 
-said-sum : (vs : List Said) → saidTimes Complete vs + saidTimes Open vs + saidTimes Dead vs + saidTimes NoSheet vs ≡ length vs
-said-sum [] = refl
-said-sum (Complete ∷ vs) = omega (arith, said-sum vs)
-said-sum (Open ∷ vs) = omega (arith, said-sum vs)
-said-sum (Dead ∷ vs) = omega (arith, said-sum vs)
-said-sum (NoSheet ∷ vs) = omega (arith, said-sum vs)
+-- no other words are said
+abbrev sum : List Text → ℕ
+sum ws = timesAmong (word Complete) ws + timesAmong (word Open) ws + timesAmong (word Dead) ws + timesAmong (word NoSheet) ws
+
+sum-more : (v : Said) (ws : List Text) → sum ws ≡ length ws → sum (word v ∷ ws) ≡ suc (length ws)
+sum-more Complete ws h = omega arith
+sum-more Open ws h = omega arith
+sum-more Dead ws h = omega arith
+sum-more NoSheet ws h = omega arith
+
+words-sum : (f : Text → Said) (ls : List Text) → sum (map (λ l. word (f l)) ls) ≡ length (map (λ l. word (f l)) ls)
+words-sum f [] = refl
+words-sum f (l ∷ ls) = sum-more (f l) (map (λ l. word (f l)) ls) (words-sum f ls)
 
 append-lacks : (t : ℕ) (ps qs : List Text) → T (noneHas t ps) → T (noneHas t qs) → T (noneHas t (ps ++ qs))
 append-lacks t [] qs h k = k
@@ -81,42 +88,33 @@ module _ (s c : Text) where
   abbrev f : Text → Said
   f = said (lines s)
 
-  abbrev vs : List Said
-  vs = map f (lines c)
+  abbrev words : List Text
+  words = map (λ l. word (f l)) (lines c)
 
   abbrev above : List Text
   above = lined f (lines c)
 
-  last-lacks : T (noneHas lineFeed (totalLine vs ∷ []))
+  last-lacks : T (noneHas lineFeed (totalLine words ∷ []))
   last-lacks =
-      let line = joined-lacks tab lineFeed tt (bytes "total" ∷ map digits (totals vs)) (total-lacks lineFeed tt vs) in
-      yes-and (all (other lineFeed) (totalLine vs)) true line tt
+      let line = joined-lacks tab lineFeed tt (bytes "total" ∷ map digits (totals words)) (total-lacks lineFeed tt words) in
+      yes-and (all (other lineFeed) (totalLine words)) true line tt
 
   pub lines-are : (lines (listing s c) ≡ listingLines (lines s) (lines c)) × (behind (listing s c) ≡ [])
   lines-are =
-      let lack = append-lacks lineFeed above (totalLine vs ∷ []) (lined-lack f (lines c) (lines-lack c)) last-lacks in
+      let lack = append-lacks lineFeed above (totalLine words ∷ []) (lined-lack f (lines c) (lines-lack c)) last-lacks in
       lines-unlines (listingLines (lines s) (lines c)) lack
 
   above-are : butLast (lines (listing s c)) ≡ above
-  above-are = ap butLast (lines-are .0) ∙ but-last-snoc above (totalLine vs)
+  above-are = ap butLast (lines-are .0) ∙ but-last-snoc above (totalLine words)
 
   pub above-count : length (butLast (lines (listing s c))) ≡ length (lines c)
   above-count = ap length above-are ∙ length-map (lines c) (λ l. listingLine l (f l))
 
-  above-totals : Totals above (totalLine vs)
-  above-totals =
-      let n : length above ≡ length vs = length-map (lines c) (λ l. listingLine l (f l)) ∙ sym (length-map (lines c) f) in
-      let complete = lines-said f Complete (lines c) in
-      let open′ = lines-said f Open (lines c) in
-      let dead = lines-said f Dead (lines c) in
-      let nosheet = lines-said f NoSheet (lines c) in
-      record {
-        numbers-are = rw (n, complete, open′, dead, nosheet) (total-fields vs);
-        adds-up = rw (n, complete, open′, dead, nosheet) (said-sum vs);
-      }
-
-  pub totals-are : Totals (butLast (lines (listing s c))) (last (lines (listing s c)))
-  totals-are = rw (above-are, ap last (lines-are .0) ∙ last-snoc above (totalLine vs)) above-totals
+  pub totals-are : Totals (map (field 2) (butLast (lines (listing s c)))) (last (lines (listing s c)))
+  totals-are =
+      let last-one = ap last (lines-are .0) ∙ last-snoc above (totalLine words) in
+      rw (ap (map (field 2)) above-are ∙ words-are f (lines c), last-one)
+      (record { numbers-are = total-fields words; adds-up = words-sum f (lines c) })
 
 pub none-are : (s : Text)
     → listing s [] ≡ unlines (joinedBy tab (bytes "total" ∷ (bytes "0" ∷ (bytes "0" ∷ (bytes "0" ∷ (bytes "0" ∷ (bytes "0" ∷ [])))))) ∷ [])

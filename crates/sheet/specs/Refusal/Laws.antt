@@ -9,12 +9,12 @@ use native.Mathlib.{Decide.decLt, Omega.arith}
 use lib.Dec.{leb, eqb}
 use lib.ListN.{length, take, drop, getD, length-map, List·getD-map}
 use lib.Seq.{take-suc, drop-cons, drop-length, length-take-le, getD-take}
-use borrow.Author.Tests.{leb-true, le-leb, lt-leb, leb-false, eqb-true, eqb-false, eq-eqb, not-true, not-false}
+use borrow.Author.Tests.{leb-true, le-leb, eqb-true, eqb-false, eq-eqb, not-true, not-false}
 use Rattle.fields.specs.{declared.fault.CueFault.CueFault, Bytes.Laws.same-text, Limits.maxRow, Split.lines, Split.fields, Split.field, Children.cueNumber}
 use Rattle.fields.specs.{Children.shortName, Children.allNames}
 use Rattle.fields.specs.declared.fault.CueFault.the-variants.{LongFile as LongList, Unended as UnendedList, BadFields as BadCue, BadNumber, NotAbove, NoName}
 use Rattle.fields.specs.declared.fault.CueFault.the-variants.{ManyChildren, NoChild}
-use Rattle.fields.specs.Tests.{by-test, Tells, tells-not, tells-or}
+use Rattle.fields.specs.Tests.{Tells, tells-not, tells-or}
 use Rattle.fields.specs.Bytes.{Text, bytes, isDigit, all, value, sameText}
 use Rattle.fields.specs.Least.Laws.{exactly, first-alone, first-once, Cleared, try}
 use Rattle.model.specs.{declared.fault.ModelFault.ModelFault, Answer.answer, Answer.answered, Accept.Length.value-grows}

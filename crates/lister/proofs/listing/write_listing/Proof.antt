@@ -1,11 +1,10 @@
 -- Nothing is written before the length is known; then the lines of all cues, and the last line behind them.
-use mathlib.Core.{Path._≡_, Path.refl, Path.ap, Path._∙_, List.[], List._∷_, List._++_, List.map}
+use mathlib.Core.{Path._≡_, Path.refl, Path.ap, Path._∙_, List.[], List._∷_, List._++_}
 use Prim.Native.Nat.{_+_, _-_, _≤_}
 use lib.ListN.{length, take, length-append}
-use lib.Seq.{take-at}
 use Rattle.fields.specs.{Bytes.Text, Split.lineFeed, Split.lines, Split.unlines, Split.Times.lines-few, Put.Put, Put.putEnd, Put.putAt}
 use Rattle.fields.specs.Put.Laws.{put-ends, put-front, put-fits, put-then}
-use Rattle.lister.specs.{Listing.totalLine, Coded.decoded, Coded.linesCoded, Coded.listingCoded, Coded.maxLine}
+use Rattle.lister.specs.{Listing.totalLine, Coded.wordsCoded, Coded.linesCoded, Coded.listingCoded}
 use Rattle.lister.specs.Coded.Laws.{room-short, room-enough, buffer-written}
 use native.Mathlib.{Nat.sub-zero, Omega.arith}
 use borrow.Author.Needs.{needs}
@@ -29,7 +28,7 @@ abbrev above : tie.Start → Text
 above s = unlines (linesCoded (s .args .codes .now) (lines (s .args .cues .now)))
 
 abbrev below : tie.Start → Text
-below s = totalLine (map decoded (s .args .codes .now)) ++ (lineFeed ∷ [])
+below s = totalLine (wordsCoded (s .args .codes .now)) ++ (lineFeed ∷ [])
 
 size : (c : tie.After-lines-length)
     → let a = start (totalled c) .args in

@@ -1,6 +1,4 @@
 -- By the byte.
-use mathlib.Core.Path.{ap, _∙_}
-use Rattle.fields.specs.Split.{times}
 use borrow.Author.Needs.{needs}
 use Rattle.lister.proofs.total.times_said.Statement.{statement}
 use Rattle.lister.proofs.total.times_said.Tie as tie

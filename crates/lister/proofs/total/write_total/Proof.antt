@@ -1,10 +1,10 @@
 -- Number behind number.
-use mathlib.Core.{Path._≡_, Path.ap, Path._∙_, List.List, List.[], List._∷_, List._++_, List.map}
+use mathlib.Core.{Path._≡_, Path.ap, Path._∙_, List.List, List.[], List._∷_, List._++_}
 use Prim.Native.Nat.{ℕ, _+_, _-_, _≤_}
 use lib.ListN.{length, drop, length-map, drop-of-length-le}
 use Rattle.fields.specs.{Bytes.Text, Bytes.bytes, Split.tab, Split.lineFeed, Put.Put, Put.Begun}
 use Rattle.fields.specs.Put.Laws.{put-length, begun-none, begun-put, begun-end}
-use Rattle.lister.specs.{Listing.totalLine, Coded.decoded}
+use Rattle.lister.specs.{Listing.word, Listing.totalLine, Coded.decoded, Coded.wordsCoded}
 use Rattle.lister.specs.Listing.Total.{tabbed, tabbed-next, total-is, total-short}
 use native.Mathlib.Omega.{arith}
 use borrow.Author.Needs.{needs}
@@ -44,14 +44,14 @@ five : (c : tie.After-totals-of Inv-loop μ-loop) → length (numbers c) ≡ 5
 five c = ap length (c .totals-of .ensures)
 
 line-is : (c : tie.After-totals-of Inv-loop μ-loop)
-    → bytes "total" ++ tabbed (numbers c) ≡ totalLine (map decoded (start c .args .codes .now)) ++ (lineFeed ∷ [])
-line-is c = ap (λ ns. bytes "total" ++ tabbed ns) (c .totals-of .ensures) ∙ total-is (map decoded (start c .args .codes .now))
+    → bytes "total" ++ tabbed (numbers c) ≡ totalLine (wordsCoded (start c .args .codes .now)) ++ (lineFeed ∷ [])
+line-is c = ap (λ ns. bytes "total" ++ tabbed ns) (c .totals-of .ensures) ∙ total-is (wordsCoded (start c .args .codes .now))
 
 room : (c : tie.After-totals-of Inv-loop μ-loop) → length (bytes "total" ++ tabbed (numbers c)) ≤ length (start c .args .buffer .now)
 room c =
     let s = start c in
     let codes = s .args .codes .now in
-    omega (arith, ap length (line-is c), total-short (map decoded codes) (omega (arith, length-map codes decoded, s .pre .0)), s .pre .2)
+    omega (arith, ap length (line-is c), total-short (wordsCoded codes) (omega (arith, length-map codes (λ v. word (decoded v)), s .pre .0)), s .pre .2)
 
 -- a tab and a number more
 more : (c : tie.After-put-number Inv-loop μ-loop)
