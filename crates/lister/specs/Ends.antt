@@ -3,11 +3,13 @@
 use mathlib.Core.{Path._≡_, Logic._↔_, List.[], List._∷_, List.map}
 use Prim.Native.Nat.{ℕ}
 use lib.ListN.{length}
-use Rattle.fields.specs.{Bytes.Text, Bytes.bytes, Split.tab, Split.joinedBy, Split.butLast, Split.last, Split.lines, Split.behind, Split.unlines, Split.field}
+use Rattle.fields.specs.{Bytes.Text, Bytes.bytes}
+use Rattle.fields.specs.Split.{tab, joinedBy, butLast, last, lines, behind, unlines, fields, field}
 use Rattle.sheet.specs.{declared.sheet.SheetOutcome.the-variants.Read, Sheet.sheetOutcome}
 use Rattle.lister.specs.{declared.said.Said.Said, declared.listing.Listed.Listed, Listing.said, Listed.listed, Listed.Lists, Listed.Laws.listed-is}
 use Rattle.lister.specs.{Said.CueSaid, Said.Laws.cue-is}
-use Rattle.lister.specs.Listing.{listingLines, listing, Totals, Lines.lines-are, Lines.totals-are, Lines.above-count, Lines.none-are}
+use Rattle.lister.specs.Listing.{listingFields, listingLine, listingLines, listing, Totals}
+use Rattle.lister.specs.Listing.Lines.{lines-are, line-fields, totals-are, above-count, none-are}
 
 -- Demand 1, listing: the sheet's refusal, else the list's, else 50 where the listing is longer than the buffer, else its length.
 pub listed-exactly : (s c : Text) (size : ℕ) (r : Listed) → (listed s c size ≡ r) ↔ Lists s c size r
@@ -20,6 +22,10 @@ cue-said = cue-is
 -- W6. The lines are one for each cue line, in order, and the last; nothing stands behind its line feed.
 pub lines-exactly : (s c : Text) → (lines (listing s c) ≡ listingLines (lines s) (lines c)) × (behind (listing s c) ≡ [])
 lines-exactly = lines-are
+
+-- A line has just the fields that it is made of.
+pub fields-exactly : (l : Text) (a : Said) → fields (listingLine l a) ≡ listingFields l a
+fields-exactly = line-fields
 
 -- The last is `total`, how many stand above it, and how many of those have complete, open, dead and nosheet as their third field; the four add to the
 -- first.

@@ -21,8 +21,11 @@ word Dead = bytes "dead"
 word NoSheet = bytes "nosheet"
 
 -- of a cue line and what is said of it: number, kind, verdict, how many children
+abbrev pub listingFields : Text → Said → List Text
+listingFields l v = field 1 l ∷ (field 2 l ∷ (word v ∷ (digits (length (children l)) ∷ [])))
+
 abbrev pub listingLine : Text → Said → Text
-listingLine l v = joinedBy tab (field 1 l ∷ (field 2 l ∷ (word v ∷ (digits (length (children l)) ∷ []))))
+listingLine l v = joinedBy tab (listingFields l v)
 
 -- how often a text stands among texts
 abbrev pub timesAmong : Text → List Text → ℕ

@@ -46,7 +46,7 @@ last-snoc (p ∷ q ∷ ps) l = last-snoc (q ∷ ps) l
 pub lines-unlines : (ls : List Text) → T (noneHas lineFeed ls) → (lines (unlines ls) ≡ ls) × (behind (unlines ls) ≡ [])
 lines-unlines ls h = (ap butLast (split-unlines ls h) ∙ but-last-snoc ls [], ap last (split-unlines ls h) ∙ last-snoc ls [])
 
--- what lacks a byte: each part of a text that does, a part of those, and what is put together of them
+-- what lacks a byte: each part of a text that does, one of such parts, such parts and others, and what is put together of them
 pub split-lacks : (s t : ℕ) (x : Text) → T (all (other t) x) → T (noneHas t (split s x))
 split-lacks s t [] h = tt
 split-lacks s t (b ∷ x) h =
@@ -63,6 +63,12 @@ lacks-at t [] zero h = tt
 lacks-at t [] (suc i) h = tt
 lacks-at t (p ∷ ps) zero h = and-yes (all (other t) p) (noneHas t ps) h .0
 lacks-at t (p ∷ ps) (suc i) h = lacks-at t ps i (and-yes (all (other t) p) (noneHas t ps) h .1)
+
+pub append-lacks : (t : ℕ) (ps qs : List Text) → T (noneHas t ps) → T (noneHas t qs) → T (noneHas t (ps ++ qs))
+append-lacks t [] qs h k = k
+append-lacks t (p ∷ ps) qs h k =
+    let i = and-yes (all (other t) p) (noneHas t ps) h in
+    yes-and (all (other t) p) (noneHas t (ps ++ qs)) (i .0) (append-lacks t ps qs (i .1) k)
 
 pub joined-lacks : (s t : ℕ) → T (other t s) → (ps : List Text) → T (noneHas t ps) → T (all (other t) (joinedBy s ps))
 joined-lacks s t d [] h = tt

@@ -6,20 +6,16 @@ use lib.{Dec.T, ListN.length, ListN.getD, ListN.length-map}
 use mir.Facts.{and-yes, yes-and}
 use Rattle.fields.specs.Bytes.{Text, bytes, digits, isDigit, isInner, all, Laws.apart, Runs.digit-inner, Runs.all-map, Numeral.all-digits}
 use Rattle.fields.specs.Split.{lineFeed, tab, joinedBy, butLast, last, lines, behind, unlines, fields, field, other, noneHas, Laws.split-free}
-use Rattle.fields.specs.Split.Joined.{split-joined, lines-unlines, but-last-snoc, last-snoc, split-lacks, lacks-at, joined-lacks, lines-lack}
+use Rattle.fields.specs.Split.Joined.{split-joined, lines-unlines, but-last-snoc, last-snoc, split-lacks, lacks-at, append-lacks, joined-lacks, lines-lack}
 use Rattle.sheet.specs.Cues.{children}
 use Rattle.lister.specs.declared.said.Said.{Said, the-variants.Complete, the-variants.Open, the-variants.Dead, the-variants.NoSheet}
-use Rattle.lister.specs.Listing.{word, listingLine, timesAmong, totals, totalLine, said, listingLines, listing, Totals}
+use Rattle.lister.specs.Listing.{word, listingFields, listingLine, timesAmong, totals, totalLine, said, listingLines, listing, Totals}
 
 word-inner : (v : Said) → T (all isInner (word v))
 word-inner Complete = tt
 word-inner Open = tt
 word-inner Dead = tt
 word-inner NoSheet = tt
-
--- the fields of a line that is printed
-abbrev lineFields : Text → Said → List Text
-lineFields l v = field 1 l ∷ (field 2 l ∷ (word v ∷ (digits (length (children l)) ∷ [])))
 
 -- what is no byte of names stands in no field, unless it stands in a field of the cue line
 module _ (t : ℕ) (n : T (not (isInner t))) where
@@ -36,12 +32,12 @@ module _ (t : ℕ) (n : T (not (isInner t))) where
   total-lacks : (ws : List Text) → T (noneHas t (bytes "total" ∷ map digits (totals ws)))
   total-lacks ws = yes-and (all (other t) (bytes "total")) (noneHas t (map digits (totals ws))) (inner-lacks (bytes "total") tt) (numbers-lack (totals ws))
 
-  line-lacks : (l : Text) (v : Said) → T (noneHas t (fields l)) → T (noneHas t (lineFields l v))
+  line-lacks : (l : Text) (v : Said) → T (noneHas t (fields l)) → T (noneHas t (listingFields l v))
   line-lacks l v h =
       let said-lacks = yes-and (all (other t) (word v)) _ (inner-lacks (word v) (word-inner v)) (numbers-lack (length (children l) ∷ [])) in
       yes-and (all (other t) (field 1 l)) _ (lacks-at t (fields l) 1 h) (yes-and (all (other t) (field 2 l)) _ (lacks-at t (fields l) 2 h) said-lacks)
 
-line-fields : (l : Text) (v : Said) → fields (listingLine l v) ≡ lineFields l v
+pub line-fields : (l : Text) (v : Said) → fields (listingLine l v) ≡ listingFields l v
 line-fields l v = split-joined tab (field 1 l) _ (line-lacks tab tt l v (rw (split-free tab l) tt))
 
 total-fields : (ws : List Text) → fields (totalLine ws) ≡ bytes "total" ∷ map digits (totals ws)
@@ -56,7 +52,7 @@ module _ (f : Text → Said) where
   lined-lack [] h = tt
   lined-lack (l ∷ ls) h =
       let i = and-yes (all (other lineFeed) l) (noneHas lineFeed ls) h in
-      let line = joined-lacks tab lineFeed tt (lineFields l (f l)) (line-lacks lineFeed tt l (f l) (split-lacks tab lineFeed l (i .0))) in
+      let line = joined-lacks tab lineFeed tt (listingFields l (f l)) (line-lacks lineFeed tt l (f l) (split-lacks tab lineFeed l (i .0))) in
       yes-and (all (other lineFeed) (listingLine l (f l))) (noneHas lineFeed (lined ls)) line (lined-lack ls (i .1))
 
   -- the third field of a line is what is said of the cue
@@ -77,12 +73,6 @@ sum-more NoSheet ws h = omega arith
 words-sum : (f : Text → Said) (ls : List Text) → sum (map (λ l. word (f l)) ls) ≡ length (map (λ l. word (f l)) ls)
 words-sum f [] = refl
 words-sum f (l ∷ ls) = sum-more (f l) (map (λ l. word (f l)) ls) (words-sum f ls)
-
-append-lacks : (t : ℕ) (ps qs : List Text) → T (noneHas t ps) → T (noneHas t qs) → T (noneHas t (ps ++ qs))
-append-lacks t [] qs h k = k
-append-lacks t (p ∷ ps) qs h k =
-    let i = and-yes (all (other t) p) (noneHas t ps) h in
-    yes-and (all (other t) p) (noneHas t (ps ++ qs)) (i .0) (append-lacks t ps qs (i .1) k)
 
 module _ (s c : Text) where
   abbrev f : Text → Said
