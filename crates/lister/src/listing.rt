@@ -5,7 +5,7 @@ ghost use Prim.Native.Nat.{_*_, _-_, _≤_};
 ghost use lib.{Dec.eqb, ListN.length};
 ghost use Rattle.model.specs.Syntax.{numberIn};
 ghost use Rattle.judge.specs.Reading.{partAt, partsOf};
-ghost use Rattle.fields.specs.{Limits.maxFile, Split.lines, Split.unlines, Split.field, Put.Put};
+ghost use Rattle.fields.specs.{Limits.maxFile, Split.lines, Split.unlines, Split.field, Put.PutWhole};
 ghost use Rattle.sheet.specs.{Cues.children, Cues.CueFits, Cues.Walk.GoodCues, Sheet.Walk.Loaded};
 ghost use Rattle.lister.specs.{Listing.saidOf, Listing.listing, Listed.byRoom, Listed.listed, Listed.bufferAfter};
 ghost use Rattle.lister.specs.Coded.{codeOf, linesCoded, listingCoded, maxLine, CueReady, CuesCoded, CodedUpTo};
@@ -131,9 +131,9 @@ fn lines_length(cues: &[u8], codes: &[u8]) -> usize
 }
 
 // Writes the lines of all cues: each goes into the part of the buffer that the earlier ones left free.
-fn write_lines(buffer: &mut [u8], cues: &[u8], codes: &[u8]) -> usize
+fn write_lines(buffer: &mut [u8], cues: &[u8], codes: &[u8])
     requires { ⌜ CuesCoded (now cues) (now codes) × (length (unlines (linesCoded (now codes) (lines (now cues)))) ≤ length (now buffer)) ⌝ }
-    ensures { λ r. ⌜ Put (now (buffer .entry)) (now (buffer .exit)) 0 (unlines (linesCoded (now (codes .entry)) (lines (now (cues .entry))))) r ⌝ }
+    ensures { λ r. ⌜ PutWhole (now (buffer .entry)) (now (buffer .exit)) (unlines (linesCoded (now (codes .entry)) (lines (now (cues .entry))))) ⌝ }
 {
     let mut written: usize = 0;
     let mut n: usize = 0;
@@ -146,7 +146,6 @@ fn write_lines(buffer: &mut [u8], cues: &[u8], codes: &[u8]) -> usize
         n += 1;
         at = end + 1;
     }
-    written
 }
 
 // Writes the listing by what is said of each cue, where the buffer has room for it.
@@ -157,11 +156,12 @@ fn write_listing(buffer: &mut [u8], cues: &[u8], codes: &[u8]) -> Listed
 {
     let mut last = [0u8; TOTAL_SIZE];
     let below = write_total(&mut last, codes);
-    let length = lines_length(cues, codes) + below;
+    let above = lines_length(cues, codes);
+    let length = above + below;
     if buffer.len() < length {
         return Listed::TooLong;
     }
-    let above = write_lines(buffer, cues, codes);
+    write_lines(buffer, cues, codes);
     put(buffer, above, &last[0..below]);
     Listed::Written(length)
 }

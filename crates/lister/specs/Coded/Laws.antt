@@ -1,6 +1,6 @@
 -- How a listing is made: what is said of a cue, the verdicts as bytes, and the lines one behind the other.
 use mathlib.Core.{Bool.true, Bool.cond, List.List, List.[], List._∷_, List._++_, List.map, List.map-append, List.append-assoc, List.append-nil}
-use mathlib.Core.Path.{_≡_, refl, ap, ap₂, sym, _∙_}
+use mathlib.Core.Path.{_≡_, refl, ap, ap₂, sym, subst, _∙_}
 use Prim.Native.Nat.{ℕ, suc, _+_, _-_, _≤_, _<_}
 use native.Mathlib.{Omega.arith, Numerals.add-one}
 use lib.Dec.{eqb}
@@ -10,7 +10,7 @@ use borrow.Author.Tests.{eqb-true, eqb-false, le-leb, lt-leb, le-ltb, lt-ltb}
 use Rattle.fields.specs.{Tests.by-test, Bytes.Text, Bytes.sameText, Bytes.Laws.T-true, Limits.maxRow, Limits.maxFile, declared.fault.CueFault.CueFault}
 use Rattle.fields.specs.{declared.split.Heads.Heads, Heads.headsOf, Children.allNames, Bytes.Numeral.digits-length, Heads.Laws.Three, Heads.Laws.more-none}
 use Rattle.fields.specs.Split.{lineFeed, tab, split, lines, unlines, field, part, times, Laws.part-rest}
-use Rattle.fields.specs.Put.{Put}
+use Rattle.fields.specs.Put.{Put, PutWhole, putEnd, putAt, Laws.put-length, Laws.put-fits, Laws.put-then}
 use Rattle.judge.specs.{declared.reading.NamePlace.NamePlace, declared.reading.Names.Names, Reading.partAt, Reading.partsOf}
 use Rattle.judge.specs.Reply.{childrenIn, row, replyBy, rowIn, childrenReply, judgedOf}
 use Rattle.model.specs.{Syntax.numberIn, Fault.Answer, Fault.refused, Fault.accepted, Answer.answer, Model.modelOf, Model.typeOf, Verdict.verdict}
@@ -203,6 +203,13 @@ module _ (s c : Text) (room : ℕ) where
 
   pub listed-room : {n : ℕ} → sheetOutcome s ≡ Read → cuesRead c ≡ CuesCount n → byRoom (listing s c) room ≡ listed s c room
   listed-room e k = rw (e, k)
+
+-- a text that is put behind another, at the place that is that one's length
+pub written-behind : {old mid new : Text} (x y z : Text) {at end : ℕ} → PutWhole old mid x → at ≡ length x → z ≡ y → at + length y ≤ length old
+    → end ≡ putEnd mid at z → new ≡ putAt mid at z → Put old new 0 (x ++ y) end
+written-behind {old} {mid} {new} x y z {at} {end} p e f h g t =
+    let q = put-fits mid new at y end (omega (arith, put-length p)) (g ∙ ap (putEnd mid at) f) (t ∙ ap (putAt mid at) f) in
+    put-then p (subst (λ n. Put mid new n y end) e q)
 
 -- a text that is longer than the buffer, and one that is written into it
 module _ (x : Text) {size : ℕ} (e : size ≡ length x) where

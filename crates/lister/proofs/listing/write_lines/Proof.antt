@@ -6,7 +6,7 @@ use Rattle.fields.specs.{Bytes.Text, Split.lineFeed, Split.lines, Split.unlines
 use Rattle.fields.specs.Put.{Begun}
 use Rattle.sheet.specs.Cues.Walk.{AtLine, Cue, before-first, before-cue}
 use Rattle.lister.specs.{Listing.listingLine, Coded.linesCoded, Coded.Laws.coded-next, Coded.Laws.coded-end}
-use Rattle.fields.specs.Put.Laws.{begun-none, begun-length, begun-end, piece-fits, piece-room, piece-put}
+use Rattle.fields.specs.Put.Laws.{begun-none, begun-length, begun-all, piece-fits, piece-room, piece-put}
 use borrow.Author.Needs.{needs}
 use native.Mathlib.Omega.{arith}
 use Rattle.lister.proofs.listing.write_lines.Statement.{statement}
@@ -112,7 +112,7 @@ same-length c = begun-length (c .before .loop .inv .2)
 returns : tie.Need-returns Inv-loop μ-loop
 returns c =
     let l = c .before in
-    begun-end (rw (coded-end (start l .args .codes .now) (l .loop .inv .0) (c .loop-test .left)) at (l .loop .inv .2))
+    begun-all (rw (coded-end (start l .args .codes .now) (l .loop .inv .0) (c .loop-test .left)) at (l .loop .inv .2))
 
 pub write-lines-spec : {M : Type 1} → statement M
 write-lines-spec =

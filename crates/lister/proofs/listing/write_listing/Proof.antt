@@ -1,11 +1,11 @@
 -- Nothing is written before the length is known; then the lines of all cues, and the last line behind them.
 use mathlib.Core.{Path._≡_, Path.refl, Path.ap, Path._∙_, List.[], List._∷_, List._++_}
-use Prim.Native.Nat.{_+_, _-_, _≤_}
+use Prim.Native.Nat.{_+_, _≤_}
 use lib.ListN.{length, take, length-append}
-use Rattle.fields.specs.{Bytes.Text, Split.lineFeed, Split.lines, Split.unlines, Split.Times.lines-few, Put.Put, Put.putEnd, Put.putAt}
-use Rattle.fields.specs.Put.Laws.{put-ends, put-front, put-fits, put-then}
+use Rattle.fields.specs.{Bytes.Text, Split.lineFeed, Split.lines, Split.unlines, Split.Times.lines-few, Put.Put}
+use Rattle.fields.specs.Put.Laws.{put-ends, put-front}
 use Rattle.lister.specs.{Listing.totalLine, Coded.wordsCoded, Coded.linesCoded, Coded.listingCoded}
-use Rattle.lister.specs.Coded.Laws.{room-short, room-enough, buffer-written}
+use Rattle.lister.specs.Coded.Laws.{written-behind, room-short, room-enough, buffer-written}
 use native.Mathlib.{Nat.sub-zero, Omega.arith}
 use borrow.Author.Needs.{needs}
 use Rattle.lister.proofs.listing.write_listing.Statement.{statement}
@@ -72,13 +72,10 @@ written c =
     let l = measured w in
     let t = totalled l in
     let s = start t in
-    let lines-put = w .write-lines .ensures in
     let last = ap (λ n. take n (t .write-total .last .0)) (sub-zero (t .write-total .result)) ∙ put-front (t .write-total .ensures) in
-    let room : w .write-lines .result + length (below s) ≤ length (w .write-lines .last .0) =
-    omega (arith, put-ends lines-put, size l, length-append (above s) (below s), w .before .before .if1 .left) in
-    let end-is = c .put .ensures .0 ∙ ap (putEnd (w .write-lines .last .0) (w .write-lines .result)) last in
-    let text-is = c .put .ensures .1 ∙ ap (putAt (w .write-lines .last .0) (w .write-lines .result)) last in
-    put-then lines-put (put-fits _ _ _ (below s) _ room end-is text-is)
+    let room : l .lines-length .result + length (below s) ≤ length (s .args .buffer .now) =
+    omega (arith, t .write-total .ensures .end-is, w .before .before .if1 .left) in
+    written-behind (above s) (below s) _ (w .write-lines .ensures) (l .lines-length .ensures .0) last room (c .put .ensures .0) (c .put .ensures .1)
 
 returns-2 : tie.Need-returns-2
 returns-2 c =
