@@ -12,6 +12,7 @@ use fields::put::put;
 use fields::put::put_number;
 use fields::split::times_in;
 
+// How many numbers the line has.
 const TOTALS: usize = 5;
 
 // Enough for every such line: `total`, five times a tab and 5 digits, a line feed.

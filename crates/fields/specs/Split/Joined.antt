@@ -1,10 +1,12 @@
 -- Lines and fields that are put together are parted there again.
-use mathlib.Core.{Path._≡_, Path.refl, Path.ap, Path._∙_, Bool.true, Bool.false, List.List, List.[], List._∷_, List._++_, List.append-assoc}
+use mathlib.Core.{Path._≡_, Path.refl, Path.ap, Path._∙_, Path.sym, Bool.Bool, Bool.true, Bool.false, Bool.not, List.List, List.[], List._∷_, List._++_}
+use mathlib.Core.List.{append-assoc, append-nil}
 use Prim.Native.Nat.{ℕ, zero, suc}
 use lib.{Dec.T, Dec.eqb, ListN.getD}
 use mir.Facts.{and-yes, yes-and}
 use borrow.Author.Tests.{eq-eqb, not-true}
-use Rattle.fields.specs.{Tests.by-test, Bytes.Text, Bytes.all, Bytes.Laws.T-true, Bytes.Runs.all-append, Split.Laws.parted, Split.Laws.split-free}
+use Rattle.fields.specs.{Tests.by-test, Bytes.Text, Bytes.all, Bytes.Laws.T-true, Bytes.Laws.apart, Bytes.Runs.all-map, Bytes.Runs.all-append}
+use Rattle.fields.specs.Split.Laws.{parted, split-free}
 use Rattle.fields.specs.Split.{lineFeed, split, joinedBy, butLast, last, lines, behind, unlines, other, noneHas}
 
 module _ (s : ℕ) where
@@ -46,7 +48,16 @@ last-snoc (p ∷ q ∷ ps) l = last-snoc (q ∷ ps) l
 pub lines-unlines : (ls : List Text) → T (noneHas lineFeed ls) → (lines (unlines ls) ≡ ls) × (behind (unlines ls) ≡ [])
 lines-unlines ls h = (ap butLast (split-unlines ls h) ∙ but-last-snoc ls [], ap last (split-unlines ls h) ∙ last-snoc ls [])
 
--- what lacks a byte: each part of a text that does, one of such parts, such parts and others, and what is put together of them
+pub unlines-snoc : (ls : List Text) (l : Text) → unlines (ls ++ (l ∷ [])) ≡ unlines ls ++ (l ++ (lineFeed ∷ []))
+unlines-snoc [] l = append-nil (l ++ (lineFeed ∷ []))
+unlines-snoc (p ∷ ls) l =
+    ap (λ r. (p ++ (lineFeed ∷ [])) ++ r) (unlines-snoc ls l) ∙ sym (append-assoc (p ++ (lineFeed ∷ [])) (unlines ls) (l ++ (lineFeed ∷ [])))
+
+-- what lacks a byte: a text whose bytes pass a test that the byte does not, each part of a text that lacks it, one of such parts, such parts and others, and
+-- what is put together of them
+pub passed-lacks : (f : ℕ → Bool) (t : ℕ) → T (not (f t)) → (x : Text) → T (all f x) → T (all (other t) x)
+passed-lacks f t n = all-map f (other t) (λ b h. rw (apart f b t h n) tt)
+
 pub split-lacks : (s t : ℕ) (x : Text) → T (all (other t) x) → T (noneHas t (split s x))
 split-lacks s t [] h = tt
 split-lacks s t (b ∷ x) h =

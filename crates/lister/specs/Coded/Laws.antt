@@ -1,5 +1,5 @@
 -- How a listing is made: what is said of a cue, the verdicts as bytes, and the lines one behind the other.
-use mathlib.Core.{Bool.true, Bool.cond, List.List, List.[], List._∷_, List._++_, List.map, List.map-append, List.append-assoc, List.append-nil}
+use mathlib.Core.{Bool.true, Bool.cond, List.List, List.[], List._∷_, List._++_, List.map, List.map-append}
 use mathlib.Core.Path.{_≡_, refl, ap, ap₂, sym, subst, _∙_}
 use Prim.Native.Nat.{ℕ, suc, _+_, _-_, _≤_, _<_}
 use native.Mathlib.{Omega.arith, Numerals.add-one}
@@ -9,7 +9,7 @@ use lib.Seq.{take-length, take-suc, take-suc-set, drop-cons, drop-length}
 use borrow.Author.Tests.{eqb-true, eqb-false, le-leb, lt-leb, le-ltb, lt-ltb}
 use Rattle.fields.specs.{Tests.by-test, Bytes.Text, Bytes.sameText, Bytes.Laws.T-true, Limits.maxRow, Limits.maxFile, declared.fault.CueFault.CueFault}
 use Rattle.fields.specs.{declared.split.Heads.Heads, Heads.headsOf, Children.allNames, Bytes.Numeral.digits-length, Heads.Laws.Three, Heads.Laws.more-none}
-use Rattle.fields.specs.Split.{lineFeed, tab, split, lines, unlines, field, part, times, Laws.part-rest}
+use Rattle.fields.specs.Split.{lineFeed, tab, split, lines, unlines, field, part, times, Laws.part-rest, Joined.unlines-snoc}
 use Rattle.fields.specs.Put.{Put, PutWhole, putEnd, putAt, Laws.put-length, Laws.put-fits, Laws.put-then}
 use Rattle.judge.specs.{declared.reading.NamePlace.NamePlace, declared.reading.Names.Names, Reading.partAt, Reading.partsOf}
 use Rattle.judge.specs.Reply.{childrenIn, row, replyBy, rowIn, childrenReply, judgedOf}
@@ -166,11 +166,6 @@ pub coded-set : (s c : Text) (vs : List ℕ) (n : ℕ) {v : ℕ} → n < length 
     → v ≡ codeOf (said (lines s) (getD (lines c) n [])) → CodedUpTo (n + 1) s c (set vs n v)
 coded-set s c vs n o k h e =
     rw (add-one, take-suc-set vs n _ o, take-suc (lines c) n [] k, map-append, map-append, h, e)
-
-unlines-snoc : (ls : List Text) (l : Text) → unlines (ls ++ (l ∷ [])) ≡ unlines ls ++ (l ++ (lineFeed ∷ []))
-unlines-snoc [] l = append-nil (l ++ (lineFeed ∷ []))
-unlines-snoc (p ∷ ls) l =
-    ap (λ r. (p ++ (lineFeed ∷ [])) ++ r) (unlines-snoc ls l) ∙ sym (append-assoc (p ++ (lineFeed ∷ [])) (unlines ls) (l ++ (lineFeed ∷ [])))
 
 -- the bytes of all lines
 pub coded-all : (s c : Text) (codes : List ℕ) {n : ℕ} → CodedUpTo (length (lines c)) s c codes → n ≡ length (lines c)

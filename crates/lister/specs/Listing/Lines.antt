@@ -1,12 +1,13 @@
 -- The lines of a listing as they are printed: a line for each cue, and what the last one says of them.
-use mathlib.Core.{Path._≡_, Path.refl, Path.ap, Path.ap₂, Path._∙_, Bool.true, Bool.not, List.List, List.[], List._∷_, List._++_, List.map}
+use mathlib.Core.{Path._≡_, Path.refl, Path.ap, Path.ap₂, Path._∙_, Bool.true, Bool.not, List.List, List.[], List._∷_, List.map}
 use Prim.Native.Nat.{ℕ, suc, _+_}
 use native.Mathlib.Omega.{arith}
 use lib.{Dec.T, ListN.length, ListN.getD, ListN.length-map}
 use mir.Facts.{and-yes, yes-and}
-use Rattle.fields.specs.Bytes.{Text, bytes, digits, isDigit, isInner, all, Laws.apart, Runs.digit-inner, Runs.all-map, Numeral.all-digits}
+use Rattle.fields.specs.Bytes.{Text, bytes, digits, isInner, all, Numeral.digits-inner}
 use Rattle.fields.specs.Split.{lineFeed, tab, joinedBy, butLast, last, lines, behind, unlines, fields, field, other, noneHas, Laws.split-free}
-use Rattle.fields.specs.Split.Joined.{split-joined, lines-unlines, but-last-snoc, last-snoc, split-lacks, lacks-at, append-lacks, joined-lacks, lines-lack}
+use Rattle.fields.specs.Split.Joined.{split-joined, lines-unlines, but-last-snoc, last-snoc}
+use Rattle.fields.specs.Split.Joined.{passed-lacks, split-lacks, lacks-at, append-lacks, joined-lacks, lines-lack}
 use Rattle.sheet.specs.Cues.{children}
 use Rattle.lister.specs.declared.said.Said.{Said, the-variants.Complete, the-variants.Open, the-variants.Dead, the-variants.NoSheet}
 use Rattle.lister.specs.Listing.{word, listingFields, listingLine, timesAmong, totals, totalLine, said, listingLines, listing, Totals}
@@ -20,14 +21,11 @@ word-inner NoSheet = tt
 -- what is no byte of names stands in no field, unless it stands in a field of the cue line
 module _ (t : ℕ) (n : T (not (isInner t))) where
   inner-lacks : (x : Text) → T (all isInner x) → T (all (other t) x)
-  inner-lacks = all-map isInner (other t) (λ b h. rw (apart isInner b t h n) tt)
-
-  digits-lack : (k : ℕ) → T (all (other t) (digits k))
-  digits-lack k = inner-lacks (digits k) (all-map isDigit isInner digit-inner (digits k) (all-digits k))
+  inner-lacks = passed-lacks isInner t n
 
   numbers-lack : (ns : List ℕ) → T (noneHas t (map digits ns))
   numbers-lack [] = tt
-  numbers-lack (k ∷ ns) = yes-and (all (other t) (digits k)) (noneHas t (map digits ns)) (digits-lack k) (numbers-lack ns)
+  numbers-lack (k ∷ ns) = yes-and (all (other t) (digits k)) (noneHas t (map digits ns)) (inner-lacks (digits k) (digits-inner k)) (numbers-lack ns)
 
   total-lacks : (ws : List Text) → T (noneHas t (bytes "total" ∷ map digits (totals ws)))
   total-lacks ws = yes-and (all (other t) (bytes "total")) (noneHas t (map digits (totals ws))) (inner-lacks (bytes "total") tt) (numbers-lack (totals ws))

@@ -8,7 +8,7 @@ use lib.{Dec.T, Dec.leb, Dec.eqb, ListN.length, ListN.getD, ListN.length-map}
 use mir.Facts.{yes-and}
 use borrow.Author.Tests.{le-ltb}
 use Rattle.fields.specs.{Limits.maxFile, Bytes.Text, Bytes.bytes, Bytes.sameText, Bytes.all, Bytes.Runs.all-append, Children.shortName}
-use Rattle.fields.specs.Split.{lineFeed, tab, lines, behind, unlines, fields, other, noneHas, Joined.split-joined, Joined.lines-unlines}
+use Rattle.fields.specs.Split.{lineFeed, tab, lines, behind, unlines, fields, other, noneHas, Joined.split-joined, Joined.lines-unlines, Joined.passed-lacks}
 use Rattle.model.specs.{Syntax.text, Answer.answer, Answer.answer-is, Fault.accepted}
 use Rattle.sheet.specs.{declared.sheet.SheetFault.SheetFault, declared.sheet.SheetOutcome.SheetOutcome}
 use Rattle.sheet.specs.declared.sheet.SheetFault.the-variants.{ManyRules, BadFields, NoKind, Repeated}
@@ -17,7 +17,7 @@ use Rattle.sheet.specs.Sheet.{maxRules, kind, model, among, modelFault, lineFau
 use Rattle.canonical.specs.{Canonical.canonical, Canonical.Accepted.canonical-formed, Ends.text-accepted, Ends.same-rows, Ends.written-twice}
 use Rattle.tidying.specs.Tidying.{tidyModel, tidyLine, tidyLines, tidySheet, LineKept, Laws.good-sheet}
 use Rattle.tidying.specs.Tidying.Line.{RuleFits, tree-is, kind-named, fields-are}
-use Rattle.tidying.specs.Tidying.Visible.{visible, Visible, name-visible, text-visible, visible-free}
+use Rattle.tidying.specs.Tidying.Visible.{visible, Visible, name-visible, text-visible}
 
 -- the model
 module _ {m : Text} (a : Accepted m) where
@@ -49,10 +49,10 @@ faultOf ks fs =
 
 module _ {l : Text} (r : RuleFits l) where
   kind-free : (s : ℕ) → T (not (visible s)) → T (all (other s) (kind l))
-  kind-free s h = visible-free s h (kind l) (name-visible (kind l) (rw (kind-named r .0) tt))
+  kind-free s h = passed-lacks visible s h (kind l) (name-visible (kind l) (rw (kind-named r .0) tt))
 
   model-free : (s : ℕ) → T (not (visible s)) → T (all (other s) (tidyModel (model l)))
-  model-free s h = visible-free s h (tidyModel (model l)) (model-visible (r .is-accepted))
+  model-free s h = passed-lacks visible s h (tidyModel (model l)) (model-visible (r .is-accepted))
 
   bare-fields : fields (bare l) ≡ bytes "rule" ∷ (kind l ∷ (tidyModel (model l) ∷ []))
   bare-fields =

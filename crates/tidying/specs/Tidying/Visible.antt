@@ -1,5 +1,5 @@
 -- A model text has neither tab nor line feed.
-use mathlib.Core.{Bool.Bool, Bool.not, Bool._&&_, List._++_}
+use mathlib.Core.{Bool.Bool, Bool._&&_, List._++_}
 use Prim.Native.Nat.{ℕ}
 use lib.Dec.{T}
 use Rattle.fields.specs.Bytes.{Text, bytes, isDigit, isInner, isName, isNumeral, all}
@@ -61,7 +61,3 @@ mutual
   more-visible (t ▹ ts) s h =
       all-append visible (signText s) (text t ++ moreText ts s) (sign-visible s)
       (all-append visible (text t) (moreText ts s) (text-visible t (h .0)) (more-visible ts s (h .1)))
-
--- a separator is none of these bytes
-pub visible-free : (s : ℕ) → T (not (visible s)) → (x : Text) → Visible x → T (all (other s) x)
-visible-free s n = all-map visible (other s) (λ b h. rw (apart visible b s h n) tt)
