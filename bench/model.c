@@ -28,7 +28,7 @@ static unsigned read_number(struct reader *r)
 }
 
 /* Also at the end of the text, where the next byte is 0. */
-static bool ends_name(uint8_t byte) { return strchr("[?,|&)", byte) != NULL; }
+static bool ends_name(uint8_t byte) { return strchr("[?!,|&)", byte) != NULL; }
 
 static void read_atom(struct reader *r, struct part *atom)
 {
@@ -69,6 +69,7 @@ static struct part *read_member(struct reader *r)
     else
         read_atom(r, me);
     me->optional = skip(r, '?');
+    me->nonempty = skip(r, '!');
     return me;
 }
 

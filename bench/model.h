@@ -11,7 +11,7 @@ enum { MOST_PARTS = 128, NO_END = 0 };
 /* A member of the model, and the model itself. */
 struct part {
     char sign; /* `,`, `|` or `&`; of `()` and of a group of one `,`; of an atom 0 */
-    bool optional;
+    bool optional, nonempty; /* marked with `?`, with `!` */
     struct bytes name;         /* of an atom */
     unsigned min, max;         /* of an atom; max may be NO_END */
     struct part *first, *next; /* first member and next sibling, or null */

@@ -209,6 +209,19 @@ static void choice_of_64(struct row *row)
     add_child(row, WORDS.name[NAMES - 1]);
 }
 
+/* Four names in each sequence; the children are those of the last one. */
+static void nonempty_sequences(struct row *row)
+{
+    for (int i = 0; i < NAMES; i++) {
+        put(&row->model, i == 0 ? "((" : i % 4 == 0 ? ")!|(" : ",");
+        put(&row->model, WORDS.name[i]);
+        put(&row->model, "?");
+        if (i >= NAMES - 4)
+            add_child(row, WORDS.name[i]);
+    }
+    put(&row->model, ")!)");
+}
+
 static void one_name(struct row *row)
 {
     put(&row->model, "hold[1..*]");
@@ -322,6 +335,7 @@ static const struct {
     {"interleaving of 64, reverse order", 0, interleaving_of_64},
     {"sequence of 64 optional names", 0, optional_sequence},
     {"choice of 64", 0, choice_of_64},
+    {"choice of 16 optional sequences with !", 0, nonempty_sequences},
     {"one name 4,096 times", 0, one_name},
     {"64 names 4,096 times", 0, many_names},
     {"4,096 children, dead at the last", 2, dead_at_last},

@@ -11,7 +11,7 @@ enum {
 static const char EXAMPLE[] = "(axis,target,(crawl&gather)?,hold[0..2])";
 static const char SHORT[] = "name", LONG[] = "fly-tower-upstage-winch-motor-";
 
-/* ---- one group of 64 names: a beginning, then 01 to 64 ---- */
+/* ---- 64 names: a beginning, then 01 to 64 ---- */
 
 typedef int place_of(int i);
 
@@ -19,17 +19,22 @@ static int rising(int i) { return i; }
 static int falling(int i) { return NAMES - 1 - i; }
 static int shuffled(int i) { return (i * 37 + 11) % NAMES; }
 
-/* Each with the same count or mark behind it. */
+static void put_name(struct row *row, const char *beginning, int place, const char *behind)
+{
+    char number[8];
+    snprintf(number, sizeof number, "%02d", place + 1);
+    put(&row->model, beginning);
+    put(&row->model, number);
+    put(&row->model, behind);
+}
+
+/* In one group, each with the same count or mark behind it. */
 static void group(struct row *row, const char *sign, const char *beginning, place_of *place,
                   const char *behind)
 {
     for (int i = 0; i < NAMES; i++) {
-        char number[8];
-        snprintf(number, sizeof number, "%02d", place(i) + 1);
         put(&row->model, i == 0 ? "(" : sign);
-        put(&row->model, beginning);
-        put(&row->model, number);
-        put(&row->model, behind);
+        put_name(row, beginning, place(i), behind);
     }
     put(&row->model, ")");
 }
@@ -42,6 +47,16 @@ static void long_in_disorder(struct row *row) { group(row, "&", LONG, shuffled, 
 
 /* Every mark goes to the choice, and every count is written otherwise. */
 static void optional_choice(struct row *row) { group(row, "|", SHORT, shuffled, "[0..9]"); }
+
+/* Four names in each sequence, which gets `!`; the choice gets `?`. */
+static void optional_sequences(struct row *row)
+{
+    for (int i = 0; i < NAMES; i++) {
+        put(&row->model, i == 0 ? "((" : i % 4 == 0 ? ")|(" : ",");
+        put_name(row, SHORT, shuffled(i), "?");
+    }
+    put(&row->model, "))");
+}
 
 /* Nothing to sort. */
 static void sequence(struct row *row) { group(row, ",", SHORT, falling, "?"); }
@@ -77,6 +92,7 @@ static const struct {
     {"40 brackets round the example's model", brackets},
     {"sequence of 64 optional names", sequence},
     {"choice of 64 optional names, shuffled", optional_choice},
+    {"choice of 16 optional sequences", optional_sequences},
     {"name01 to name64, in order", in_order},
     {"name01 to name64, shuffled", in_disorder},
     {"name01 to name64, falling", in_falling_order},

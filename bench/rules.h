@@ -4,7 +4,7 @@
 
 #include "rows.h"
 
-enum { RULES = 11, TEXT_BYTES = 4096 };
+enum { RULES = 12, TEXT_BYTES = 4096 };
 
 /* Model i, from 0, as a row without children. */
 void make_rule(struct row *row, int i);

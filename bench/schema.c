@@ -22,6 +22,17 @@ static void close_tag(struct text *to, const char *tag)
     put(to, ">");
 }
 
+/* ---- marks ---- */
+
+/* Neither language has a word for `!`. */
+static bool has_nonempty(const struct model *model)
+{
+    for (int i = 0; i < model->parts; i++)
+        if (model->part[i].nonempty)
+            return true;
+    return false;
+}
+
 /* ---- RELAX NG ---- */
 
 static void relax_ng_element(struct text *to, struct bytes name, unsigned times)
@@ -88,7 +99,7 @@ static bool relax_ng_part(struct text *to, const struct part *part)
 bool write_relax_ng(const struct model *model, struct text *schema)
 {
     begin(schema, "<element name='row' xmlns='http://relaxng.org/ns/structure/1.0'>");
-    if (!relax_ng_part(schema, model->part))
+    if (has_nonempty(model) || !relax_ng_part(schema, model->part))
         return false;
     put(schema, "</element>");
     return true;
@@ -166,7 +177,7 @@ bool write_xsd(const struct model *model, struct text *schema)
 {
     begin(schema, "<xs:schema xmlns:xs='http://www.w3.org/2001/XMLSchema'>"
                   "<xs:complexType name='none'/><xs:element name='row'><xs:complexType>");
-    if (!xsd_whole(schema, model->part))
+    if (has_nonempty(model) || !xsd_whole(schema, model->part))
         return false;
     put(schema, "</xs:complexType></xs:element></xs:schema>");
     return true;

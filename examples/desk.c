@@ -34,6 +34,7 @@ static const char *in_words(uint32_t answer)
     case 15: return "refused: the model has over 64 atoms";
     case 16: return "refused: the model has over 128 nodes";
     case 17: return "refused: a name stands twice in the model";
+    case 18: return "refused: a ! in the model stands behind a member without names";
     case 19: return "refused: over 64 round brackets are open at once";
     case 30: return "refused: the children are over 65,535 bytes";
     case 35: return "refused: a child is no name of 1 to 32 characters";

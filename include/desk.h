@@ -2,11 +2,13 @@
    first child that is foreign or one too many, and writes a model in the one way that there is for
    it. Link with libdesk.a (rt staticlib desk).
 
-   A model text is one member: `(axis,target,(crawl&gather)?,hold[0..2])`. A children text is names
-   parted by tabs; no bytes mean no children, and then the pointer may be null. A name begins with a
-   letter, A to Z or a to z, or an underscore and goes on with letters, digits, `-`, `_`, `.` and
-   `:`; it has at most 32 characters, and case counts. Texts are bytes with a length, not ended by a
-   zero. They are not written, and nothing is kept from call to call.
+   A model text is one member: `(axis,target,(crawl&gather)?,hold[0..2])`. A member may have a mark
+   behind it, `?` or `!`: with `?` it also holds the empty row, with `!` it does not, so that
+   `(a?,b?)!` holds a, b and a b. A children text is names parted by tabs; no bytes mean no
+   children, and then the pointer may be null. A name begins with a letter, A to Z or a to z, or an
+   underscore and goes on with letters, digits, `-`, `_`, `.` and `:`; it has at most 32 characters,
+   and case counts. Texts are bytes with a length, not ended by a zero. They are not written, and
+   nothing is kept from call to call.
 
    desk_judge writes nothing.
 
@@ -23,6 +25,7 @@
        15      over 64 atoms
        16      over 128 nodes
        17      a name written before
+       18      a `!` whose member has no atom
        19      over 64 round brackets open at once
    The model text is good and the children text is refused:
        30      over 65,535 bytes
@@ -33,11 +36,12 @@
    number. The place of 14 is the end of the text, so it comes last. Of 30, 35 and 36 the smallest
    number wins.
 
-   Flattening goes from the inside out: `()` is dropped from every group, and marks a choice with
-   `?`; a group of one gives way to its member, which gets the group's `?`; a group without `?`
-   inside a group of the same sign joins it. A group left without members is `()`, and so is `()?`.
-   So there is no group around a in `((((a))))`, one in `((a,b),c)`, and there are two in
-   `((a,b)?,c)` and in `((a|b|())|c)`. Atoms and nodes are counted as written.
+   Flattening goes from the inside out: `()` is dropped from every group, and marks a choice that
+   has no mark with `?`; a group of one gives way to its member, and its mark, if it has one, takes
+   the place of the member's; a group without a mark inside a group of the same sign joins it. A
+   group left without members is `()`, and so is `()?`. So there is no group around a in
+   `((((a))))`, one in `((a,b),c)`, and there are two in `((a,b)?,c)`, `((a,b)!,c)` and
+   `((a|b|())|c)`. Atoms and nodes are counted as written.
 
    desk_next lists the names that may come next behind the children: those whose addition would
    leave the row complete or open. It writes their numbers into the row that it is lent, from the
@@ -71,12 +75,15 @@
    DESK_REFUSED + n   nothing is written: n is a refusal from 10 to 19 above, else
                   51  the text is longer than the buffer
 
-   The model is flattened as above, and on the way, from the inside out: `[1..1]` is left
-   out, `[0..1]` is written `?`, and `[0..n]` is written `[1..n]?`; a `?` on a member of a choice
-   moves to the choice; and a group that holds the empty row without its `?` loses it, before it is
-   asked whether the group joins another. Then the members of every `|` and `&` are put in the order
-   of their smallest names: byte order, a name before one that it begins. A model without names is
-   `()`. So `((a?,b?)?,c)` is written `(a?,b?,c)`, and `((c[0..1]|b)|a)` is written `(a|b|c)?`. */
+   The model is flattened as above, and on the way, from the inside out: `[1..1]` is left out,
+   `[0..1]` is written `?`, `[0..n]` is written `[1..n]?`, and `[0..n]!` is written `[1..n]`; a
+   member of a choice is written without the empty row: one that holds it gets `!` or loses its `?`,
+   and the choice gets `?` if it has no mark; and a mark that changes nothing is dropped, `?` from a
+   group that holds the empty row without it, `!` from a member that does not, before it is asked
+   whether the group joins another. Then the members of every `|` and `&` are put in the order of
+   their smallest names: byte order, a name before one that it begins. A model without names is
+   `()`. So `((a?,b?)?,c)` is written `(a?,b?,c)`, `((c[0..1]|b)|a)` is written `(a|b|c)?`,
+   `((a?,b?)|c)` is written `((a?,b?)!|c)?`, and `((a?,b?)|c)!` is written `((a?,b?)!|c)`. */
 #ifndef DESK_H
 #define DESK_H
 

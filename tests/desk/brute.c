@@ -7,9 +7,9 @@
    Depth: the text is flattened by one small change after the other, in the words of document 02,
    W3, until no group is left to change; then brackets are counted.
 
-   Verdict: the model as a type of document 001, derived (Brzozowski) by each child in turn. Two
-   further ways must agree on small inputs: membership by definition 2.1 word for word, and a search
-   through derived types for a longer row.
+   Verdict: the model as a type of document 001, with T! of document 002, derived (Brzozowski) by
+   each child in turn. Two further ways must agree on small inputs: membership by definition 2.1
+   word for word, and a search through derived types for a longer row.
 
    Next names: the verdict on the row with each name behind it.
 
@@ -32,16 +32,16 @@ static void *grown(void *block, size_t bytes)
 
 /* ---- the grammar ---- */
 
-/* Upper case letters are nonterminals, M the model; @ is a letter or an underscore, # a digit, ! a
+/* Upper case letters are nonterminals, M the model; @ is a letter or an underscore, # a digit, % a
    digit but 0. */
 static const struct production {
     char left;
     const char *right;
 } GRAMMAR[] = {
-    {'M', "A"}, {'M', "A?"}, {'M', "G"}, {'M', "G?"},
+    {'M', "A"}, {'M', "A?"}, {'M', "A!"}, {'M', "G"}, {'M', "G?"}, {'M', "G!"},
     {'A', "N"}, {'A', "N[D..D]"}, {'A', "N[D..*]"},
     {'N', "@"}, {'N', "N@"}, {'N', "N#"}, {'N', "N-"}, {'N', "N."}, {'N', "N:"},
-    {'D', "0"}, {'D', "P"}, {'P', "!"}, {'P', "P#"},
+    {'D', "0"}, {'D', "P"}, {'P', "%"}, {'P', "P#"},
     {'G', "()"}, {'G', "(M)"}, {'G', "(S)"}, {'G', "(C)"}, {'G', "(I)"},
     {'S', "M,M"}, {'S', "S,M"},
     {'C', "M|M"}, {'C', "C|M"},
@@ -58,7 +58,7 @@ static bool matches(char symbol, uint8_t byte)
     switch (symbol) {
     case '@': return isalpha(byte) || byte == '_';
     case '#': return byte >= '0' && byte <= '9';
-    case '!': return byte >= '1' && byte <= '9';
+    case '%': return byte >= '1' && byte <= '9';
     default: return !is_nonterminal(symbol) && byte == (uint8_t)symbol;
     }
 }
@@ -257,6 +257,25 @@ static bool written_before(const uint8_t *text, size_t len, const struct spellin
     return false;
 }
 
+/* Where the group that this bracket closes begins. */
+static size_t group_begin(const uint8_t *text, size_t close)
+{
+    size_t p = close;
+    for (size_t open = 1; open > 0;) {
+        p--;
+        open += text[p] == ')';
+        open -= text[p] == '(';
+    }
+    return p;
+}
+
+/* Does the member that ends before this place have no atom? */
+static bool is_atomless(const uint8_t *text, const struct spelling *s, size_t end)
+{
+    return text[end - 1] == ')'
+           && how_many(s->name_at, end) == how_many(s->name_at, group_begin(text, end - 1));
+}
+
 /* Does this refusal of the table, 12 to 19 but for 14, stand at this place? */
 static bool stands(uint32_t number, const uint8_t *text, size_t len, const struct spelling *s,
                    size_t p)
@@ -267,6 +286,7 @@ static bool stands(uint32_t number, const uint8_t *text, size_t len, const struc
     case 15: return s->name_at[p] && how_many(s->name_at, p + 1) > 64;
     case 16: return s->node_at[p] && how_many(s->node_at, p + 1) > 128;
     case 17: return s->name_at[p] && written_before(text, len, s, p);
+    case 18: return text[p] == '!' && is_atomless(text, s, p);
     case 19: return text[p] == '('
                     && how_many_bytes(text, p + 1, '(') > 64 + how_many_bytes(text, p, ')');
     default: return false;
@@ -303,6 +323,8 @@ struct group {
     bool marked;
 };
 
+static bool is_mark(uint8_t byte) { return byte == '?' || byte == '!'; }
+
 /* How long the atom at this place is, with count and mark; 0 where there is none. */
 static size_t atom_length(const uint8_t *text, size_t len, size_t place)
 {
@@ -310,7 +332,7 @@ static size_t atom_length(const uint8_t *text, size_t len, size_t place)
     if (n != 0 && end < len && text[end] == '[')
         while (text[end++] != ']')
             ;
-    if (n != 0 && end < len && text[end] == '?')
+    if (n != 0 && end < len && is_mark(text[end]))
         end++;
     return end - place;
 }
@@ -332,7 +354,7 @@ static void cut(struct shape *s, size_t at, size_t n)
     memmove(s->text + at, s->text + at + n, s->len - at);
 }
 
-/* Puts a mark behind this bracket; there is room for it where something was cut. */
+/* Puts a `?` behind this bracket; there is room for it where something was cut. */
 static void mark(struct shape *s, size_t bracket)
 {
     memmove(s->text + bracket + 2, s->text + bracket + 1, s->len - bracket - 1);
@@ -356,11 +378,11 @@ static bool innermost(const struct shape *s, struct group *g)
     while (s->text[g->open] != '(')
         g->open--;
     g->sign = sign_of(s, g->open, g->close);
-    g->marked = g->close + 1 < s->len && s->text[g->close + 1] == '?';
+    g->marked = g->close + 1 < s->len && is_mark(s->text[g->close + 1]);
     return true;
 }
 
-/* A member `()` goes, and a sign beside it if there is one; it marks a choice. */
+/* A member `()` goes, and a sign beside it if there is one; it marks a choice that has no mark. */
 static bool drop_empty(struct shape *s, struct group g)
 {
     for (size_t at = g.open + 1, n; at < g.close; at += n + 1) {
@@ -376,7 +398,7 @@ static bool drop_empty(struct shape *s, struct group g)
     return false;
 }
 
-/* A group without members is `()`, and so is `()?`. */
+/* A group without members is `()`, and no mark stays on it. */
 static bool finish_empty(struct shape *s, struct group g)
 {
     if (g.close != g.open + 1)
@@ -392,7 +414,7 @@ static bool dissolve(struct shape *s, struct group g)
 {
     if (g.sign != ')')
         return false;
-    size_t lost = g.marked && s->text[g.close - 1] == '?' ? 2 : 1;
+    size_t lost = g.marked && is_mark(s->text[g.close - 1]) ? 2 : 1;
     cut(s, g.close + 1 - lost, lost);
     cut(s, g.open, 1);
     return true;
@@ -466,15 +488,16 @@ uint32_t brute_model(const uint8_t *text, size_t len, size_t *place)
 
 /* ---- types of 001, and the further ones that derivation makes ---- */
 
-enum op { NONE, EMPTY_ROW, ATOM, CHOICE, SEQUENCE, SHUFFLE };
+enum op { NONE, EMPTY_ROW, ATOM, CHOICE, SEQUENCE, SHUFFLE, LONGER };
 
 struct type {
     enum op op;
     size_t name;
     long min, max; /* of an atom; max -1: no upper end */
-    const struct type *left, *right;
-    struct type *next; /* in its bucket */
-    bool seen;         /* by the search under way */
+    const struct type *left, *right; /* of T!, which is LONGER, T is on the left */
+    struct type *next;               /* in its bucket */
+    bool some, longer;               /* holds a row; holds one that is not empty */
+    bool seen;                       /* by the search under way */
 };
 
 /* All types of one call; equal ones are made once. */
@@ -482,6 +505,32 @@ enum { BUCKETS = 4096 };
 struct pool {
     struct type *bucket[BUCKETS];
 };
+
+/* Fills in `some` and `longer`; an atom's upper count is never 0. */
+static void survey(struct type *t)
+{
+    switch (t->op) {
+    case NONE:
+        break;
+    case EMPTY_ROW:
+        t->some = true;
+        break;
+    case ATOM:
+        t->some = t->longer = true;
+        break;
+    case CHOICE:
+        t->some = t->left->some || t->right->some;
+        t->longer = t->left->longer || t->right->longer;
+        break;
+    case SEQUENCE:
+    case SHUFFLE:
+        t->some = t->left->some && t->right->some;
+        t->longer = t->some && (t->left->longer || t->right->longer);
+        break;
+    case LONGER:
+        t->some = t->longer = t->left->longer;
+    }
+}
 
 static const struct type *make(struct pool *pool, struct type t)
 {
@@ -494,6 +543,7 @@ static const struct type *make(struct pool *pool, struct type t)
             return old;
     struct type *type = grown(NULL, sizeof *type);
     *type = t;
+    survey(type);
     type->next = *bucket;
     *bucket = type;
     return type;
@@ -584,11 +634,13 @@ static const struct type *type_of(struct model *model, const uint8_t *text, size
     if (text[len - 1] == '?')
         return pair(model->pool, CHOICE, leaf(model->pool, EMPTY_ROW),
                     type_of(model, text, len - 1));
+    if (text[len - 1] == '!')
+        return pair(model->pool, LONGER, type_of(model, text, len - 1), NULL);
     return text[0] == '(' ? type_of_members(model, text + 1, len - 2)
                           : type_of_atom(model, text, len);
 }
 
-/* ---- membership, definition 2.1 of 001 word for word ---- */
+/* ---- membership, definition 2.1 of 001 word for word, and 002's T! ---- */
 
 enum { SHORT = 8, FOREIGN = 64 };
 
@@ -636,6 +688,7 @@ static bool holds(const struct type *t, const uint8_t *row, size_t n)
     case CHOICE: return holds(t->left, row, n) || holds(t->right, row, n);
     case SEQUENCE: return holds_sequence(t, row, n);
     case SHUFFLE: return holds_shuffle(t, row, n);
+    case LONGER: return n > 0 && holds(t->left, row, n);
     default: return false;
     }
 }
@@ -656,16 +709,7 @@ static bool nullable(const struct type *t)
 }
 
 /* Does the type hold no row at all? */
-static bool barren(const struct type *t)
-{
-    switch (t->op) {
-    case NONE: return true;
-    case CHOICE: return barren(t->left) && barren(t->right);
-    case SEQUENCE:
-    case SHUFFLE: return barren(t->left) || barren(t->right);
-    default: return false;
-    }
-}
+static bool barren(const struct type *t) { return !t->some; }
 
 /* The choice of two, or the other where one holds nothing. */
 static const struct type *either(struct pool *pool, const struct type *x, const struct type *y)
@@ -700,6 +744,8 @@ static const struct type *derive(struct pool *pool, const struct type *t, size_t
         return derive_atom(pool, t, name);
     if (t->op == NONE || t->op == EMPTY_ROW)
         return leaf(pool, NONE);
+    if (t->op == LONGER)
+        return derive(pool, t->left, name);
     const struct type *left = derive(pool, t->left, name);
     const struct type *right = derive(pool, t->right, name);
     if (t->op == CHOICE)

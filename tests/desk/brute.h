@@ -11,7 +11,7 @@ enum { BRUTE_SPLIT = 99 };
 /* No canonical text is longer. */
 enum { BRUTE_ROOM = 4096 };
 
-/* 0 for a model text, or its refusal, 10 to 17 or 19, with its place in *place. */
+/* 0 for a model text, or its refusal, 10 to 19, with its place in *place. */
 uint32_t brute_model(const uint8_t *text, size_t len, size_t *place);
 
 /* The answer that desk_judge has to give, or BRUTE_SPLIT. */

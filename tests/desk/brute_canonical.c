@@ -1,6 +1,6 @@
 /* The canonical text of a model, slowly: the model as a tree, changed by one rule at one place at a
-   time, in the words of document 02, W3 and W4, until no rule fits anywhere; then its members are
-   put in order, and it is written.
+   time, in the words of document 02, W3, W4 and W7, until no rule fits anywhere; then its members
+   are put in order, and it is written.
 
    Which rule comes first, and where, must not matter: every text is made twice, from the inside out
    with the rules in one order, and from the outside in with the rules in the other. */
@@ -22,7 +22,7 @@ struct piece {
 /* A member of the model, and the model itself. */
 struct part {
     char sign; /* `a` for an atom; blank for a group that is written with under two members */
-    bool marked;
+    char mark; /* `?`, `!`, or 0 for none */
     struct piece name, min, max; /* of an atom; no min: it has no count */
     struct part *first, *next;   /* first member and next sibling, or null */
 };
@@ -61,6 +61,8 @@ static bool skip(struct source *s, char byte)
     return true;
 }
 
+static char take_mark(struct source *s) { return skip(s, '?') ? '?' : skip(s, '!') ? '!' : 0; }
+
 static struct part *grow(struct source *s);
 
 static void grow_members(struct source *s, struct part *group)
@@ -83,7 +85,7 @@ static struct part *grow(struct source *s)
     if (skip(s, '(')) {
         grow_members(s, p);
     } else {
-        p->name = take(s, "[?,|&)");
+        p->name = take(s, "[?!,|&)");
         if (skip(s, '[')) {
             p->min = take(s, ".");
             s->at += 2;
@@ -91,7 +93,7 @@ static struct part *grow(struct source *s)
             s->at++;
         }
     }
-    p->marked = skip(s, '?');
+    p->mark = take_mark(s);
     return p;
 }
 
@@ -99,13 +101,14 @@ static struct part *grow(struct source *s)
 
 static const uint8_t ONE[] = "1";
 
-/* `[0..n]` is `[1..n]?`. */
+/* `[0..n]` is `[1..n]?`, and `[0..n]!` is `[1..n]!`. */
 static bool count_from_one(struct part *p)
 {
     if (!is(p->min, "0"))
         return false;
     p->min = (struct piece){ONE, 1};
-    p->marked = true;
+    if (p->mark == 0)
+        p->mark = '?';
     return true;
 }
 
@@ -118,13 +121,14 @@ static bool leave_out_count(struct part *p)
     return true;
 }
 
-/* `()` is dropped from a group; a choice is marked. */
+/* `()` is dropped from a group; a choice without a mark gets `?`. */
 static bool drop_empty(struct part *p)
 {
     for (struct part **m = &p->first; *m != NULL; m = &(*m)->next)
         if (is_empty(*m)) {
             *m = (*m)->next;
-            p->marked |= p->sign == '|';
+            if (p->sign == '|' && p->mark == 0)
+                p->mark = '?';
             return true;
         }
     return false;
@@ -133,21 +137,22 @@ static bool drop_empty(struct part *p)
 /* `()?` is `()`. */
 static bool unmark_empty(struct part *p)
 {
-    if (!is_empty(p) || !p->marked)
+    if (!is_empty(p) || p->mark == 0)
         return false;
-    p->marked = false;
+    p->mark = 0;
     return true;
 }
 
-/* A group of one dissolves; a mark on it passes to its member. */
+/* A group of one dissolves; a mark on it takes the place of its member's. */
 static bool dissolve(struct part *p)
 {
     if (!is_single(p))
         return false;
     struct part *next = p->next;
-    bool marked = p->marked;
+    char mark = p->mark;
     *p = *p->first;
-    p->marked |= marked;
+    if (mark != 0)
+        p->mark = mark;
     p->next = next;
     return true;
 }
@@ -156,26 +161,12 @@ static bool dissolve(struct part *p)
 static bool join(struct part *p)
 {
     for (struct part **m = &p->first; *m != NULL; m = &(*m)->next)
-        if ((*m)->sign == p->sign && !(*m)->marked && (*m)->first != NULL) {
+        if ((*m)->sign == p->sign && (*m)->mark == 0 && (*m)->first != NULL) {
             struct part *behind = (*m)->next;
             *m = (*m)->first;
             while (*m != NULL)
                 m = &(*m)->next;
             *m = behind;
-            return true;
-        }
-    return false;
-}
-
-/* A `?` on a choice's member is moved to the choice. */
-static bool move_mark(struct part *p)
-{
-    if (p->sign != '|')
-        return false;
-    for (struct part *m = p->first; m != NULL; m = m->next)
-        if (m->marked) {
-            m->marked = false;
-            p->marked = true;
             return true;
         }
     return false;
@@ -199,21 +190,50 @@ static bool holds_without_mark(const struct part *p)
     return p->sign == '|' ? some : each;
 }
 
-static bool holds_empty_row(const struct part *p) { return p->marked || holds_without_mark(p); }
+static bool holds_empty_row(const struct part *p)
+{
+    return p->mark == '?' || (p->mark == 0 && holds_without_mark(p));
+}
 
-/* `?` is dropped from a group that holds the empty row without it. */
+static bool has_atom(const struct part *p)
+{
+    bool has = is_atom(p);
+    for (const struct part *m = p->first; m != NULL; m = m->next)
+        has |= has_atom(m);
+    return has;
+}
+
+/* A choice's member is written without the empty row: one that holds it gets `!`, and the choice
+   gets `?` if it has no mark. What is `()` in the end is left for another rule. */
+static bool move_empty_row(struct part *p)
+{
+    if (p->sign != '|')
+        return false;
+    for (struct part *m = p->first; m != NULL; m = m->next)
+        if (holds_empty_row(m) && has_atom(m)) {
+            m->mark = '!';
+            if (p->mark == 0)
+                p->mark = '?';
+            return true;
+        }
+    return false;
+}
+
+/* `?` is dropped from a group that holds the empty row without it, `!` from what does not. */
 static bool drop_mark(struct part *p)
 {
-    if (is_atom(p) || !p->marked || !holds_without_mark(p))
+    bool holds = holds_without_mark(p);
+    if (!(p->mark == '?' && holds && !is_atom(p)) && !(p->mark == '!' && !holds))
         return false;
-    p->marked = false;
+    p->mark = 0;
     return true;
 }
 
 typedef bool rule(struct part *p);
 
 static rule *const RULES[] = {
-    count_from_one, leave_out_count, drop_empty, unmark_empty, dissolve, join, move_mark, drop_mark,
+    count_from_one, leave_out_count, drop_empty, unmark_empty, dissolve, join, move_empty_row,
+    drop_mark,
 };
 
 enum { MANY_RULES = sizeof RULES / sizeof RULES[0] };
@@ -328,8 +348,8 @@ static void put_part(struct target *t, const struct part *p)
         }
         put_byte(t, ')');
     }
-    if (p->marked)
-        put_byte(t, '?');
+    if (p->mark != 0)
+        put_byte(t, p->mark);
 }
 
 /* ---- the whole ---- */

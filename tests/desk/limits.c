@@ -22,7 +22,7 @@ static void try_sizes(try_call *f, struct report *to)
     } FORMS[] = {
         {"", "a", ""},       {"", "%", ""},      {"a", "?", ""},       {"", "(", ""},
         {"a[1..", "1", "]"}, {"a[1..", "1", ""}, {"a[", "1", "..*]"},  {"a[", "9", "..2%"},
-        {"(a", ",", ""},     {"(", "()", ""},
+        {"(a", ",", ""},     {"(", "()", ""},    {"a", "!", ""},       {"(", "()!", ""},
     };
     static const size_t SIZES[] = {1, 2, 3, 7, 4094, 4095, 4096, 4097, 4098, 65536};
     f(to, (struct call){NO_BYTES, NO_BYTES});
@@ -41,7 +41,7 @@ static void try_sizes(try_call *f, struct report *to)
 static void try_names(try_call *f, struct report *to)
 {
     static const char *const FRONTS[] = {"", "(", "(a,", "((b|c),"};
-    static const char *const ENDS[] = {"", "%", ")", "?", "[1..2])", "[2..1])", ",a)", "-"};
+    static const char *const ENDS[] = {"", "%", ")", "?", "!", "[1..2])", "[2..1])", ",a)", "-"};
     for (size_t len = 31; len <= 34; len++)
         for (size_t i = 0; i < LENGTH(FRONTS); i++)
             for (size_t k = 0; k < LENGTH(ENDS); k++) {
@@ -98,7 +98,7 @@ static void try_middles(try_call *f, struct report *to, struct chain c)
 {
     static const char *const MIDDLES[] = {
         "a", "()", "()?", "(a,b)", "(a|b)", "(a&b)?", "((a|b|())|c)", "(()|(a,b))", "((),(a,b))",
-        "n0", "(a", "a)", "a[2..1]",
+        "n0", "(a", "a)", "a[2..1]", "(a&b)!", "((a|b|())!|c)", "(()|(a,b))!", "()!",
     };
     for (c.groups = 15; c.groups <= 18; c.groups++)
         for (size_t i = 0; i < LENGTH(MIDDLES); i++) {
@@ -123,6 +123,8 @@ static void try_depth(try_call *f, struct report *to)
                 try_middles(f, to, c);
                 c.behind = "?";
                 try_middles(f, to, c);
+                c.behind = "!";
+                try_middles(f, to, c);
             }
 }
 
@@ -143,12 +145,35 @@ static void put_wide(struct text *t, size_t atoms, size_t groups, const char *si
     put(t, ")");
 }
 
+/* A mark behind members with and without atoms, and what stands behind it. */
+static void try_marks(try_call *f, struct report *to)
+{
+    static const char *const FRONTS[] = {"", "(", "(b|", "(()!,", "((),"};
+    static const char *const MEMBERS[] = {
+        "a", "a[0..2]", "()", "(a)", "(())", "((),())", "(()|())", "(()|a)", "(a,b)", "(a?,b?)",
+        "((a?,b?)|c)", "((a?&b?)!|c?)", "((()&())|(a?))",
+    };
+    static const char *const MARKS[] = {"", "?", "!", "??", "?!", "!?", "!!"};
+    static const char *const ENDS[] = {"", ")", ")!", "|b", ",d)", "|d)!", "&d)?", "%"};
+    for (size_t i = 0; i < LENGTH(FRONTS); i++)
+        for (size_t k = 0; k < LENGTH(MEMBERS); k++)
+            for (size_t m = 0; m < LENGTH(MARKS); m++)
+                for (size_t e = 0; e < LENGTH(ENDS); e++) {
+                    static struct text model;
+                    begin(&model, FRONTS[i]);
+                    put(&model, MEMBERS[k]);
+                    put(&model, MARKS[m]);
+                    put(&model, ENDS[e]);
+                    try_model(f, to, written(&model));
+                }
+}
+
 /* Atoms around 64 and nodes around 128, the last one wrong in further ways or not. */
 static void try_width(try_call *f, struct report *to)
 {
     static const char *const LASTS[] = {
         "a", "()", "n0", "n0%", "a[2..1]", "(a)", "((b))", "xxxxxxxxxxxxxxxxxxxxxxxxxxxxxxxxx",
-        "((((((((((((((((a))))))))))))))))", "", "%", "(b&c)?", "b?",
+        "((((((((((((((((a))))))))))))))))", "", "%", "(b&c)?", "b?", "()!", "(b?,c?)!",
     };
     static const size_t NODES[] = {2, 64, 112, 113, 114, 126, 127, 128, 129};
     for (size_t atoms = 61; atoms <= 65; atoms++)
@@ -170,7 +195,7 @@ static void try_counts(try_call *f, struct report *to)
         "18446744073709551615", "18446744073709551616", "18446744073709551617", "*", "",
         "10000000000000000000000000000000000000000",
     };
-    static const char *const ENDS[] = {"]", "", "%", "]?", "]]", "]?%", ".]"};
+    static const char *const ENDS[] = {"]", "", "%", "]?", "]]", "]?%", ".]", "]!", "]?!"};
     for (size_t m = 0; m < LENGTH(NUMBERS); m++)
         for (size_t n = 0; n < LENGTH(NUMBERS); n++)
             for (size_t k = 0; k < LENGTH(ENDS); k++) {
@@ -184,6 +209,13 @@ static void try_counts(try_call *f, struct report *to)
             }
 }
 
+static void put_long_name(struct text *t, size_t k)
+{
+    char name[40];
+    snprintf(name, sizeof name, "the-name-with-the-number-%07zu", k);
+    put(t, name);
+}
+
 /* The longest text that is accepted: 64 names of 32 with the longest counts, 64 marked groups. */
 static void try_longest(try_call *f, struct report *to)
 {
@@ -191,14 +223,32 @@ static void try_longest(try_call *f, struct report *to)
     begin(&model, "(");
     put_times(&model, "()?,", 63);
     for (size_t k = 0; k < 64; k++) {
-        char name[40];
-        snprintf(name, sizeof name, "%sthe-name-with-the-number-%07zu", k == 0 ? "" : ",", k);
-        put(&model, name);
+        put(&model, k == 0 ? "" : ",");
+        put_long_name(&model, k);
         put(&model, "[60000..60000]?");
     }
     put(&model, ")?");
     try_model(f, to, written(&model));
     put(&model, "?");
+    try_model(f, to, written(&model));
+}
+
+/* A long canonical text that is longer than its model: every name gets a `?`, every pair a `!`, and
+   the choice a `?`. */
+static void try_longer(try_call *f, struct report *to)
+{
+    static struct text model;
+    begin(&model, "(");
+    for (size_t k = 0; k < 64; k += 2) {
+        put(&model, k == 0 ? "(" : "|(");
+        put_long_name(&model, k);
+        put(&model, "[0..60000],");
+        put_long_name(&model, k + 1);
+        put(&model, "[0..60000])");
+    }
+    put(&model, ")");
+    try_model(f, to, written(&model));
+    put(&model, "!");
     try_model(f, to, written(&model));
 }
 
@@ -311,9 +361,11 @@ void try_limits(try_call *f, struct report *to)
     try_bytes(f, to);
     try_brackets(f, to);
     try_depth(f, to);
+    try_marks(f, to);
     try_width(f, to);
     try_counts(f, to);
     try_longest(f, to);
+    try_longer(f, to);
     try_many_children(f, to);
     try_long_children(f, to);
     try_odd_children(f, to);

@@ -13,7 +13,8 @@ enum { MEMBERS = 4000, NAMES = 64, FEW = 10, ROW = 4200, NAME_ROOM = 36 };
 
 struct member {
     char sign; /* of a group; 'a' for an atom */
-    bool optional, counted;
+    char mark; /* `?`, `!`, or 0 for none */
+    bool counted;
     unsigned min, max; /* max 0: no upper end */
     size_t name;
     size_t first, next; /* first member and next sibling; 0: none */
@@ -25,6 +26,7 @@ struct sketch {
     size_t members, atoms;
     char name[NAMES][NAME_ROOM];
     size_t stretch; /* how far a count without upper end may go */
+    size_t marked;  /* so many of a hundred members, where no habit says otherwise */
 };
 
 static size_t new_member(struct sketch *s, char sign)
@@ -33,6 +35,18 @@ static size_t new_member(struct sketch *s, char sign)
         abort();
     s->member[s->members] = (struct member){.sign = sign, .min = 1, .max = 1};
     return s->members++;
+}
+
+/* Marks so many of a hundred members: groups with `?` and `!` alike, atoms seldom with `!`, which
+   mostly takes nothing from them. The member's names are those from `first` on; where it has none,
+   `!` is refused, and stands there very seldom. */
+static void roll_mark(struct sketch *s, size_t me, size_t percent, size_t first)
+{
+    struct dice *d = &s->dice;
+    if (!chance(d, percent))
+        return;
+    size_t seldom = s->atoms == first ? 30 : s->member[me].sign == 'a' ? 5 : 2;
+    s->member[me].mark = one_in(d, seldom) ? '!' : '?';
 }
 
 static size_t grow_atom(struct sketch *s)
@@ -47,7 +61,7 @@ static size_t grow_atom(struct sketch *s)
         if (m->max == 0 && one_in(&s->dice, 3))
             m->min = 0;
     }
-    m->optional = one_in(&s->dice, 4);
+    roll_mark(s, me, s->marked, m->name);
     return me;
 }
 
@@ -67,8 +81,7 @@ static size_t grow(struct sketch *s, size_t names, size_t depth)
     struct dice *d = &s->dice;
     if (names == 1 && (depth == 0 || !one_in(d, 8)))
         return grow_atom(s);
-    size_t me = new_member(s, ",|&"[below(d, 3)]), last = 0;
-    s->member[me].optional = one_in(d, 4);
+    size_t me = new_member(s, ",|&"[below(d, 3)]), last = 0, first = s->atoms;
     for (size_t placed = 0; placed < names;) {
         size_t part = depth <= 1 ? 1 : 1 + below(d, one_in(d, 3) ? names : (names + 1) / 2);
         if (part > names - placed)
@@ -77,6 +90,7 @@ static size_t grow(struct sketch *s, size_t names, size_t depth)
         last = add_member(s, me, last, grow(s, empty ? 0 : part, depth - 1));
         placed += empty ? 0 : part;
     }
+    roll_mark(s, me, s->marked, first);
     return me;
 }
 
@@ -103,8 +117,7 @@ static size_t grow_deep(struct sketch *s, const struct habit *h, char sign, size
     struct dice *d = &s->dice;
     if (groups == 0)
         return grow_small(s);
-    size_t me = new_member(s, sign);
-    s->member[me].optional = chance(d, h->marked);
+    size_t me = new_member(s, sign), before = s->atoms;
     char inner = chance(d, h->turned) ? ",|&"[below(d, 3)] : sign;
     size_t first = grow_deep(s, h, inner, groups - 1), last = first;
     for (size_t more = chance(d, h->alone) ? 0 : 1 + one_in(d, 4); more > 0; more--) {
@@ -118,6 +131,7 @@ static size_t grow_deep(struct sketch *s, const struct habit *h, char sign, size
         }
     }
     s->member[me].first = first;
+    roll_mark(s, me, h->marked, before);
     return me;
 }
 
@@ -139,7 +153,7 @@ static size_t grow_counted(struct sketch *s, const struct habit *h)
         m->min = COUNTS[kind].min;
         m->max = COUNTS[kind].max;
     }
-    m->optional = chance(&s->dice, h->marked);
+    roll_mark(s, me, h->marked, m->name);
     return me;
 }
 
@@ -160,8 +174,7 @@ static size_t grow_loose(struct sketch *s, const struct habit *h, char around, s
     if (names == 1 && (depth == 0 || !chance(d, h->alone)))
         return grow_counted(s, h);
     char sign = chance(d, h->turned) ? ",|&"[below(d, 3)] : around;
-    size_t me = new_member(s, sign), last = 0;
-    s->member[me].optional = chance(d, h->marked);
+    size_t me = new_member(s, sign), last = 0, first = s->atoms;
     while (depth > 0) {
         if (chance(d, h->empty))
             last = add_member(s, me, last, grow_loose(s, h, sign, 0, depth / 3));
@@ -171,6 +184,7 @@ static size_t grow_loose(struct sketch *s, const struct habit *h, char around, s
         names -= part;
         last = add_member(s, me, last, grow_loose(s, h, sign, part, depth - 1));
     }
+    roll_mark(s, me, h->marked, first);
     return me;
 }
 
@@ -201,8 +215,7 @@ static void write_member(const struct sketch *s, size_t me, struct text *t)
         }
         put(t, ")");
     }
-    if (m->optional)
-        put(t, "?");
+    put(t, (char[]){m->mark, 0});
 }
 
 /* ---- rows ---- */
@@ -254,12 +267,9 @@ static void pick_choice(struct sketch *s, const struct member *m, struct row *ro
         pick(s, child, row);
 }
 
-/* Adds some row of the member. */
-static void pick(struct sketch *s, size_t me, struct row *row)
+/* Adds some row of the member, its mark left aside. */
+static void pick_unmarked(struct sketch *s, const struct member *m, struct row *row)
 {
-    const struct member *m = &s->member[me];
-    if (m->optional && one_in(&s->dice, 2))
-        return;
     if (m->sign == 'a') {
         pick_atom(s, m, row);
     } else if (m->sign == '|') {
@@ -275,6 +285,18 @@ static void pick(struct sketch *s, size_t me, struct row *row)
         for (size_t i = 0; i < all.len; i++)
             push(row, all.name[i]);
     }
+}
+
+/* Adds some row of the member; where `!` stands, seldom the empty row, which is none. */
+static void pick(struct sketch *s, size_t me, struct row *row)
+{
+    const struct member *m = &s->member[me];
+    size_t before = row->len;
+    if (m->mark == '?' && one_in(&s->dice, 2))
+        return;
+    pick_unmarked(s, m, row);
+    for (size_t tries = 0; m->mark == '!' && row->len == before && tries < 3; tries++)
+        pick_unmarked(s, m, row);
 }
 
 /* ---- changes at one place ---- */
@@ -479,6 +501,7 @@ static void make_case(struct sketch *s, size_t names, size_t depth, struct text 
 static void make_small(struct sketch *s, struct text *model, struct text *children)
 {
     s->stretch = 2;
+    s->marked = 10 + below(&s->dice, 70);
     short_names(s);
     size_t depth = 1 + below(&s->dice, 4);
     make_case(s, below(&s->dice, 7), depth, model, children);
@@ -487,7 +510,7 @@ static void make_small(struct sketch *s, struct text *model, struct text *childr
 static void damage_model(struct sketch *s, struct text *model)
 {
     for (size_t n = 1 + below(&s->dice, 3); n > 0; n--)
-        damage(&s->dice, model, "()()[],,||&&??..*-0123459abcz%\n\tA \x80");
+        damage(&s->dice, model, "()()[],,||&&!!??..*-0123459abcz%\n\tA \x80");
 }
 
 static void make_damaged(struct sketch *s, struct text *model, struct text *children)
@@ -504,6 +527,7 @@ static void make_deep(struct sketch *s, struct text *model, struct text *childre
 {
     struct habit h;
     s->stretch = 2;
+    s->marked = 30;
     alike_names(s);
     size_t groups = 17 + below(&s->dice, 54);
     size_t wide = 10 + below(&s->dice, groups < 45 ? groups - 10 : 35); /* so many not alone */
@@ -519,6 +543,7 @@ static void make_deep(struct sketch *s, struct text *model, struct text *childre
 static void make_large(struct sketch *s, struct text *model, struct text *children)
 {
     s->stretch = (size_t)2 << below(&s->dice, 12);
+    s->marked = 10 + below(&s->dice, 70);
     if (one_in(&s->dice, 3))
         alike_names(s);
     else
@@ -534,7 +559,7 @@ static void make_loose(struct sketch *s, struct text *model, struct text *childr
         nested_names, common_names, alike_names, long_names, short_names,
     };
     struct dice *d = &s->dice;
-    struct habit h = {.alone = below(d, 40), .turned = below(d, 100), .marked = below(d, 60)};
+    struct habit h = {.alone = below(d, 40), .turned = below(d, 100), .marked = below(d, 80)};
     size_t names = one_in(d, 4) ? below(d, NAMES + 1) : below(d, FEW);
     h.empty = below(d, names > 30 ? 15 : 40);
     s->stretch = 2;

@@ -7,10 +7,10 @@ enum { SHOWN = 20, SHOWN_BYTES = 200 };
 
 /* Every answer of include/desk.h; a list of no names and no fault stand as 0 here, a list of some
    names, a fault and a written text as 1. */
-static const uint32_t OF_JUDGE[] = {0, 1, 2, 10, 11, 12, 13, 14, 15, 16, 17, 19, 30, 35, 36};
-static const uint32_t OF_NEXT[] = {0, 1, 10, 11, 12, 13, 14, 15, 16, 17, 19, 30, 35, 36, 46};
-static const uint32_t OF_FAULT[] = {0, 1, 10, 11, 12, 13, 14, 15, 16, 17, 19, 30, 35, 36};
-static const uint32_t OF_CANONICAL[] = {1, 10, 11, 12, 13, 14, 15, 16, 17, 19, 51};
+static const uint32_t OF_JUDGE[] = {0, 1, 2, 10, 11, 12, 13, 14, 15, 16, 17, 18, 19, 30, 35, 36};
+static const uint32_t OF_NEXT[] = {0, 1, 10, 11, 12, 13, 14, 15, 16, 17, 18, 19, 30, 35, 36, 46};
+static const uint32_t OF_FAULT[] = {0, 1, 10, 11, 12, 13, 14, 15, 16, 17, 18, 19, 30, 35, 36};
+static const uint32_t OF_CANONICAL[] = {1, 10, 11, 12, 13, 14, 15, 16, 17, 18, 19, 51};
 static const uint32_t OF_ROWS[] = {0, 1, 2, 30, 35, 36};
 const struct answers ANSWERS_OF_JUDGE = {OF_JUDGE, LENGTH(OF_JUDGE)};
 const struct answers ANSWERS_OF_NEXT = {OF_NEXT, LENGTH(OF_NEXT)};

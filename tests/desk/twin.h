@@ -22,7 +22,7 @@ uint32_t twin_first_fault(const uint8_t *model, size_t model_len,
 uint32_t twin_canonical(const uint8_t *model, size_t model_len, uint8_t *buffer,
                         size_t buffer_len);
 
-/* 0 for a model text, or its refusal, 10 to 17 or 19, with its place (counted from 0) in *place. */
+/* 0 for a model text, or its refusal, 10 to 19, with its place (counted from 0) in *place. */
 uint32_t twin_model(const uint8_t *text, size_t len, size_t *place);
 
 #endif

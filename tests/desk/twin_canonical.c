@@ -7,7 +7,7 @@
 /* A tidied member; a group without members is `()`. */
 struct part {
     uint8_t kind;
-    bool marked;
+    uint8_t mark;
     bool nullable;             /* holds the empty row without its mark */
     uint32_t min, max;         /* of an atom, min at least 1 */
     const struct name *name;   /* of an atom; once sorted, the smallest of a group */
@@ -17,42 +17,57 @@ struct part {
 
 /* ---- tidying ---- */
 
-static struct part tidy_atom(const struct node *node, const struct name *name)
-{
-    return (struct part){.kind = ATOM, .marked = node->optional || node->min == 0, .name = name,
-                         .min = node->min == 0 ? 1 : node->min, .max = node->max};
-}
-
 static bool is_empty(const struct part *p) { return p->kind != ATOM && p->first == NULL; }
 
-/* A mark stays where the empty row is not held without it. */
-static void mark(struct part *p, bool marked) { p->marked = (p->marked | marked) & !p->nullable; }
+/* Does the part, with its mark, hold the empty row? */
+static bool holds_empty_row(const struct part *p)
+{
+    return p->mark == PLAIN ? p->nullable : p->mark == OPTIONAL;
+}
 
-/* The group, or what it gives way to. */
+/* The mark takes the place of the one that is there, if it changes anything: `?` adds the empty
+   row, `!` takes it away. `()` gets none. */
+static void put_mark(struct part *p, enum mark mark)
+{
+    if (mark != PLAIN && !is_empty(p))
+        p->mark = p->nullable == (mark == NONEMPTY) ? mark : PLAIN;
+}
+
+/* `a[0..n]` is `a[1..n]?`, and then comes its own mark. */
+static struct part tidy_atom(const struct node *node, const struct name *name)
+{
+    struct part p = {.kind = ATOM, .mark = node->min == 0 ? OPTIONAL : PLAIN, .name = name,
+                     .min = node->min == 0 ? 1 : node->min, .max = node->max};
+    put_mark(&p, node->mark);
+    return p;
+}
+
+/* The group, or what it gives way to. The empty row goes from the members of a choice to the choice
+   itself, which holds it by its mark alone. */
 static struct part *tidy_group(const struct node *node, struct part *group, struct part **member)
 {
-    bool choice = node->kind == CHOICE, marked = node->optional, some = false, each = true;
+    bool choice = node->kind == CHOICE, some = false, each = true;
     *group = (struct part){.kind = node->kind};
     group->end = &group->first;
     for (uint32_t i = 0; i < node->members; i++) {
         struct part *m = member[i];
-        if (choice) {
-            marked |= m->marked | is_empty(m);
-            m->marked = false;
-        }
+        some |= holds_empty_row(m);
+        each &= holds_empty_row(m);
+        if (choice)
+            put_mark(m, NONEMPTY);
         if (is_empty(m))
             continue;
-        bool joins = m->kind == node->kind && !m->marked;
-        some |= m->marked | m->nullable;
-        each &= m->marked | m->nullable;
+        bool joins = m->kind == node->kind && m->mark == PLAIN;
         *group->end = joins ? m->first : m;
         group->end = joins ? m->end : &m->next;
     }
     *group->end = NULL;
-    group->nullable = choice && group->first != NULL ? some : each;
+    group->nullable = group->first == NULL || (each && !choice);
     if (group->first != NULL && group->first->next == NULL)
         group = group->first;
-    mark(group, marked);
+    if (choice && some)
+        put_mark(group, OPTIONAL);
+    put_mark(group, node->mark);
     return group;
 }
 
@@ -177,8 +192,8 @@ static uint8_t *put_group(uint8_t *to, const struct part *p)
 static uint8_t *put_part(uint8_t *to, const struct part *p)
 {
     to = p->kind == ATOM ? put_atom(to, p) : put_group(to, p);
-    if (p->marked)
-        *to++ = '?';
+    if (p->mark != PLAIN)
+        *to++ = p->mark == OPTIONAL ? '?' : '!';
     return to;
 }
 

@@ -42,6 +42,7 @@ enum answer {
     MANY_ATOMS = 15,
     MANY_NODES = 16,
     REPEATED_NAME = 17,
+    NO_ATOM = 18,
     MANY_BRACKETS = 19,
     CHILDREN_SIZE = 30,
     NO_NAME = 35,
@@ -117,9 +118,11 @@ static inline uint32_t find_slot(const struct names *names, const struct name *n
 
 enum kind { ATOM, SEQUENCE, CHOICE, INTERLEAVING };
 
+enum mark { PLAIN, OPTIONAL, NONEMPTY }; /* none, `?`, `!` */
+
 struct node {
     uint8_t kind; /* a group of under two members counts as a sequence */
-    bool optional;
+    uint8_t mark;
     uint16_t members; /* of a group */
     uint32_t min, max; /* of an atom */
 };
@@ -256,6 +259,15 @@ static bool read_group(struct reader *r, uint32_t open)
     return true;
 }
 
+/* Is one of the nodes from this one on an atom? */
+static bool has_atom(const struct rule *rule, const struct node *node)
+{
+    while (node < rule->node + rule->node_count)
+        if (node++->kind == ATOM)
+            return true;
+    return false;
+}
+
 static bool read_member(struct reader *r, uint32_t open)
 {
     struct node *node = &r->rule->node[r->rule->node_count]; /* where the member begins */
@@ -264,8 +276,14 @@ static bool read_member(struct reader *r, uint32_t open)
         return refuse(r, SPELLING, r->at);
     if (!(byte == '(' ? read_group(r, open) : read_atom(r)))
         return false;
-    if (peek(r) == '?') {
-        node->optional = true;
+    byte = peek(r);
+    if (byte == '?') {
+        node->mark = OPTIONAL;
+        r->at++;
+    } else if (byte == '!') {
+        if (!has_atom(r->rule, node))
+            return refuse(r, NO_ATOM, r->at);
+        node->mark = NONEMPTY;
         r->at++;
     }
     return true;
@@ -277,7 +295,7 @@ static bool read_member(struct reader *r, uint32_t open)
 struct flat {
     bool empty; /* nothing but `()` */
     uint8_t kind;
-    bool optional;
+    bool marked; /* by `?` or `!`, which keep a group apart alike */
     uint8_t depth; /* the largest number of groups around an atom, at most MAX_OPEN */
 };
 
@@ -286,17 +304,17 @@ struct flat {
 static struct flat flatten(const struct node **next)
 {
     const struct node *node = (*next)++;
-    struct flat all = {.kind = node->kind, .optional = node->optional}, last = all;
+    struct flat all = {.kind = node->kind, .marked = node->mark != PLAIN}, last = all;
     if (node->kind == ATOM)
         return all;
     uint32_t left = 0; /* members that are not `()` */
     for (uint32_t i = 0; i < node->members; i++) {
         struct flat member = flatten(next);
         if (member.empty) {
-            all.optional |= node->kind == CHOICE;
+            all.marked |= node->kind == CHOICE;
             continue;
         }
-        bool joins = member.kind == node->kind && !member.optional;
+        bool joins = member.kind == node->kind && !member.marked;
         uint8_t depth = joins ? member.depth : member.depth + 1;
         if (depth > all.depth)
             all.depth = depth;
@@ -305,7 +323,7 @@ static struct flat flatten(const struct node **next)
     }
     if (left == 0)
         return (struct flat){.empty = true};
-    last.optional |= all.optional;
+    last.marked |= all.marked;
     return left == 1 ? last : all;
 }
 
@@ -434,7 +452,8 @@ static struct view view_group(const struct node *node, const struct view *member
     return all;
 }
 
-/* Last node first, so that a group finds its members on the stack, its first member on top. */
+/* Last node first, so that a group finds its members on the stack, its first member on top. A mark
+   speaks of the empty row alone: `?` adds it, `!` takes it away. */
 static struct view view_model(const struct rule *rule, const struct tally *tally)
 {
     struct view stack[MAX_NODES];
@@ -443,7 +462,8 @@ static struct view view_model(const struct rule *rule, const struct tally *tally
     for (uint32_t i = rule->node_count; i-- > 0;) {
         const struct node *node = &rule->node[i];
         struct view v = node->kind == ATOM ? view_atom(node, t--) : view_group(node, top);
-        v.done |= node->optional & !touched(v);
+        if (node->mark != PLAIN && !touched(v))
+            v.done = node->mark == OPTIONAL;
         top += node->members;
         *--top = v;
     }

@@ -6,7 +6,9 @@ use judge::reading::read_model;
 use judge::verdict::Judged;
 use judge::verdict::Next;
 use libc::STDOUT_FILENO;
+use model::rule::Mark;
 use model::rule::NameNumber;
+use model::rule::Node;
 use model::rule::Rule;
 use model::verdict::Verdict;
 use sessions::session::FREE;
@@ -86,6 +88,18 @@ fn damaged_rule() -> Rule {
     rule
 }
 
+// `()!`: refused as a model text, so none reads into this rule either.
+fn atomless_rule() -> Rule {
+    let mut rule = rule_of(b"()");
+    let node = rule.nodes[0];
+    let kind = node.kind;
+    rule.nodes[0] = Node {
+        kind: kind,
+        mark: Mark::Nonempty,
+    };
+    rule
+}
+
 fn opened(session: Session, rule: Rule, trail: &mut [u16]) -> Session {
     let step = session.open(rule, trail);
     let outcome = step.outcome;
@@ -140,7 +154,7 @@ fn digit(byte: u8) -> u16 {
     if byte < b'0' { 0 } else { (byte - b'0') as u16 }
 }
 
-// One byte is one call: m, p and d open, a digit is added, < takes back, ? asks, > looks ahead with five places lent for names, ^ with one and _ with
+// One byte is one call: m, p, o, d and e open, a digit is added, < takes back, ? asks, > looks ahead with five places lent for names, ^ with one and _ with
 // none. Between calls # damages the last place of the trail, = mends it, and x damages the session's rule.
 fn answered(session: Session, call: u8, trail: &mut [u16]) -> Session {
     match call {
@@ -150,7 +164,9 @@ fn answered(session: Session, call: u8, trail: &mut [u16]) -> Session {
             trail,
         ),
         b'p' => opened(session, rule_of(b"(a[2..3],b)"), trail),
+        b'o' => opened(session, rule_of(b"(a?,b?)!"), trail),
         b'd' => opened(session, damaged_rule(), trail),
+        b'e' => opened(session, atomless_rule(), trail),
         b'<' => taken_back(session, trail),
         b'?' => asked(session, trail),
         b'>' => looked_ahead(session, call, trail),
@@ -237,6 +253,7 @@ fn main() {
     play(b">m>^_1>2>^3>4>_5>5<<<>5>5>_0>_", &mut trail);
     play(b"m2>_<1#>_=>x>_#>=d>", &mut trail);
     play(b"p>1>1>^1>2>_<<<2>", &mut trail);
+    play(b"oe?>2?><1?>", &mut trail);
     play(b"m?>_1<", &mut trail[0..0]);
     play_full();
 }

@@ -4,7 +4,7 @@ use Prim.Native.Nat.{ℕ, _≤_}
 use lib.ListN.{length}
 use Rattle.fields.specs.{Bytes.Text, Tests.Tells}
 use Rattle.model.specs.{Word.Word, Types.Holds, Model.typeWith, Flatten.nil, Flatten.flatten, Flatten.depth, Fault.Answers, Fault.accepted}
-use Rattle.model.specs.{Syntax.Syntax, Tree.atoms}
+use Rattle.model.specs.{Syntax.Syntax, Tree.atoms, Tree.MarksFit}
 use Rattle.canonical.specs.{Meaning.meaning, Tidy.treeNullable, Tidy.tidy, Tidy.Nullable.tree-nullable, Tidy.Flattened.tidy-flatten}
 use Rattle.canonical.specs.{Neat.Neat, Neat.Ordered, Order.Sorted.order-ordered}
 use Rattle.canonical.specs.Canonical.{canonical, canonicalText, HoldsNames, WriteReply, wrote, writeReply, Writes}
@@ -18,8 +18,8 @@ text-accepted = canonical-accepted
 pub same-rows : (x : Text) (t : Syntax) → Answers x (accepted t) → (w : List Text) → HoldsNames (canonical t) w ↔ HoldsNames t w
 same-rows = held-same
 
--- the same whatever numbers the names have, of every tree
-pub same-words : (ν : Text → ℕ) (t : Syntax) (w : Word) → Holds (typeWith (meaning ν) (canonical t)) w ↔ Holds (typeWith (meaning ν) t) w
+-- the same whatever numbers the names have, of every tree in which each `!` has an atom
+pub same-words : (ν : Text → ℕ) (t : Syntax) → MarksFit t → (w : Word) → Holds (typeWith (meaning ν) (canonical t)) w ↔ Holds (typeWith (meaning ν) t) w
 same-words = canonical-rows
 
 -- to write the canonical tree again changes nothing, and it is no deeper

@@ -1,4 +1,4 @@
--- Texts in their one way: document 02, W4, and OPEN-POINTS, 21.
+-- Texts in their one way: document 02, W4 and W7, and OPEN-POINTS, 21.
 use mathlib.Core.{Path._≡_, Path.refl}
 use Rattle.fields.specs.Bytes.{Text, bytes}
 use Rattle.model.specs.{Accept.Test.tree-accepted, Fault.Answers, Fault.accepted, Syntax.Syntax}
@@ -43,3 +43,23 @@ dissolved = (_, tree-accepted _ _ refl, refl)
 
 nothing-left : Writing (bytes "((),(()|())?)") (bytes "()")
 nothing-left = (_, tree-accepted _ _ refl, refl)
+
+-- a member of a choice goes without the empty row
+nonempty : Writing (bytes "((a?,b?)|c)") (bytes "((a?,b?)!|c)?")
+nonempty = (_, tree-accepted _ _ refl, refl)
+
+given-on : Writing (bytes "((a?,b?)|c)!") (bytes "((a?,b?)!|c)")
+given-on = (_, tree-accepted _ _ refl, refl)
+
+-- of two marks the outer one stays, if it changes anything
+outer : Writing (bytes "((a?,b?)!)?") (bytes "(a?,b?)")
+outer = (_, tree-accepted _ _ refl, refl)
+
+needless : Writing (bytes "((a,b)!,c)") (bytes "(a,b,c)")
+needless = (_, tree-accepted _ _ refl, refl)
+
+raised : Writing (bytes "a[0..3]!") (bytes "a[1..3]")
+raised = (_, tree-accepted _ _ refl, refl)
+
+needed : Writing (bytes "(a?,b?)!") (bytes "(a?,b?)!")
+needed = (_, tree-accepted _ _ refl, refl)

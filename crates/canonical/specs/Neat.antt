@@ -1,34 +1,28 @@
 -- The form of a canonical tree.
 use mathlib.Core.{Path._≡_, Bool.Bool, Bool.true, Bool.false, Bool._&&_}
 use Prim.Native.Nat.{_≤_}
-use Rattle.model.specs.{declared.rule.Sign.Sign, declared.rule.Mark.Mark}
+use Rattle.model.specs.declared.rule.Sign.{Sign}
 use Rattle.model.specs.declared.rule.Sign.the-variants.{None, Sequence, Choice, Interleaving}
-use Rattle.model.specs.declared.rule.Mark.the-variants.{Plain, Optional}
 use Rattle.model.specs.Tree.{Node, leaf, group, marked, Members, none, _▹_, size}
 use Rattle.model.specs.{Syntax.Spelling, Syntax.Syntax, Flatten.isChoice, Flatten.merges}
-use Rattle.canonical.specs.{Tidy.fromZero, Tidy.tidyCount, Tidy.isOptional, Tidy.nodeNullable, Order.notAfter, Order.smallestName}
+use Rattle.canonical.specs.{Tidy.fromZero, Tidy.tidyCount, Tidy.nodeNullable, Tidy.treeNullable, Tidy.fitting, Order.notAfter, Order.smallestName}
 
--- a `?` changes something
-abbrev pub Needed : Mark → Bool → Type 0
-Needed Plain nullable = Unit {0}
-Needed Optional nullable = nullable ≡ false
-
--- a member whose mark goes to the group around it
+-- a member of a choice that holds the empty row
 abbrev pub strips : Sign → Syntax → Bool
-strips s (marked m n) = isChoice s && isOptional m
+strips s t = isChoice s && treeNullable t
 
 -- a member that stays as it is in a group of the sign
 abbrev pub Stays : Sign → Syntax → Type 0
 Stays s t = (merges s t ≡ false) × (strips s t ≡ false)
 
--- Nothing can be left out or joined: groups have two members or more, and none of them is `()`.
+-- Nothing can be left out or joined: groups have two members or more, none of them is `()`, and each mark changes something.
 abbrev mutual
   pub NeatNode : Node Spelling → Type 0
   NeatNode (leaf a) = (fromZero (a .count) ≡ false) × (tidyCount (a .count) ≡ a .count)
   NeatNode (group s ts) = (2 ≤ size ts) × NeatAll ts s
 
   pub Neat : Syntax → Type 0
-  Neat (marked m n) = Needed m (nodeNullable n) × NeatNode n
+  Neat (marked m n) = (fitting m (nodeNullable n) ≡ m) × NeatNode n
 
   pub NeatAll : Members Spelling → Sign → Type 0
   NeatAll none s = Unit {0}

@@ -16,8 +16,8 @@ use mathlib.Core.{Bool.Bool, Bool.true, Bool.false, Bool.cond, Bool._&&_, Bool._
 use lib.Dec.{eqb, leb}
 use Rattle.fields.specs.Bytes.{Text, bytes, value}
 use Rattle.model.specs.{declared.rule.Sign.Sign, declared.rule.Mark.Mark}
-use Rattle.model.specs.declared.rule.Mark.the-variants.{Plain, Optional}
-use Rattle.model.specs.Tree.{Node, leaf, group, marked, Members, none, _▹_}
+use Rattle.model.specs.declared.rule.Mark.the-variants.{Plain, Optional, Nonempty}
+use Rattle.model.specs.Tree.{Node, leaf, group, marked, Members, none, _▹_, nodeUnder, isPlain}
 use Rattle.model.specs.Syntax.{Count, unwritten, between, onward, Spelling, Syntax}
 use Rattle.model.specs.Flatten.{isChoice, isNil, gathered, grouped, droppedMark}
 
@@ -39,10 +39,11 @@ tidyCount (onward m) = onward (raised m)
 abbrev pub tidyAtom : Spelling → Spelling
 tidyAtom a = record { name = a .name; count = tidyCount (a .count) }
 
--- the mark is `?`
-abbrev pub isOptional : Mark → Bool
-isOptional Plain = false
-isOptional Optional = true
+-- whether the empty row is held under a mark, by whether it is held without one
+abbrev pub nullableUnder : Mark → Bool → Bool
+nullableUnder Plain nullable = nullable
+nullableUnder Optional nullable = true
+nullableUnder Nonempty nullable = false
 
 -- the empty row is held
 abbrev mutual
@@ -55,7 +56,7 @@ abbrev mutual
   groupNullable (t ▹ ts) s = cond (isChoice s) (treeNullable t || someNullable ts) (treeNullable t && allNullable ts)
 
   pub treeNullable : Syntax → Bool
-  treeNullable (marked m n) = isOptional m || nodeNullable n
+  treeNullable (marked m n) = nullableUnder m (nodeNullable n)
 
   pub allNullable : Members Spelling → Bool
   allNullable none = true
@@ -65,26 +66,27 @@ abbrev mutual
   someNullable none = false
   someNullable (t ▹ ts) = treeNullable t || someNullable ts
 
--- a `?` takes the place of the mark that is there, and is dropped where the empty row is held without it
+-- a mark, or none where it changes nothing
+abbrev pub fitting : Mark → Bool → Mark
+fitting Plain nullable = Plain
+fitting Optional nullable = cond nullable Plain Optional
+fitting Nonempty nullable = cond nullable Nonempty Plain
+
+-- a mark takes the place of the mark that is there, and is dropped where it changes nothing
 abbrev pub marking : Mark → Syntax → Syntax
-marking Plain t = t
-marking Optional (marked m n) = marked (cond (nodeNullable n) Plain Optional) n
+marking m t = cond (isPlain m || isNil t) t (marked (fitting m (nodeNullable (nodeUnder t))) (nodeUnder t))
 
--- in a choice, a member's `?` is moved to the choice
+-- a member of a choice is written without the empty row, which the choice then gets by a `?`
 abbrev pub stripped : Sign → Syntax → Syntax
-stripped s (marked m n) = marked (cond (isChoice s && isOptional m) Plain m) n
+stripped s t = cond (isChoice s) (marking Nonempty t) t
 
--- a member that leaves its choice a `?`: it is `()`, or has one
-abbrev pub gives : Syntax → Bool
-gives (marked m n) = isNil (marked m n) || isOptional m
-
-abbrev pub someGives : List Syntax → Bool
-someGives [] = false
-someGives (t ∷ l) = gives t || someGives l
+abbrev pub anyNullable : List Syntax → Bool
+anyNullable [] = false
+anyNullable (t ∷ l) = treeNullable t || anyNullable l
 
 -- a group of tidied members
 abbrev pub settledGroup : Sign → List Syntax → Syntax
-settledGroup s l = marking (droppedMark s (someGives l)) (grouped s (gathered s (map (stripped s) l)))
+settledGroup s l = marking (droppedMark s (anyNullable l)) (grouped s (gathered s (map (stripped s) l)))
 
 abbrev mutual
   pub tidyNode : Node Spelling → Syntax

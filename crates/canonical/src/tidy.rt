@@ -1,4 +1,4 @@
-// Tidies the tree of a model text: all that document 02, W4, asks but for the order of members.
+// Tidies the tree of a model text: all that document 02, W4 and W7, asks but for the order of members.
 
 ghost use mathlib.Core.Path.{_≡_};
 ghost use Prim.Native.Nat.{_+_, _≤_, _<_};
@@ -6,9 +6,10 @@ ghost use lib.ListN.{length};
 ghost use Rattle.fields.specs.Limits.{maxNodes};
 ghost use Rattle.model.specs.Syntax.{Spelling};
 ghost use Rattle.canonical.specs.Writer.Place.{AtomAt};
-ghost use Rattle.canonical.specs.Writer.Tidied.{remarkedBy, headOf, placedAt, optionalBy, zeroBetween, atomBy, nothingBy, noMembers, withoutBy};
-ghost use Rattle.canonical.specs.Writer.Tidied.{leastBy, nullableBy};
-ghost use Rattle.canonical.specs.Writer.Tidied.{FitsOn, withMemberBy, StackedBy, groupedBy, groupClosedBy, markedBy, signAfter, memberAfter};
+ghost use Rattle.canonical.specs.Tidy.{fitting};
+ghost use Rattle.canonical.specs.Writer.Tidied.{remarkedBy, headOf, placedAt, markingBy, strippedBy, zeroBetween, countMark, atomBy, nothingBy};
+ghost use Rattle.canonical.specs.Writer.Tidied.{noMembers, holdsEmpty, notedBy, leastBy, nullableBy, FitsOn, addedBy, StackedBy, groupedBy};
+ghost use Rattle.canonical.specs.Writer.Tidied.{groupClosedBy, markedBy, signAfter, memberAfter};
 ghost use Rattle.canonical.specs.Writer.Recursion.{TidyReady, Tidies};
 use crate::head::ATOM;
 use crate::head::Head;
@@ -17,13 +18,16 @@ use crate::head::packed;
 use crate::names::count_end;
 use crate::names::is_after;
 use crate::names::name_end;
+use model::mark::is_plain;
+use model::mark::mark_at;
 use model::rule::MAX_NODES;
+use model::rule::Mark;
 
 // A tidied tree: what a head holds of it, with NO_SIGN for `()`; whether it holds the empty row without its mark; from where on the stack holds its
 // members, the last first; and where the text goes on behind it.
 pub(crate) struct Tidied {
     pub(crate) sign: u8,
-    pub(crate) marked: bool,
+    pub(crate) mark: Mark,
     pub(crate) nullable: bool,
     pub(crate) members: u8,
     pub(crate) size: u8,
@@ -32,7 +36,7 @@ pub(crate) struct Tidied {
     pub(crate) next: usize,
 }
 
-// The members that a group has so far: the last of them; whether some were `()` or had a `?`; how many they are, whether the group would hold the empty
+// The members that a group has so far: the last of them; whether some held the empty row; how many they are, whether the group would hold the empty
 // row, their nodes and smallest name; and from where on the stack holds them.
 pub(crate) struct Gathered {
     pub(crate) last: Tidied,
@@ -44,13 +48,13 @@ pub(crate) struct Gathered {
     pub(crate) top: usize,
 }
 
-// The same tree with a mark, or without one.
-fn remarked(t: Tidied, marked: bool) -> Tidied
-    ensures { λ r. ⌜ r ≡ remarkedBy marked t ⌝ }
+// The same tree with another mark.
+fn remarked(t: Tidied, mark: Mark) -> Tidied
+    ensures { λ r. ⌜ r ≡ remarkedBy mark t ⌝ }
 {
     Tidied {
         sign: t.sign,
-        marked: marked,
+        mark: mark,
         nullable: t.nullable,
         members: t.members,
         size: t.size,
@@ -60,13 +64,13 @@ fn remarked(t: Tidied, marked: bool) -> Tidied
     }
 }
 
-// The head of a tree, with a mark or without one.
-pub(crate) fn head_of(t: Tidied, marked: bool) -> Head
-    ensures { λ r. ⌜ r ≡ headOf marked t ⌝ }
+pub(crate) fn head_of(t: Tidied) -> Head
+    ensures { λ r. ⌜ r ≡ headOf t ⌝ }
 {
+    let mark = t.mark;
     Head {
         sign: t.sign,
-        marked: marked,
+        mark: mark,
         members: t.members,
         size: t.size,
         least: t.least,
@@ -77,9 +81,10 @@ pub(crate) fn head_of(t: Tidied, marked: bool) -> Head
 fn placed(t: Tidied, top: usize, next: usize) -> Tidied
     ensures { λ r. ⌜ r ≡ placedAt top next t ⌝ }
 {
+    let mark = t.mark;
     Tidied {
         sign: t.sign,
-        marked: t.marked,
+        mark: mark,
         nullable: t.nullable,
         members: t.members,
         size: t.size,
@@ -89,35 +94,83 @@ fn placed(t: Tidied, top: usize, next: usize) -> Tidied
     }
 }
 
-// A `?` is left out where the empty row is held without it.
-fn optional(t: Tidied) -> Tidied
-    ensures { λ r. ⌜ r ≡ optionalBy t ⌝ }
+// A mark, or none where it changes nothing.
+fn fitting(mark: Mark, nullable: bool) -> Mark
+    ensures { λ r. ⌜ r ≡ fitting mark nullable ⌝ }
 {
-    remarked(t, !t.nullable)
+    match mark {
+        Mark::Plain => Mark::Plain,
+        Mark::Optional => if nullable {
+            Mark::Plain
+        } else {
+            Mark::Optional
+        },
+        Mark::Nonempty => if nullable {
+            Mark::Nonempty
+        } else {
+            Mark::Plain
+        },
+    }
 }
 
-// Does the count from `name` to `end` begin with 0?
-fn is_zero(text: &[u8], name: usize, end: usize) -> bool
+// The tree under a mark, which takes the place of its own; `()` stays as it is.
+fn marking(t: Tidied, mark: Mark) -> Tidied
+    ensures { λ r. ⌜ r ≡ markingBy mark t ⌝ }
+{
+    let plain = is_plain(mark);
+    if plain | (t.sign == NO_SIGN) {
+        t
+    } else {
+        remarked(t, fitting(mark, t.nullable))
+    }
+}
+
+fn holds_empty(t: Tidied) -> bool
+    ensures { λ r. ⌜ r ≡ holdsEmpty t ⌝ }
+{
+    let mark = t.mark;
+    match mark {
+        Mark::Plain => t.nullable,
+        Mark::Optional => true,
+        Mark::Nonempty => false,
+    }
+}
+
+// A member of a group with the sign: in a choice it goes without the empty row.
+fn stripped(t: Tidied, sign: u8) -> Tidied
+    ensures { λ r. ⌜ r ≡ strippedBy sign t ⌝ }
+{
+    if sign == b'|' {
+        marking(t, Mark::Nonempty)
+    } else {
+        t
+    }
+}
+
+// The mark for the count from `name` to `end`: `[0..n]` is `[1..n]?`.
+fn count_mark(text: &[u8], name: usize, end: usize) -> Mark
     requires { ⌜ (name ≤ end) × (end ≤ length (now text)) ⌝ }
-    ensures { λ r. ⌜ r ≡ zeroBetween (now (text .entry)) name end ⌝ }
+    ensures { λ r. ⌜ r ≡ countMark (zeroBetween (now (text .entry)) name end) ⌝ }
 {
     if name + 1 < end {
-        return text[name + 1] == b'0';
+        if text[name + 1] == b'0' {
+            return Mark::Optional;
+        }
     }
-    false
+    Mark::Plain
 }
 
-// The atom that begins at `at`. `[0..n]` is `[1..n]?`.
+// The atom that begins at `at`.
 fn atom(text: &[u8], at: usize, top: usize) -> Tidied
     requires { ⌜ ((a : Spelling) × AtomAt (now text) at a) × (length (now text) < 65536) ⌝ }
     ensures { λ r. ⌜ r ≡ atomBy (now (text .entry)) at top ⌝ }
 {
     let name = name_end(text, at);
     let end = count_end(text, name);
-    let zero = is_zero(text, name, end);
+    let mark = count_mark(text, name, end);
     Tidied {
         sign: ATOM,
-        marked: zero,
+        mark: mark,
         nullable: false,
         members: 0,
         size: 1,
@@ -133,7 +186,7 @@ fn nothing(top: usize, next: usize) -> Tidied
 {
     Tidied {
         sign: NO_SIGN,
-        marked: false,
+        mark: Mark::Plain,
         nullable: true,
         members: 0,
         size: 1,
@@ -157,14 +210,15 @@ fn no_members(top: usize) -> Gathered
     }
 }
 
-// The group as it is when `()` is dropped from it.
-fn without(g: Gathered) -> Gathered
-    ensures { λ r. ⌜ r ≡ withoutBy g ⌝ }
+// The group, with note of whether a member held the empty row.
+fn noted(g: Gathered, t: Tidied) -> Gathered
+    ensures { λ r. ⌜ r ≡ notedBy t g ⌝ }
 {
     let last = g.last;
+    let given = holds_empty(t);
     Gathered {
         last: last,
-        given: true,
+        given: g.given | given,
         members: g.members,
         nullable: g.nullable,
         size: g.size,
@@ -203,24 +257,24 @@ fn nullable_with(members: u8, sign: u8, nullable: bool, own: bool) -> bool
     }
 }
 
-// One member more for a group of the sign: `()` is dropped, an unmarked group of the same sign joins, and a choice takes its member's `?`.
-fn gather(text: &[u8], stack: &mut [u64; MAX_NODES], g: Gathered, sign: u8, t: Tidied) -> Gathered
+// One member more for a group of the sign: `()` is dropped, and an unmarked group of the same sign joins.
+fn added(text: &[u8], stack: &mut [u64; MAX_NODES], g: Gathered, sign: u8, t: Tidied) -> Gathered
     requires { ⌜ FitsOn (now text) (now stack) g t ⌝ }
-    ensures { λ r. ⌜ r ≡ withMemberBy (now (text .entry)) g sign t ⌝ }
+    ensures { λ r. ⌜ r ≡ addedBy (now (text .entry)) g sign t ⌝ }
     ensures { λ r. ⌜ StackedBy (now (stack .entry)) (now (stack .exit)) sign t ⌝ }
 {
     if t.sign == NO_SIGN {
-        return without(g);
+        return g;
     }
-    let marked = t.marked & (sign != b'|');
-    let last = remarked(t, marked);
-    let nullable = nullable_with(g.members, sign, g.nullable, t.nullable | marked);
+    let own = holds_empty(t);
+    let nullable = nullable_with(g.members, sign, g.nullable, own);
     let least = least_with(text, g.members, g.least, t.least);
-    let given = g.given | t.marked;
-    if (t.sign == sign) & !marked {
+    let mark = t.mark;
+    let plain = is_plain(mark);
+    if (t.sign == sign) & plain {
         return Gathered {
-            last: last,
-            given: given,
+            last: t,
+            given: g.given,
             members: g.members + t.members,
             nullable: nullable,
             size: g.size + (t.size - 1),
@@ -229,17 +283,28 @@ fn gather(text: &[u8], stack: &mut [u64; MAX_NODES], g: Gathered, sign: u8, t: T
         };
     }
     let top = t.top - 1;
-    let head = head_of(t, marked);
+    let head = head_of(t);
     stack[top] = packed(head);
     Gathered {
-        last: last,
-        given: given,
+        last: t,
+        given: g.given,
         members: g.members + 1,
         nullable: nullable,
         size: g.size + t.size,
         least: least,
         top: top,
     }
+}
+
+// One member more as it was tidied: a choice takes it without the empty row.
+fn gather(text: &[u8], stack: &mut [u64; MAX_NODES], g: Gathered, sign: u8, t: Tidied) -> Gathered
+    requires { ⌜ FitsOn (now text) (now stack) (notedBy t g) (strippedBy sign t) ⌝ }
+    ensures { λ r. ⌜ r ≡ addedBy (now (text .entry)) (notedBy t g) sign (strippedBy sign t) ⌝ }
+    ensures { λ r. ⌜ StackedBy (now (stack .entry)) (now (stack .exit)) sign (strippedBy sign t) ⌝ }
+{
+    let h = noted(g, t);
+    let u = stripped(t, sign);
+    added(text, stack, h, sign, u)
 }
 
 // A group of no members is `()`, and a group of one dissolves.
@@ -256,7 +321,7 @@ fn grouped(g: Gathered, sign: u8, next: usize) -> Tidied
     }
     Tidied {
         sign: sign,
-        marked: false,
+        mark: Mark::Plain,
         nullable: g.nullable,
         members: g.members,
         size: g.size + 1,
@@ -266,31 +331,30 @@ fn grouped(g: Gathered, sign: u8, next: usize) -> Tidied
     }
 }
 
-// A choice takes the `?` of its members, and one for a `()` that was dropped.
+// A choice of which a member held the empty row gets a `?`.
 fn closed(g: Gathered, sign: u8, next: usize) -> Tidied
     requires { ⌜ (g .top ≤ maxNodes) × (g .size ≤ maxNodes) ⌝ }
     ensures { λ r. ⌜ r ≡ groupClosedBy g sign next ⌝ }
 {
     let t = grouped(g, sign, next);
     if (sign == b'|') & g.given {
-        optional(t)
+        marking(t, Mark::Optional)
     } else {
         t
     }
 }
 
-// The `?` behind a tree, if there is one.
+// The mark behind a tree, if there is one.
 fn with_mark(text: &[u8], t: Tidied) -> Tidied
     ensures { λ r. ⌜ r ≡ markedBy (now (text .entry)) t ⌝ }
 {
     let at = t.next;
-    if at < text.len() {
-        if text[at] == b'?' {
-            let u = optional(t);
-            return placed(u, t.top, at + 1);
-        }
+    let mark = mark_at(text, at);
+    if is_plain(mark) {
+        return t;
     }
-    t
+    let u = marking(t, mark);
+    placed(u, t.top, at + 1)
 }
 
 // The sign of a group, by the byte behind a member: `)` tells none.

@@ -8,7 +8,7 @@ ghost use Rattle.model.specs.{Answer.answer, Fault.accepted, Syntax.Syntax, Syn
 ghost use Rattle.fields.specs.Bytes.{bytes};
 ghost use Rattle.canonical.specs.Canonical.{writeFitting, writeReply, writtenOf, bufferWritten};
 ghost use Rattle.canonical.specs.Writer.Accepted.{treeReply, OneTree};
-ghost use Rattle.canonical.specs.Writer.{Stack.markIf, Stack.treesOn, Length.LengthReady, Length.signedLength, Lists.PutReady, Lists.TreePut};
+ghost use Rattle.canonical.specs.Writer.{Stack.treesOn, Length.LengthReady, Length.signedLength, Lists.PutReady, Lists.TreePut};
 use crate::atom::kept_end;
 use crate::atom::put_atom;
 use crate::fault::WriteFault;
@@ -23,11 +23,22 @@ use crate::tidy::tidy;
 use judge::reading::Outcome;
 use judge::reading::model_outcome;
 use model::rule::MAX_NODES;
+use model::rule::Mark;
 
 // The length of the text that was written, or why there is none, and the place.
 pub enum Written {
     Length(usize),
     Refused(WriteFault, usize),
+}
+
+fn mark_length(mark: Mark) -> usize
+    ensures { λ r. ⌜ r ≡ length (markText mark) ⌝ }
+{
+    match mark {
+        Mark::Plain => 0,
+        Mark::Optional => 1,
+        Mark::Nonempty => 1,
+    }
 }
 
 // How long the texts of the trees on the stack are, with one byte behind each.
@@ -45,24 +56,29 @@ fn signed_length(text: &[u8], stack: &[u64; MAX_NODES], top: usize) -> usize
             let name = name_end(text, at);
             own = kept_end(text, at, name) - at;
         }
-        if head.marked {
-            own += 1;
-        }
-        sum += own + 1;
+        let mark = head.mark;
+        let more = mark_length(mark);
+        sum += own + more + 1;
         i += 1;
     }
     sum
 }
 
-fn put_mark(buffer: &mut [u8], to: usize, marked: bool) -> usize
-    requires { ⌜ to + length (markText (markIf marked)) ≤ length (now buffer) ⌝ }
-    ensures { λ r. ⌜ Put (now (buffer .entry)) (now (buffer .exit)) to (markText (markIf marked)) r ⌝ }
+fn put_mark(buffer: &mut [u8], to: usize, mark: Mark) -> usize
+    requires { ⌜ to + length (markText mark) ≤ length (now buffer) ⌝ }
+    ensures { λ r. ⌜ Put (now (buffer .entry)) (now (buffer .exit)) to (markText mark) r ⌝ }
 {
-    if marked {
-        buffer[to] = b'?';
-        return to + 1;
+    match mark {
+        Mark::Plain => to,
+        Mark::Optional => {
+            buffer[to] = b'?';
+            to + 1
+        }
+        Mark::Nonempty => {
+            buffer[to] = b'!';
+            to + 1
+        }
     }
-    to
 }
 
 // Writes the tree whose head stands at `at`. The list is free from `start` on.
@@ -80,9 +96,10 @@ fn put_tree(
         (now (buffer .exit)) at start to r ⌝ }
 {
     let head = unpacked(stack[at]);
+    let mark = head.mark;
     if head.sign == ATOM {
         let end = put_atom(text, buffer, head.least as usize, to);
-        return put_mark(buffer, end, head.marked);
+        return put_mark(buffer, end, mark);
     }
     let end = members(text, stack, list, at, start);
     let mut before = b'(';
@@ -96,7 +113,7 @@ fn put_tree(
         p = put_tree(text, stack, list, buffer, m, end, p + 1);
     }
     buffer[p] = b')';
-    put_mark(buffer, p + 1, head.marked)
+    put_mark(buffer, p + 1, mark)
 }
 
 // `()`, if the buffer has room for it.
@@ -140,7 +157,7 @@ fn write_accepted(text: &[u8], buffer: &mut [u8]) -> Written
         return write_nothing(buffer);
     }
     let top = t.top - 1;
-    let head = head_of(t, t.marked);
+    let head = head_of(t);
     stack[top] = packed(head);
     write_tree(text, &stack, top, buffer)
 }

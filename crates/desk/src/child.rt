@@ -125,7 +125,7 @@ pub fn child<'a>(model: &'a [u8], children: &'a [u8], k: usize) -> &'a [u8]
     }
 }
 
-// The number of the refusal: 10 to 17 and 19, then 30, 35, 36, then 37 where k is 0 or past the last child; 0 where there is none.
+// The number of the refusal: 10 to 19, then 30, 35, 36, then 37 where k is 0 or past the last child; 0 where there is none.
 pub fn child_refusal(model: &[u8], children: &[u8], k: usize) -> u32
     ensures { λ r. ⌜ r ≡ childRefusal (now (model .entry)) (now (children .entry)) k ⌝ }
 {

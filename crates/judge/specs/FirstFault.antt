@@ -9,6 +9,7 @@ use lib.ListN.{length, take, getD}
 use Rattle.fields.specs.{Bytes.Text, Limits.maxRow, Least.Least, Least.NoneStands}
 use Rattle.model.specs.{declared.rule.Upper.Upper, declared.rule.Upper.the-variants.Number, declared.rule.Kind.Kind, declared.rule.Node.Node}
 use Rattle.model.specs.{declared.rule.Rule.Rule, Word.Word, Word.count, Types.Ty, Types.ε, Types.atom, Types.join, Types.Under, Membership.under}
+use Rattle.model.specs.Types.{nonempty}
 use Rattle.model.specs.{Model.modelOf, Model.encode}
 use Rattle.model.specs.Rule.{Readable, used, names, nth}
 use Rattle.model.specs.declared.rule.Kind.the-variants.{Atom, Group}
@@ -39,6 +40,7 @@ abbrev pub CountsAre : (ℕ → Upper) → Ty → Type 0
 CountsAre f ε = Unit {0}
 CountsAre f (atom a m n) = f a ≡ n
 CountsAre f (join o A B) = CountsAre f A × CountsAre f B
+CountsAre f (nonempty A) = CountsAre f A
 
 -- The child at place p is foreign, or its name stands more often in the row up to and with it than the name's upper count allows.
 pub data FaultAt (us : List Upper) (w : Word) (p : ℕ) : Type 0 where

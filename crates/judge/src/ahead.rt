@@ -4,15 +4,15 @@ ghost use mathlib.Core.{Path._≡_, Bool.cond, List.[]};
 ghost use Prim.Native.Nat.{suc, _≤_};
 ghost use Rattle.fields.specs.Limits.{maxAtoms};
 ghost use Rattle.model.specs.{Membership.under, Model.operator, Model.isAtom};
+ghost use Rattle.judge.specs.Packed.{nodeIn};
 ghost use Rattle.judge.specs.Next.{Set.single, Ahead.firstOpen, Ahead.secondOpen, Ahead.pairAhead, Ahead.partAhead, Ahead.grownAhead, Ahead.markedAhead};
 use crate::attribute::Attribute;
 use crate::attribute::begin;
 use crate::attribute::blank;
-use crate::attribute::marked;
+use crate::attribute::marked_in;
 use crate::attribute::pair;
 use crate::tally::Seen;
 use model::rule::Kind;
-use model::rule::Mark;
 use model::rule::Sign;
 use model::rule::Upper;
 
@@ -128,13 +128,13 @@ pub(crate) fn grown_ahead(kind: Kind, first: bool, x: Ahead, y: Ahead) -> Ahead
     }
 }
 
-// A mark forbids no name.
-pub(crate) fn marked_ahead(length: u16, mark: Mark, x: Ahead) -> Ahead
-    ensures { λ r. ⌜ r ≡ markedAhead length mark x ⌝ }
+// With the mark of the node in a number, which forbids no name.
+pub(crate) fn marked_ahead(length: u16, word: u64, x: Ahead) -> Ahead
+    ensures { λ r. ⌜ r ≡ markedAhead length (nodeIn word .mark) x ⌝ }
 {
     let p = x.part;
     Ahead {
-        part: marked(length, mark, p),
+        part: marked_in(length, word, p),
         next: x.next,
     }
 }

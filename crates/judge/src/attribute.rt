@@ -3,9 +3,11 @@
 ghost use mathlib.Core.{Path._≡_, List.[]};
 ghost use Prim.Native.Nat.{max, min};
 ghost use Rattle.model.specs.{Membership.joined, Membership.begun, Model.operator};
-ghost use Rattle.judge.specs.Row.Attribute.{emptyAttribute, atomAttribute, pairAttribute, countedAttribute, markedAttribute};
-ghost use Rattle.judge.specs.Row.Root.{partAttribute, grownAttribute};
+ghost use Rattle.judge.specs.Row.Attribute.{emptyAttribute, atomAttribute, pairAttribute, nonemptyAttribute, countedAttribute, markedAttribute};
+ghost use Rattle.judge.specs.{Packed.nodeIn, Row.Root.partAttribute, Row.Root.grownAttribute};
+use crate::packed::mark_in;
 use crate::tally::Seen;
+use model::mark::MARK_PLACE;
 use model::rule::Kind;
 use model::rule::Mark;
 use model::rule::Sign;
@@ -125,14 +127,38 @@ fn counted(length: u16, min: u16, seen: Seen) -> Attribute
     }
 }
 
+// Not done while the row has none of the names.
+fn nonempty(x: Attribute) -> Attribute
+    ensures { λ r. ⌜ r ≡ nonemptyAttribute x ⌝ }
+{
+    Attribute {
+        first: x.first,
+        behind: x.behind,
+        done: (0 < x.behind) & x.done,
+        alive: x.alive,
+    }
+}
+
 // A member with `?` is a choice of nothing and the member.
-pub(crate) fn marked(length: u16, mark: Mark, x: Attribute) -> Attribute
+fn marked(length: u16, mark: Mark, x: Attribute) -> Attribute
     ensures { λ r. ⌜ r ≡ markedAttribute length mark x ⌝ }
 {
     match mark {
         Mark::Plain => x,
         Mark::Optional => pair(Sign::Choice, empty(length), x),
+        Mark::Nonempty => nonempty(x),
     }
+}
+
+// The same by the node in a number. A number below MARK_PLACE has no mark: most have none, and then none is decoded.
+pub(crate) fn marked_in(length: u16, word: u64, x: Attribute) -> Attribute
+    ensures { λ r. ⌜ r ≡ markedAttribute length (nodeIn word .mark) x ⌝ }
+{
+    if word < MARK_PLACE {
+        return x;
+    }
+    let mark = mark_in(word);
+    marked(length, mark, x)
 }
 
 // A node with none of its members yet.

@@ -13,8 +13,8 @@ use crate::ahead::blank_ahead;
 use crate::ahead::grown_ahead;
 use crate::ahead::marked_ahead;
 use crate::fault::JudgeFault;
+use crate::packed::kind_in;
 use crate::packed::pack;
-use crate::packed::unpacked;
 use crate::reply::ChildrenRead;
 use crate::reply::read_children;
 use crate::row::Tested;
@@ -49,9 +49,8 @@ fn root_next(
     let mut i = len;
     while 0 < i {
         i -= 1;
-        let node = unpacked(words[i]);
-        let kind = node.kind;
-        let mark = node.mark;
+        let word = words[i];
+        let kind = kind_in(word);
         let end = lesser(members_of(kind), MAX_NODES - top) + top;
         let here = seen_of(seen[name], children);
         let mut x = begin_ahead(children, kind, here, name);
@@ -63,7 +62,7 @@ fn root_next(
         }
         name -= atoms_of(kind);
         top = end - 1;
-        stack[top] = marked_ahead(children, mark, x);
+        stack[top] = marked_ahead(children, word, x);
     }
     if top < MAX_NODES {
         let root = stack[top];

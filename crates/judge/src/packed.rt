@@ -7,7 +7,10 @@ ghost use Rattle.model.specs.declared.rule.Kind.the-variants.{Atom, Group};
 ghost use Rattle.model.specs.Rule.{used, unused, ruleWith};
 ghost use Rattle.fields.specs.Limits.{maxNodes};
 ghost use Rattle.judge.specs.Reading.Buffer.{Stores};
-ghost use Rattle.judge.specs.Packed.{packedWord, nodeIn, ruleIn, plainNode, optionalNode, isSign, signBy, kindBy, markBy};
+ghost use Rattle.judge.specs.Packed.{packedWord, nodeIn, ruleIn, plainNode, markedNode, isSign, signBy, kindBy};
+use model::mark::MARK_PLACE;
+use model::mark::mark_number;
+use model::mark::numbered_mark;
 use model::rule::Kind;
 use model::rule::MAX_NODES;
 use model::rule::Mark;
@@ -40,11 +43,11 @@ pub(crate) fn packed_group(sign: u8, members: u16) -> u64
     packed(sign, members, 0)
 }
 
-// The number of the same node with `?`.
-pub(crate) fn packed_optional(word: u64) -> u64
-    ensures { λ r. ⌜ nodeIn r ≡ optionalNode (nodeIn word) ⌝ }
+// The number of the same node with a mark.
+pub(crate) fn packed_marked(word: u64, mark: Mark) -> u64
+    ensures { λ r. ⌜ nodeIn r ≡ markedNode mark (nodeIn word) ⌝ }
 {
-    word / 256 * 256 + 128 + word % 128
+    word % MARK_PLACE + mark_number(mark) * MARK_PLACE
 }
 
 fn sign_by(byte: u64) -> Sign
@@ -83,26 +86,29 @@ fn kind_of(shape: u64, low: u16, high: u16) -> Kind
     }
 }
 
-fn mark_of(bit: u64) -> Mark
-    ensures { λ r. ⌜ r ≡ markBy bit ⌝ }
+// Kind and mark of the node in a number.
+pub(crate) fn kind_in(word: u64) -> Kind
+    ensures { λ r. ⌜ r ≡ nodeIn word .kind ⌝ }
 {
-    if bit == 0 {
-        Mark::Plain
-    } else {
-        Mark::Optional
-    }
+    kind_of(
+        word % 256,
+        (word / 256 % 65536) as u16,
+        (word / 256 / 65536 % 65536) as u16,
+    )
+}
+
+pub(crate) fn mark_in(word: u64) -> Mark
+    ensures { λ r. ⌜ r ≡ nodeIn word .mark ⌝ }
+{
+    numbered_mark(word / MARK_PLACE)
 }
 
 pub(crate) fn unpacked(word: u64) -> Node
     ensures { λ r. ⌜ r ≡ nodeIn word ⌝ }
 {
     Node {
-        kind: kind_of(
-            word % 128,
-            (word / 256 % 65536) as u16,
-            (word / 256 / 65536 % 65536) as u16,
-        ),
-        mark: mark_of(word / 128 % 2),
+        kind: kind_in(word),
+        mark: mark_in(word),
     }
 }
 
@@ -132,10 +138,7 @@ fn packed_node(node: Node) -> u64
 {
     let kind = node.kind;
     let mark = node.mark;
-    match mark {
-        Mark::Plain => packed_kind(kind),
-        Mark::Optional => packed_optional(packed_kind(kind)),
-    }
+    packed_marked(packed_kind(kind), mark)
 }
 
 // The nodes of a rule. Places from len on stay as they were.

@@ -7,7 +7,7 @@ ghost use Rattle.fields.specs.Limits.{maxAtoms, maxNodes, maxRow};
 ghost use Rattle.model.specs.{declared.rule.Upper.Upper, Model.atomsIn};
 ghost use Rattle.judge.specs.{Packed.nodeIn, FirstFault.upperCounts, Row.upto};
 ghost use Rattle.judge.specs.Row.Tally.{oneLeft, limitNumber, limitedWord, seenOf, notedWord, Seeing, RowTallied};
-use crate::packed::unpacked;
+use crate::packed::kind_in;
 use crate::verdict::FirstFault;
 use model::check::atoms_of;
 use model::rule::Kind;
@@ -62,8 +62,7 @@ pub(crate) fn limit_names(words: &[u64; MAX_NODES], len: usize, seen: &mut [u64;
     let mut name: usize = 0;
     let mut i: usize = 0;
     while i < len {
-        let node = unpacked(words[i]);
-        let kind = node.kind;
+        let kind = kind_in(words[i]);
         name += atoms_of(kind);
         seen[name] = limited(kind, seen[name]);
         i += 1;

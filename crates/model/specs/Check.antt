@@ -6,8 +6,9 @@ pub mod Exact
 use mathlib.Core.{Bool.Bool, Bool.true, Bool.false, Bool.cond, Bool._&&_, List.List, List.[], List._∷_}
 use Prim.Native.Nat.{ℕ, _+_}
 use lib.{Dec.leb, Dec.eqb, ListN.drop, ListN.length, ListN.getD}
-use Rattle.model.specs.{declared.rule.Upper.Upper, declared.rule.Sign.Sign, declared.rule.Kind.Kind, declared.rule.Node.Node as RuleNode}
-use Rattle.model.specs.{declared.rule.Rule.Rule, Tree.isPlain, Tree.highest, Rule.used, Rule.names, Depth.deeper, Depth.ruleDepth}
+use Rattle.model.specs.{declared.rule.Upper.Upper, declared.rule.Sign.Sign, declared.rule.Mark.Mark, declared.rule.Kind.Kind}
+use Rattle.model.specs.{declared.rule.Node.Node as RuleNode, declared.rule.Rule.Rule}
+use Rattle.model.specs.{Tree.isPlain, Tree.markFits, Tree.highest, Rule.used, Rule.names, Depth.deeper, Depth.ruleDepth}
 use Rattle.model.specs.declared.rule.Upper.the-variants.{Number, Unbounded}
 use Rattle.model.specs.declared.rule.Sign.the-variants.{None, Sequence, Choice, Interleaving}
 use Rattle.model.specs.declared.rule.Kind.the-variants.{Atom, Group}
@@ -51,6 +52,20 @@ nestingOf (Group s n) d = deeper d
 abbrev pub nestingBy : Algebra ℕ
 nestingBy = record { onAtom = λ k lo hi. 0; onGroup = λ k s l. deeper (highest l); onMark = λ m d. d }
 
+-- Of a tree: 0 where it has no atom, 1 where it has one, 2 where a `!` in it has none under it.
+abbrev pub fillOf : Kind → ℕ → ℕ
+fillOf (Atom lo hi) v = 1
+fillOf (Group s n) v = v
+
+abbrev pub refill : Mark → ℕ → ℕ
+refill m v = cond (markFits m v) v 2
+
+abbrev pub fillBy : Algebra ℕ
+fillBy = record { onAtom = λ k lo hi. 1; onGroup = λ k s l. highest l; onMark = refill }
+
+abbrev pub ruleFill : Rule → ℕ
+ruleFill r = getD (eval fillBy (used r) 0) 0 0
+
 -- one tree, and no more is said of it than n
 abbrev pub oneUnder : ℕ → List ℕ → Bool
 oneUnder n [] = false
@@ -65,6 +80,7 @@ wellFormed r =
     && sound (used r)
     && oneUnder maxNesting (eval nestingBy (used r) 0)
     && leb (names r) maxAtoms
+    && leb (ruleFill r) 1
 
 -- the brackets open at once, if so, and else one over the limit
 abbrev pub ruleNesting : Rule → ℕ

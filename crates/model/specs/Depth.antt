@@ -7,8 +7,8 @@ use Prim.Native.Nat.{ℕ, _+_, _-_, max, min}
 use lib.{Dec.ltb, ListN.getD}
 use Rattle.model.specs.{declared.rule.Sign.Sign, declared.rule.Sign.the-variants.None, declared.rule.Mark.Mark, declared.rule.Kind.Kind}
 use Rattle.model.specs.{declared.rule.Rule.Rule, declared.depth.Flat.Flat, Rule.used, Flatten.sameSign, Flatten.droppedMark, Model.Algebra, Model.eval}
-use Rattle.model.specs.declared.rule.Mark.the-variants.{Plain, Optional}
 use Rattle.model.specs.declared.rule.Kind.the-variants.{Atom, Group}
+use Rattle.model.specs.Tree.{isPlain}
 use Rattle.fields.specs.Limits.{maxNesting}
 
 -- one more, but no more than one over the limit
@@ -44,8 +44,7 @@ someEmpty [] = false
 someEmpty (x ∷ l) = x .empty || someEmpty l
 
 abbrev pub overBy : Mark → Flat → Flat
-overBy Plain x = x
-overBy Optional x = record { sign = x .sign; marked = not (x .empty); empty = x .empty; depth = x .depth }
+overBy m x = record { sign = x .sign; marked = cond (isPlain m) (x .marked) (not (x .empty)); empty = x .empty; depth = x .depth }
 
 -- the members of a group made x, and whether a `()` was dropped
 abbrev pub closedBy : Sign → Bool → Flat → Flat

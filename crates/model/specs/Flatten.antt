@@ -13,7 +13,7 @@ use lib.Dec.{eqb}
 use Rattle.model.specs.{declared.rule.Sign.Sign, declared.rule.Mark.Mark}
 use Rattle.model.specs.declared.rule.Sign.the-variants.{None, Sequence, Choice, Interleaving}
 use Rattle.model.specs.declared.rule.Mark.the-variants.{Plain, Optional}
-use Rattle.model.specs.Tree.{Node, leaf, group, Tree, marked, Members, none, _▹_, isPlain, highest}
+use Rattle.model.specs.Tree.{Node, leaf, group, Tree, marked, Members, none, _▹_, nodeUnder, isPlain, highest}
 
 abbrev pub signNumber : Sign → ℕ
 signNumber None = 0
@@ -75,10 +75,9 @@ module _ {A : Type 0} where
   grouped s (t ▹ none) = t
   grouped s (t ▹ u ▹ ts) = marked Plain (group s (t ▹ u ▹ ts))
 
-  -- a mark passes to what its group has become, in the place of a mark that is there; `()?` is `()`
+  -- a mark passes to what its group has become, in the place of a mark that is there; none stays on `()`
   abbrev pub over : Mark → Tree A → Tree A
-  over Plain t = t
-  over Optional (marked m n) = cond (isNil (marked m n)) nil (marked Optional n)
+  over m t = cond (isPlain m || isNil t) t (marked m (nodeUnder t))
 
   abbrev mutual
     pub flattenNode : Node A → Tree A

@@ -8,7 +8,7 @@ use lib.Dec.{leb}
 use Rattle.model.specs.declared.rule.Upper.{Upper}
 use Rattle.model.specs.declared.rule.Upper.the-variants.{Number, Unbounded}
 use Rattle.model.specs.Word.{Word, Names, count, touched, ordered}
-use Rattle.model.specs.Types.{Operator, sequence, choice, interleaving, Ty, ε, atom, join, symbols}
+use Rattle.model.specs.Types.{Operator, sequence, choice, interleaving, Ty, ε, atom, join, nonempty, symbols}
 
 abbrev pub under : ℕ → Upper → Bool
 under k (Number n) = leb k n
@@ -33,6 +33,7 @@ done ε w = true
 done (atom a m n) w = leb m (count a w) && under (count a w) n
 done (join o A B) w =
     joined o (ordered (symbols A) (symbols B) w) (touched (symbols A) w) (touched (symbols B) w) (done A w) (done B w)
+done (nonempty A) w = touched (symbols A) w && done A w
 
 -- whether that part can be extended to a word that is held
 unfoldable pub alive : Ty → Word → Bool
@@ -40,6 +41,7 @@ alive ε w = true
 alive (atom a m n) w = under (count a w) n
 alive (join o A B) w =
     begun o (ordered (symbols A) (symbols B) w) (touched (symbols A) w) (touched (symbols B) w) (done A w) (alive A w) (alive B w)
+alive (nonempty A) w = alive A w
 
 -- every symbol of the word is in the set
 unfoldable pub over? : Names → Word → Bool
@@ -60,3 +62,4 @@ nullable (atom a m n) = false
 nullable (join sequence A B) = nullable A && nullable B
 nullable (join choice A B) = nullable A || nullable B
 nullable (join interleaving A B) = nullable A && nullable B
+nullable (nonempty A) = false

@@ -6,6 +6,7 @@ ghost use Rattle.model.specs.Flatten.{signNumber, sameSign};
 use crate::check::larger;
 use crate::check::members_of;
 use crate::check::one_deeper;
+use crate::mark::is_plain;
 use crate::rule::Kind;
 use crate::rule::MAX_NODES;
 use crate::rule::Mark;
@@ -89,17 +90,13 @@ fn beside(sign: Sign, x: Flat, y: Flat) -> Flat
 fn over(mark: Mark, x: Flat) -> Flat
     ensures { λ r. ⌜ r ≡ overBy mark x ⌝ }
 {
-    match mark {
-        Mark::Plain => x,
-        Mark::Optional => {
-            let sign = x.sign;
-            Flat {
-                sign: sign,
-                marked: !x.empty,
-                empty: x.empty,
-                depth: x.depth,
-            }
-        }
+    let plain = is_plain(mark);
+    let sign = x.sign;
+    Flat {
+        sign: sign,
+        marked: if plain { x.marked } else { !x.empty },
+        empty: x.empty,
+        depth: x.depth,
     }
 }
 

@@ -1,5 +1,5 @@
-// Runs what document 01 gives to try and is not proved, the examples of document 001, and rows with a first fault: a line for each, with the text or the
-// model and the row, and the answer.
+// Runs what document 01 gives to try and is not proved, the examples of document 001, rows with a first fault, and what `!` does: a line for each, with the
+// text or the model and the row, and the answer.
 
 ghost use Prim.Native.Nat.{_≤_};
 ghost use lib.ListN.{length};
@@ -224,6 +224,30 @@ fn marks_and_groups() {
     read(b"a-");
 }
 
+// Document 02, W7: at least one of these. Rows, first faults, and which of 11, 17 and 18 is met.
+fn at_least_one() {
+    run(b"(a?&b?)!", b"");
+    run(b"(a?&b?)!", b"ba");
+    run(b"((a?,b?)!|c)?", b"");
+    run(b"((a?,b?)!&c)", b"c");
+    run(b"((a?,b?)!&c)", b"cb");
+    run(b"a[0..2]!", b"");
+    run(b"((()|a)!,b)", b"b");
+    search(b"((a?,b?)!,c)", b"c");
+    search(b"((a?,b?)!,c)", b"cbb");
+    read(b"a!");
+    read(b"a?!");
+    read(b"a!?");
+    read(b"a!!");
+    read(b"()!");
+    read(b"()?!");
+    read(b"(()|())!");
+    read(b"(()|a?)!");
+    read(b"((()!),a,a)");
+    read(b"(a,a,()!)");
+    read(b"(a,b)![1..2]");
+}
+
 // Writes the byte if the text is read.
 fn tell_read(text: &[u8], b: u8) {
     let reading = read_model(text);
@@ -401,6 +425,8 @@ fn depths() {
     read_joined(b"26 of one sign", 26, b"()", b")");
     read_joined(b"16 of one sign, marked", 16, b"x", b")?");
     read_joined(b"17 of one sign, marked", 17, b"x", b")?");
+    read_joined(b"16 of one sign, with !", 16, b"x", b")!");
+    read_joined(b"17 of one sign, with !", 17, b"x", b")!");
     read_turns(b"15 signs by turns round ((x|y)|z)", 15, b"((x|y)|z)", 0);
     read_turns(
         b"15 signs by turns round ((x|y|())|z)",
@@ -417,6 +443,7 @@ fn main() {
     limits();
     names_and_counts();
     marks_and_groups();
+    at_least_one();
     bytes_of_names();
     atoms_and_nodes();
     brackets();

@@ -47,7 +47,7 @@ SheetStands x BadFields n = Line x n × (¬ (length (fields (line x n)) ≡ 3) �
 -- 24: the kind is no name of 1 to 32 characters
 SheetStands x NoKind n = Line x n × (shortName (kind (line x n)) ≡ false)
 SheetStands x Repeated n = Line x n × Earlier x n
--- 10 to 17 and 19: the model text of the line is refused so
+-- 10 to 19: the model text of the line is refused so
 SheetStands x (Model f) n = Line x n × ((p : ℕ) × Answers (model (line x n)) (refused f p))
 
 -- by number, then the model's own, of which a line has at most one

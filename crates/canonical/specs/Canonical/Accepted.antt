@@ -9,14 +9,14 @@ use borrow.Author.Tests.{eqb-false, le-ltb}
 use Rattle.fields.specs.{Bytes.Text, Bytes.isNumeral, Bytes.value, Bytes.sameText, Bytes.Laws.same-text, Limits.maxName, Limits.maxCount}
 use Rattle.fields.specs.{Limits.maxNesting, Limits.maxNodes, Tests.by-test, Tests.neither}
 use Rattle.model.specs.declared.rule.{Sign.Sign, Mark.the-variants.Plain}
-use Rattle.model.specs.Tree.{Node, leaf, group, marked, Members, none, _▹_, size, nodeWeight, membersWeight, atoms, nodes, nesting, Formed}
+use Rattle.model.specs.Tree.{Node, leaf, group, marked, Members, none, _▹_, size, nodeWeight, membersWeight, atoms, nodes, nesting, Formed, MarksFit}
 use Rattle.model.specs.Tree.Leaves.{formed-each, each-formed}
 use Rattle.model.specs.Syntax.{Count, unwritten, between, onward, Spelling, Syntax, CountFormed, SpellingFormed, writtenNames}
 use Rattle.model.specs.{Fault.wrong, Fault.accepted, Fault.Answers, Flatten.nil, Flatten.flatten, Flatten.Solid.Solid, Flatten.Solid.SolidAll}
 use Rattle.model.specs.{Accept.Within, Accept.Laws.member-at, Accept.Laws.member-place, Accept.Laws.within-accepted, Accept.Laws.accepted-within}
 use Rattle.judge.specs.Reading.Table.{Distinct}
-use Rattle.canonical.specs.Tidy.{raised, tidyCount, tidyAtom, tidy, Form.tidy-neat, Flat.neat-solid, Formed.tidy-formed, Leaves.tidy-names}
-use Rattle.canonical.specs.Tidy.Leaves.{tidy-atoms}
+use Rattle.canonical.specs.Tidy.{raised, tidyCount, tidyAtom, tidy, Form.tidy-neat, Flat.neat-solid, Flat.neat-marks, Formed.tidy-formed}
+use Rattle.canonical.specs.Tidy.Leaves.{tidy-names, tidy-atoms}
 use Rattle.canonical.specs.{Order.Smallest.occurs, Order.Smallest.occurs-here, Order.Smallest.occurs-in, Order.Smallest.SameNames}
 use Rattle.canonical.specs.Order.Kept.{order-weight, order-nesting, order-names, order-formed}
 use Rattle.canonical.specs.Canonical.{canonical, canonicalText, Fixed.canonical-tidy, Fixed.canonical-neat, Depth.solid-nesting}
@@ -140,6 +140,9 @@ module _ (t : Syntax) (formed : Formed SpellingFormed t) (within : Within t) whe
       (λ h. omega (arith, solid-nodes (canonical t) (neat-solid (canonical t) h), canonical-atoms t, within .few-atoms))
       (canonical-neat t)
 
+  marks : MarksFit (canonical t)
+  marks = ⊎-elim (λ e. rw e (refl, tt)) (neat-marks (canonical t)) (canonical-neat t)
+
   few-times : (x : Text) → occurs x (writtenNames (canonical t)) ≤ 1
   few-times x = omega (arith, canonical-names t x, distinct-once (writtenNames t) (within .apart) x)
 
@@ -151,6 +154,7 @@ canonical-within t h w = record {
   shallow = omega (arith, canonical-depth t, w .shallow);
   few-atoms = omega (arith, canonical-atoms t, w .few-atoms);
   few-nodes = few-nodes t h w;
+  marks = marks t h w;
   apart = once-distinct (writtenNames (canonical t)) (few-times t h w);
 }
 

@@ -6,7 +6,7 @@ use Prim.Native.Nat.{ℕ, zero, suc, _≤_}
 use lib.ListN.{length, length-map}
 use Rattle.fields.specs.Bytes.{Text}
 use Rattle.model.specs.{declared.rule.Upper.Upper, declared.rule.Sign.Sign, declared.rule.Mark.Mark}
-use Rattle.model.specs.declared.rule.Mark.the-variants.{Plain, Optional}
+use Rattle.model.specs.declared.rule.Mark.the-variants.{Plain, Optional, Nonempty}
 use Rattle.model.specs.Word.{Word, only, Over, Shuffle, none as nothing, left, right, Laws.only-is, Laws.only-self}
 use Rattle.model.specs.Tree.{Node, leaf, group, marked, Members, none, _▹_, nodeLeaves, leaves, membersLeaves}
 use Rattle.model.specs.Syntax.{Spelling, Syntax}
@@ -44,9 +44,14 @@ module _ (ν μ : Text → ℕ) where
   carried-joined interleaving A A′ B B′ f g w (u, v, s, p, q) =
       let (x, y, i, j, r) = shuffled w s in (map μ x, map μ y, r, f x (subst (Holds A) i p), g y (subst (Holds B) j q))
 
+  none-named : (w : List Text) → map μ w ≡ [] → map ν w ≡ []
+  none-named [] e = refl
+  none-named (x ∷ w) e = absurd (cons≢nil e)
+
   carried-marked : (m : Mark) (A B : Ty) → Carried A B → Carried (markedType m A) (markedType m B)
   carried-marked Plain A B f = f
   carried-marked Optional A B f = carried-joined choice ε ε A B carried-empty f
+  carried-marked Nonempty A B f = λ w h. (f w (h .0), λ e. h .1 (none-named w e))
 
   -- μ takes for the name of the atom all that ν takes for it
   abbrev Follows : Spelling → Type 0

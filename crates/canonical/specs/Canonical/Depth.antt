@@ -1,15 +1,17 @@
 -- The canonical tree is no deeper: tidying takes groups away from around an atom, and never puts one there.
-use mathlib.Core.{Path._≡_, Path.refl, Path.sym, Path.ap, Path._∙_, Logic.⊎-elim}
+use mathlib.Core.{Path._≡_, Path.refl, Path.sym, Path.ap, Path.ap₂, Path._∙_, Logic.⊎-elim}
 use mathlib.Core.List.{List, [], _∷_, map}
-use Prim.Native.Nat.{ℕ, suc, _≤_, max}
+use Prim.Native.Nat.{suc, _≤_, max}
 use native.Mathlib.Omega.{arith}
+use Rattle.fields.specs.Tests.{by-test}
 use Rattle.model.specs.{declared.rule.Sign.Sign, declared.rule.Mark.Mark}
-use Rattle.model.specs.declared.rule.Mark.the-variants.{Plain, Optional}
+use Rattle.model.specs.declared.rule.Mark.the-variants.{Plain, Nonempty}
 use Rattle.model.specs.Tree.{Node, leaf, group, marked, Members, none, _▹_, nodeNesting, nesting, membersNesting}
 use Rattle.model.specs.Syntax.{Spelling, Syntax}
-use Rattle.model.specs.Flatten.{gathered, grouped, droppedMark, flatten, depth, Solid.Solid, Solid.SolidAll, Solid.tree-flattened}
+use Rattle.model.specs.Flatten.{isChoice, gathered, grouped, droppedMark, flatten, depth, Solid.Solid, Solid.SolidAll, Solid.tree-flattened}
 use Rattle.model.specs.Flatten.Depth.{deepest, deepestOf, deepestIn, deepest-first, group-deepest, gathered-inside, grouped-inside, no-deeper}
-use Rattle.canonical.specs.Tidy.{marking, stripped, someGives, settledGroup, tidyNode, tidy, tidyAll, Form.tidy-neat, Flat.neat-solid}
+use Rattle.canonical.specs.Tidy.{marking, stripped, anyNullable, settledGroup, tidyNode, tidy, tidyAll, Form.tidy-neat, Flat.neat-solid}
+use Rattle.canonical.specs.Tidy.Leaves.{marking-kept}
 use Rattle.canonical.specs.{Order.Kept.order-nesting, Canonical.canonical}
 
 -- where each group has an atom, brackets are groups around an atom
@@ -27,18 +29,18 @@ mutual
 
 -- tidying
 marking-inside : (m : Mark) (t : Syntax) → deepest (marking m t) ≡ deepest t
-marking-inside Plain t = refl
-marking-inside Optional (marked m n) = refl
+marking-inside = marking-kept deepest (λ j k n. refl)
 
 stripped-inside : (s : Sign) (l : List Syntax) → deepestIn (map (stripped s) l) ≡ deepestIn l
 stripped-inside s [] = refl
-stripped-inside s (marked m n ∷ l) = ap (λ (k : ℕ). max (deepest (marked m n)) k) (stripped-inside s l)
+stripped-inside s (t ∷ l) =
+    ap₂ max (by-test (isChoice s) (λ c. rw c (marking-inside Nonempty t)) (λ c. rw c)) (stripped-inside s l)
 
 settled-inside : (s : Sign) (l : List Syntax) → deepest (settledGroup s l) ≤ suc (deepestIn l)
 settled-inside s l =
     let k = map (stripped s) l in
     let g = gathered s k in
-    omega (arith, marking-inside (droppedMark s (someGives l)) (grouped s g), grouped-inside s g, gathered-inside s k, stripped-inside s l)
+    omega (arith, marking-inside (droppedMark s (anyNullable l)) (grouped s g), grouped-inside s g, gathered-inside s k, stripped-inside s l)
 
 mutual
   node-inside : (n : Node Spelling) → Solid (marked Plain n) → deepest (tidyNode n) ≤ deepest (marked Plain n)

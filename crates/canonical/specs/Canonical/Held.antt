@@ -8,5 +8,6 @@ use Rattle.canonical.specs.Canonical.{Names.canonical-held, Accepted.can
 
 pub held-same : (x : Text) (t : Syntax) → Answers x (accepted t) → (w : List Text) → HoldsNames (canonical t) w ↔ HoldsNames t w
 held-same x t h =
-    canonical-held t (accepted-within x t h .apart) (accepted-within (canonicalText t) (canonical t) (canonical-accepted x t h) .apart)
+    let w = accepted-within x t h in
+    canonical-held t (w .marks) (w .apart) (accepted-within (canonicalText t) (canonical t) (canonical-accepted x t h) .apart)
     (λ a m. occurs-in a (writtenNames t) (subst (λ n. 1 ≤ n) (canonical-names t a) (occurs-here a (writtenNames (canonical t)) m)))

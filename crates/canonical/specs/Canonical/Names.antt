@@ -6,7 +6,7 @@ use native.Mathlib.Omega.{arith}
 use lib.ListN.{length, getD}
 use Rattle.fields.specs.Bytes.{Text}
 use Rattle.model.specs.{Tree.Leaves.length-leaves, Tree.Map.weight-map, Accept.Laws.member-place}
-use Rattle.model.specs.Tree.{Node, leaf, group, marked, Members, none, _▹_, nodeLeaves, leaves, membersLeaves, atoms, mapNode, mapMembers}
+use Rattle.model.specs.Tree.{Node, leaf, group, marked, Members, none, _▹_, nodeLeaves, leaves, membersLeaves, atoms, MarksFit, mapNode, mapMembers}
 use Rattle.model.specs.Syntax.{Spelling, Syntax, writtenNames, numberIn, Number.from-found, Number.from-none}
 use Rattle.model.specs.Types.{Ty}
 use Rattle.model.specs.Model.{Counts, countsOf, modelOf, operator, countedType, joinedType, markedType, typeBy, foldNode, fold, foldAll, typeOf}
@@ -70,14 +70,14 @@ numbered-once ns a x m e = go (numberIn ns a) refl
     go (suc k) z = sym (from-found 0 ns x k (e ∙ z) .2) ∙ from-found 0 ns a k z .2
 
 -- `Distinct` is the form of `Within`'s `apart`
-pub canonical-held : (t : Syntax) → Distinct (writtenNames t) → Distinct (writtenNames (canonical t))
+pub canonical-held : (t : Syntax) → MarksFit t → Distinct (writtenNames t) → Distinct (writtenNames (canonical t))
     → ((a : Text) → List·Memᴰ a (writtenNames (canonical t)) → List·Memᴰ a (writtenNames t))
     → (w : List Text) → HoldsNames (canonical t) w ↔ HoldsNames t w
-canonical-held t d e f w =
+canonical-held t k d e f w =
     rw (named-type t d, named-type u e) (
-      λ h. canonical-rows ν t (map ν w) .0 (rows-carried μ ν u (λ a m x p. ap ν (numbered-once (writtenNames u) (a .name) x (Memᴰ·map nameOf m) p)) w h),
+      λ h. canonical-rows ν t k (map ν w) .0 (rows-carried μ ν u (λ a m x p. ap ν (numbered-once (writtenNames u) (a .name) x (Memᴰ·map nameOf m) p)) w h),
       λ h. rows-carried ν μ u (λ a m x p. ap μ (numbered-once (writtenNames t) (a .name) x (f (a .name) (Memᴰ·map nameOf m)) p)) w
-          (canonical-rows ν t (map ν w) .1 h),
+          (canonical-rows ν t k (map ν w) .1 h),
     )
   where
     u : Syntax

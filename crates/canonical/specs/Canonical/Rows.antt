@@ -2,8 +2,9 @@
 use mathlib.Core.Logic.{_↔_}
 use Prim.Native.Nat.{ℕ}
 use Rattle.fields.specs.Bytes.{Text}
-use Rattle.model.specs.{Word.Word, Syntax.Syntax, Types.Holds, Types.Languages.thus, Model.typeWith, Flatten.flatten, Flatten.Rows.rows-kept}
-use Rattle.canonical.specs.{Tidy.tidy, Meaning.meaning, Tidy.Rows.tidy-rows, Order.Rows.order-rows, Canonical.canonical}
+use Rattle.model.specs.{Word.Word, Syntax.Syntax, Tree.MarksFit, Types.Holds, Types.Languages.thus, Model.typeWith}
+use Rattle.canonical.specs.{Meaning.meaning, Tidy.tidy, Tidy.Rows.tidy-rows, Order.Rows.order-rows, Canonical.canonical, Canonical.Fixed.canonical-tidy}
 
-pub canonical-rows : (ν : Text → ℕ) (t : Syntax) (w : Word) → Holds (typeWith (meaning ν) (canonical t)) w ↔ Holds (typeWith (meaning ν) t) w
-canonical-rows ν t = thus (order-rows (meaning ν) (tidy (flatten t))) (thus (tidy-rows ν (flatten t)) (rows-kept (meaning ν) t))
+pub canonical-rows : (ν : Text → ℕ) (t : Syntax) → MarksFit t → (w : Word)
+    → Holds (typeWith (meaning ν) (canonical t)) w ↔ Holds (typeWith (meaning ν) t) w
+canonical-rows ν t h = rw (canonical-tidy t) (thus (order-rows (meaning ν) (tidy t)) (tidy-rows ν t h))

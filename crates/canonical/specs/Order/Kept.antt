@@ -13,7 +13,7 @@ use Rattle.model.specs.Tree.{Node, leaf, group, marked, Members, none, _▹_, s
 use Rattle.model.specs.Tree.{nodeNesting, nesting, membersNesting, NodeFormed, Formed, MembersFormed}
 use Rattle.model.specs.Syntax.{Spelling, Syntax, signText, markText, nodeText, text, membersText, moreText, writtenNames}
 use Rattle.model.specs.Flatten.{isChoice}
-use Rattle.canonical.specs.Tidy.{isOptional, nodeNullable, groupNullable, treeNullable, allNullable, someNullable}
+use Rattle.canonical.specs.Tidy.{nullableUnder, nodeNullable, groupNullable, treeNullable, allNullable, someNullable}
 use Rattle.canonical.specs.Order.{notAfter, smallestName, insert, sort, arrange, orderNode, order, orderAll, Smallest.occurs}
 use Rattle.canonical.specs.Order.Smallest.{SameNames, smallest-same}
 
@@ -144,7 +144,7 @@ pub order-nullable : (n : Node Spelling) → nodeNullable (orderNode n) ≡ node
 order-nullable =
     node-kept {A = Bool} {B = Bool × Bool × Bool}
     nodeNullable treeNullable (λ ts. (isEmpty ts, someNullable ts, allNullable ts))
-    (λ s b. b .0 || cond (isChoice s) (b .1) (b .2)) (λ m b. isOptional m || b) (λ a b. (false, a || b .1, a && b .2))
+    (λ s b. b .0 || cond (isChoice s) (b .1) (b .2)) nullableUnder (λ a b. (false, a || b .1, a && b .2))
     group-nullable (λ m n. refl) (λ t ts. refl)
     (λ a b c. ap₂ {C = Bool × Bool × Bool} (λ x y. (false, x, y)) (or-swap a b (c .1)) (and-swap a b (c .2)))
 

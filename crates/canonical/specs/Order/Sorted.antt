@@ -1,11 +1,11 @@
 -- Members are put in order: to order them again changes nothing, and a neat tree stays neat.
-use mathlib.Core.{Path._≡_, Path.refl, Path.sym, Path.ap, Path.ap₂, Path._∙_, Path.subst, Bool.true}
+use mathlib.Core.{Path._≡_, Path.refl, Path.sym, Path.ap, Path.ap₂, Path._∙_, Bool.true}
 use Rattle.fields.specs.Tests.{by-test}
 use Rattle.model.specs.declared.rule.Sign.{Sign}
 use Rattle.model.specs.declared.rule.Sign.the-variants.{None, Sequence, Choice, Interleaving}
 use Rattle.model.specs.Tree.{Node, leaf, group, marked, Members, none, _▹_}
 use Rattle.model.specs.Syntax.{Spelling, Syntax}
-use Rattle.canonical.specs.Neat.{Needed, Stays, NeatNode, Neat, NeatAll, BeforeFirst, Rising, InTurn, OrderedNode, Ordered, OrderedAll}
+use Rattle.canonical.specs.Neat.{Stays, NeatNode, Neat, NeatAll, BeforeFirst, Rising, InTurn, OrderedNode, Ordered, OrderedAll}
 use Rattle.canonical.specs.Order.{notAfter, smallestName, insert, sort, arrange, orderNode, order, orderAll, Smallest.not-after-other}
 use Rattle.canonical.specs.Order.Kept.{order-smallest, order-nullable, order-size, arrange-all}
 
@@ -72,7 +72,7 @@ mutual
 
 order-stays : (s : Sign) (t : Syntax) → Stays s t → Stays s (order t)
 order-stays s (marked m (leaf a)) h = h
-order-stays s (marked m (group r ts)) h = h
+order-stays s (marked m (group r ts)) h = (h .0, rw (order-nullable (group r ts)) (h .1))
 
 mutual
   node-neat : (n : Node Spelling) → NeatNode n → NeatNode (orderNode n)
@@ -84,7 +84,7 @@ mutual
   )
 
   pub order-neat : (t : Syntax) → Neat t → Neat (order t)
-  order-neat (marked m n) h = (subst (Needed m) (sym (order-nullable n)) (h .0), node-neat n (h .1))
+  order-neat (marked m n) h = (rw (order-nullable n) (h .0), node-neat n (h .1))
 
   all-neat : (ts : Members Spelling) (s : Sign) → NeatAll ts s → NeatAll (orderAll ts) s
   all-neat none s h = tt

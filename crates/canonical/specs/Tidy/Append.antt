@@ -3,15 +3,15 @@ use mathlib.Core.{Path._≡_, Path.refl, Path.sym, Path.ap, List.List, List.[], 
 use mathlib.Core.Bool.{_&&_, _||_, or-assoc, and-assoc}
 use Rattle.model.specs.Tree.{Members, none, _▹_}
 use Rattle.model.specs.{Syntax.Spelling, Syntax.Syntax, Flatten._⧺_}
-use Rattle.canonical.specs.Tidy.{treeNullable, someNullable, allNullable, gives, someGives, tidy, tidyAll}
+use Rattle.canonical.specs.Tidy.{treeNullable, someNullable, allNullable, anyNullable, tidy, tidyAll}
 
 pub tidy-append : (ts us : Members Spelling) → tidyAll (ts ⧺ us) ≡ tidyAll ts ++ tidyAll us
 tidy-append none us = refl
 tidy-append (t ▹ ts) us = ap (λ (l : List Syntax). tidy t ∷ l) (tidy-append ts us)
 
-pub gives-append : (k l : List Syntax) → someGives (k ++ l) ≡ someGives k || someGives l
-gives-append [] l = refl
-gives-append (t ∷ k) l = rw (gives-append k l) (sym (or-assoc (gives t) (someGives k) (someGives l)))
+pub any-append : (k l : List Syntax) → anyNullable (k ++ l) ≡ anyNullable k || anyNullable l
+any-append [] l = refl
+any-append (t ∷ k) l = rw (any-append k l) (sym (or-assoc (treeNullable t) (anyNullable k) (anyNullable l)))
 
 pub some-append : (ts us : Members Spelling) → someNullable (ts ⧺ us) ≡ someNullable ts || someNullable us
 some-append none us = refl

@@ -1,12 +1,17 @@
--- Flattening leaves a neat tree as it is.
-use mathlib.Core.{Path._≡_, Path.refl, Path.ap₂, Bool.false, Bool.and-false}
+-- Flattening leaves a neat tree as it is, and its marks fit: each node has an atom.
+use mathlib.Core.{Path._≡_, Path.refl, Path.ap₂, Bool.true, Bool.false, Bool.and-false}
 use mathlib.Core.List.{List, _∷_}
+use Prim.Native.Nat.{ℕ, _≤_}
+use native.Mathlib.Omega.{arith}
+use borrow.Author.Tests.{lt-ltb}
+use Rattle.fields.specs.Tests.{by-test}
 use Rattle.model.specs.{declared.rule.Sign.Sign, declared.rule.Mark.Mark}
-use Rattle.model.specs.declared.rule.Mark.the-variants.{Plain, Optional}
-use Rattle.model.specs.Tree.{Node, leaf, group, marked, Members, none, _▹_}
+use Rattle.model.specs.declared.rule.Mark.the-variants.{Plain, Optional, Nonempty}
+use Rattle.model.specs.Tree.{Node, leaf, group, marked, Members, none, _▹_, size, nodeWeight, atoms, membersWeight, isPlain, markFits}
+use Rattle.model.specs.Tree.{NodeMarksFit, MarksFit, MembersMarksFit}
 use Rattle.model.specs.Syntax.{Spelling, Syntax}
-use Rattle.model.specs.Flatten.{isChoice, someNil, gathered, over, flattenNode, flatten, flattenAll, Solid.Solid, Solid.SolidAll, Solid.solid-not-nil}
-use Rattle.model.specs.Flatten.Append.{grouped-several}
+use Rattle.model.specs.Flatten.{isChoice, someNil, gathered, over, flattenNode, flatten, flattenAll, Solid.Solid, Solid.SolidAll}
+use Rattle.model.specs.{Mark.Laws.is-plain, Flatten.Append.grouped-several}
 use Rattle.canonical.specs.{Neat.NeatNode, Neat.Neat, Neat.NeatAll, Tidy.Form.neat-not-nil, Tidy.Form.listOf}
 
 mutual
@@ -30,8 +35,7 @@ gathered-flat s none h = refl
 gathered-flat s (t ▹ ts) h = rw (neat-not-nil t (h .0), h .1 .0, gathered-flat s ts (h .2)) refl
 
 over-flat : (m : Mark) (n : Node Spelling) → NeatNode n → over m (marked Plain n) ≡ marked m n
-over-flat Plain n h = refl
-over-flat Optional n h = rw (solid-not-nil (marked Plain n) (node-solid n h)) refl
+over-flat m n h = by-test (isPlain m) (λ p. rw (is-plain m p)) (λ p. rw (p, neat-not-nil (marked Plain n) (refl, h)))
 
 mutual
   node-flat : (n : Node Spelling) → NeatNode n → flattenNode n ≡ marked Plain n
@@ -45,3 +49,32 @@ mutual
   all-flat : (ts : Members Spelling) (s : Sign) → NeatAll ts s → flattenAll ts ≡ listOf ts
   all-flat none s h = refl
   all-flat (t ▹ ts) s h = ap₂ {C = List Syntax} (λ u l. u ∷ l) (neat-flat t (h .0)) (all-flat ts s (h .2))
+
+mutual
+  node-atoms : (n : Node Spelling) → NeatNode n → 1 ≤ nodeWeight 1 0 n
+  node-atoms (leaf a) h = omega arith
+  node-atoms (group s ts) h = omega (arith, h .0, members-atoms ts s (h .1))
+
+  tree-atoms : (t : Syntax) → Neat t → 1 ≤ atoms t
+  tree-atoms (marked m n) h = node-atoms n (h .1)
+
+  members-atoms : (ts : Members Spelling) (s : Sign) → NeatAll ts s → size ts ≤ membersWeight 1 0 ts
+  members-atoms none s h = omega arith
+  members-atoms (t ▹ ts) s h = omega (arith, tree-atoms t (h .0), members-atoms ts s (h .2))
+
+atom-fits : (m : Mark) (k : ℕ) → 1 ≤ k → markFits m k ≡ true
+atom-fits Plain k h = refl
+atom-fits Optional k h = refl
+atom-fits Nonempty k h = lt-ltb 0 k h
+
+mutual
+  node-marks : (n : Node Spelling) → NeatNode n → NodeMarksFit n
+  node-marks (leaf a) h = tt
+  node-marks (group s ts) h = members-marks ts s (h .1)
+
+  pub neat-marks : (t : Syntax) → Neat t → MarksFit t
+  neat-marks (marked m n) h = (atom-fits m (nodeWeight 1 0 n) (node-atoms n (h .1)), node-marks n (h .1))
+
+  members-marks : (ts : Members Spelling) (s : Sign) → NeatAll ts s → MembersMarksFit ts
+  members-marks none s h = tt
+  members-marks (t ▹ ts) s h = (neat-marks t (h .0), members-marks ts s (h .2))

@@ -1,5 +1,5 @@
 -- Tidying keeps the signs fit for the sizes of groups, and what holds of each atom if tidying an atom keeps it.
-use mathlib.Core.{Path._≡_, Path.refl, Path.subst, Logic.inl, Logic.inr}
+use mathlib.Core.{Path._≡_, Path.refl, Path.subst, Logic.inl, Logic.inr, Bool._||_}
 use mathlib.Core.List.{List, [], _∷_, map}
 use Prim.Native.Nat.{_≤_}
 use native.Mathlib.Omega.{arith}
@@ -7,11 +7,11 @@ use lib.ListN.{length}
 use Rattle.fields.specs.Tests.{by-test}
 use Rattle.model.specs.{declared.rule.Sign.Sign, declared.rule.Mark.Mark}
 use Rattle.model.specs.declared.rule.Sign.the-variants.{None, Sequence, Choice, Interleaving}
-use Rattle.model.specs.declared.rule.Mark.the-variants.{Plain, Optional}
-use Rattle.model.specs.Tree.{Node, leaf, group, marked, Members, none, _▹_, size, SignFits, NodeFormed, Formed, MembersFormed}
+use Rattle.model.specs.declared.rule.Mark.the-variants.{Nonempty}
+use Rattle.model.specs.Tree.{Node, leaf, group, marked, Members, none, _▹_, size, isPlain, SignFits, NodeFormed, Formed, MembersFormed}
 use Rattle.model.specs.Syntax.{Spelling, Syntax}
-use Rattle.model.specs.Flatten.{isNil, merges, membersOf, gathered, grouped, droppedMark, _⧺_, Merges.merged}
-use Rattle.canonical.specs.Tidy.{tidyAtom, marking, stripped, someGives, tidyNode, tidy, tidyAll}
+use Rattle.model.specs.Flatten.{isChoice, isNil, merges, membersOf, gathered, grouped, droppedMark, _⧺_, Merges.merged}
+use Rattle.canonical.specs.Tidy.{tidyAtom, marking, stripped, anyNullable, tidyNode, tidy, tidyAll}
 use Rattle.canonical.specs.{Neat.Neat, Tidy.Form.AllNeatOrNil, Tidy.Form.neat-not-nil, Tidy.Form.all-tidied}
 
 tidied-length : (ts : Members Spelling) → length (tidyAll ts) ≡ size ts
@@ -31,9 +31,13 @@ module _ (P : Spelling → Type 0) where
   within-formed (marked m (leaf a)) h = tt
   within-formed (marked m (group s ts)) h = h .1
 
+  marking-formed : (m : Mark) (t : Syntax) → Formed P t → Formed P (marking m t)
+  marking-formed m (marked k n) h = by-test (isPlain m || isNil (marked k n)) (λ e. rw e h) (λ e. rw e h)
+
   stripped-formed : (s : Sign) (l : List Syntax) → AllFormed l → AllFormed (map (stripped s) l)
   stripped-formed s [] h = tt
-  stripped-formed s (marked m n ∷ l) h = (h .0, stripped-formed s l (h .1))
+  stripped-formed s (t ∷ l) h =
+      (by-test (isChoice s) (λ c. rw c (marking-formed Nonempty t (h .0))) (λ c. rw c (h .0)), stripped-formed s l (h .1))
 
   gathered-formed : (s : Sign) (l : List Syntax) → AllFormed l → MembersFormed P (gathered s l)
   gathered-formed s [] h = tt
@@ -55,7 +59,7 @@ module _ (P : Spelling → Type 0) where
   few-kept : (l : List Syntax) → length l ≤ 1 → AllNeatOrNil l → AllFormed l → size (gathered None (map (stripped None) l)) ≤ 1
   few-kept [] k n h = omega arith
   few-kept (t ∷ []) k (inl e, n) h = rw e (omega arith)
-  few-kept (marked m x ∷ []) k (inr e, n) h = one-kept (marked m x) e (h .0)
+  few-kept (t ∷ []) k (inr e, n) h = one-kept t e (h .0)
   few-kept (t ∷ u ∷ l) k n h = absurd (omega arith)
 
   sign-fits : (s : Sign) (l : List Syntax) → SignFits s (length l) → AllNeatOrNil l → AllFormed l
@@ -64,10 +68,6 @@ module _ (P : Spelling → Type 0) where
   sign-fits Sequence l k n h e = e
   sign-fits Choice l k n h e = e
   sign-fits Interleaving l k n h e = e
-
-  marking-formed : (m : Mark) (t : Syntax) → Formed P t → Formed P (marking m t)
-  marking-formed Plain t h = h
-  marking-formed Optional (marked m n) h = h
 
   grouped-formed : (s : Sign) (ts : Members Spelling) → MembersFormed P ts → (2 ≤ size ts → SignFits s (size ts)) → Formed P (grouped s ts)
   grouped-formed s none h k = (omega arith, tt)
@@ -83,7 +83,7 @@ module _ (P : Spelling → Type 0) where
           let i = all-formed ts (h .1) in
           let k = map (stripped s) l in
           let e : SignFits s (length l) = rw (tidied-length ts) (h .0) in
-          marking-formed (droppedMark s (someGives l)) (grouped s (gathered s k))
+          marking-formed (droppedMark s (anyNullable l)) (grouped s (gathered s k))
           (grouped-formed s (gathered s k) (gathered-formed s k (stripped-formed s l i)) (sign-fits s l e (all-tidied ts) i))
 
       pub tidy-formed : (t : Syntax) → Formed P t → Formed P (tidy t)

@@ -1,22 +1,24 @@
--- `nodeNullable` and `treeNullable` tell whether the empty row is held.
-use mathlib.Core.{Path._≡_, Path.refl, Path.sym, Path.subst, Logic.inl, Bool.Bool, Bool.true, Bool.false, Bool.cond, Bool._&&_, Bool._||_}
-use mathlib.Core.{Bool.false≢true, List.[], List._∷_, List._++_, List.nil≢cons}
+-- `nodeNullable` and `treeNullable` tell whether the empty row is held, also where a mark is put or a member is stripped.
+use mathlib.Core.{Path._≡_, Path.refl, Path.sym, Path._∙_, Path.subst, Logic.inl, Bool.Bool, Bool.true, Bool.false, Bool.cond, Bool._&&_, Bool._||_}
+use mathlib.Core.{Bool.false≢true, Bool.or-true, Bool.or-false, List.List, List.[], List._∷_, List._++_, List.nil≢cons, List.map}
 use Prim.Native.Nat.{ℕ, zero, suc}
 use native.Mathlib.Omega.{arith}
 use lib.Dec.{eqb}
 use borrow.Author.Tests.{ne-eqb}
-use Rattle.fields.specs.{Bytes.Text, Bytes.value, Tests.Tells, Tests.tells-and, Tests.tells-or}
+use Rattle.fields.specs.{Bytes.Text, Bytes.value, Tests.by-test, Tests.Tells, Tests.tells-and, Tests.tells-or}
 use Rattle.model.specs.{declared.rule.Upper.Upper, declared.rule.Sign.Sign, declared.rule.Mark.Mark, Word.Word, Word.Shuffle, Word.none as nothing}
+use Rattle.model.specs.Mark.Laws.{is-plain}
 use Rattle.model.specs.declared.rule.Upper.the-variants.{Number, Unbounded}
 use Rattle.model.specs.declared.rule.Sign.the-variants.{None, Sequence, Choice, Interleaving}
-use Rattle.model.specs.declared.rule.Mark.the-variants.{Plain, Optional}
-use Rattle.model.specs.Tree.{Node, leaf, group, marked, Members, none, _▹_}
+use Rattle.model.specs.declared.rule.Mark.the-variants.{Plain, Optional, Nonempty}
+use Rattle.model.specs.Tree.{Node, leaf, group, marked, Members, none, _▹_, nodeUnder, isPlain}
 use Rattle.model.specs.Syntax.{Count, unwritten, between, onward, Spelling, Syntax}
 use Rattle.model.specs.Types.{Ty, Operator, sequence, choice, interleaving, Language, Joined, Holds}
 use Rattle.model.specs.Types.Languages.{Neutral}
 use Rattle.model.specs.Model.{countsOf, countedType, operator, markedType, nodeTypeWith, typeWith, typesWith}
-use Rattle.model.specs.Flatten.{isChoice, Rows.Together, Rows.from-together}
-use Rattle.canonical.specs.Tidy.{isOptional, fromZero, nodeNullable, groupNullable, treeNullable, allNullable, someNullable}
+use Rattle.model.specs.Flatten.{isChoice, isNil, someNil, Rows.Together, Rows.from-together}
+use Rattle.canonical.specs.Tidy.{nullableUnder, fromZero, nodeNullable, groupNullable, treeNullable, allNullable, someNullable, fitting, marking}
+use Rattle.canonical.specs.Tidy.{stripped, anyNullable}
 use Rattle.canonical.specs.Meaning.{meaning}
 
 shuffle-nils : {u v : Word} → Shuffle u v [] → (u ≡ []) × (v ≡ [])
@@ -41,9 +43,10 @@ joined-nullable interleaving b c P Q f g =
     let t = tells-and b c f g in
     (λ e. let h = t .0 e in ([], [], nothing, h .0, h .1), λ (u, v, e, p, q). let i = shuffle-nils e in t .1 (subst P (i .0) p, subst Q (i .1) q))
 
-marked-nullable : (m : Mark) (b : Bool) (A : Ty) → Tells b (Holds A []) → Tells (isOptional m || b) (Holds (markedType m A) [])
+marked-nullable : (m : Mark) (b : Bool) (A : Ty) → Tells b (Holds A []) → Tells (nullableUnder m b) (Holds (markedType m A) [])
 marked-nullable Plain b A t = t
 marked-nullable Optional b A t = (λ e. inl refl, λ h. refl)
+marked-nullable Nonempty b A t = (λ e. absurd (false≢true e), λ h. absurd (h .1 refl))
 
 counted-nullable : (k lo : ℕ) (hi : Upper) → Tells (eqb lo 0) (Holds (countedType k lo hi) [])
 counted-nullable k zero hi = (λ e. inl refl, λ h. refl)
@@ -96,3 +99,31 @@ module _ (ν : Text → ℕ) where
         rw (by-sign s (treeNullable t) (someNullable ts) (allNullable ts))
         (joined-nullable (operator s) (treeNullable t) (members ts s) (Holds (typeWith (meaning ν) t)) (Together (operator s) (typesWith (meaning ν) ts))
         (tree-nullable t) (members-nullable ts s))
+
+fitting-nullable : (m : Mark) (b : Bool) → nullableUnder (fitting m b) b ≡ nullableUnder m b
+fitting-nullable Plain b = refl
+fitting-nullable Optional b = by-test b (λ e. rw e) (λ e. rw e)
+fitting-nullable Nonempty b = by-test b (λ e. rw e) (λ e. rw e)
+
+pub nil-nullable : (t : Syntax) → isNil t ≡ true → treeNullable t ≡ true
+nil-nullable (marked m (leaf a)) e = absurd (false≢true e)
+nil-nullable (marked m (group s none)) e = rw (is-plain m e)
+nil-nullable (marked m (group s (t ▹ ts))) e = absurd (false≢true e)
+
+pub marking-nullable : (m : Mark) (t : Syntax) → isPlain m ≡ false → treeNullable (marking m t) ≡ isNil t || nullableUnder m (nodeNullable (nodeUnder t))
+marking-nullable m (marked k n) p =
+    by-test (isNil (marked k n))
+    (λ e. rw (p, e) (nil-nullable (marked k n) e))
+    (λ e. rw (p, e) (fitting-nullable m (nodeNullable n)))
+
+-- where `()` is dropped, the empty row was held
+dropped-nullable : (s : Sign) (t : Syntax) → isNil (stripped s t) ≡ true → treeNullable t ≡ true
+dropped-nullable s t e =
+    by-test (isChoice s)
+    (λ c. nil-nullable t (sym (or-false (isNil t)) ∙ sym (marking-nullable Nonempty t refl) ∙ nil-nullable (marking Nonempty t) (rw c at e)))
+    (λ c. nil-nullable t (rw c at e))
+
+pub some-nil : (s : Sign) (l : List Syntax) → someNil (map (stripped s) l) ≡ true → anyNullable l ≡ true
+some-nil s [] e = e
+some-nil s (t ∷ l) e =
+    by-test (isNil (stripped s t)) (λ i. rw (dropped-nullable s t i)) (λ i. rw (some-nil s l (rw i at e), or-true))

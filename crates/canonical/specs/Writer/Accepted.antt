@@ -1,15 +1,15 @@
 -- The tree of an accepted text: it is tidied, stands alone on the stack, and is written if the buffer has room for it.
 use mathlib.Core.{Path._≡_, Path.refl, Path.sym, Path.ap, Path.ap₂, Path._∙_, Path.subst, Logic._⊎_, Logic.inr, Logic.⊎-elim, Logic.by-cases}
-use mathlib.Core.List.{List, [], _∷_, _++_, append-nil}
+use mathlib.Core.{Bool.true≢false, List.List, List.[], List._∷_, List._++_, List.append-nil}
 use Prim.Native.{Nat.ℕ, Nat.suc, Nat._+_, Nat._-_, Nat._≤_, Nat._<_, Char.code}
 use native.Mathlib.{Decide.decLe, Omega.arith}
 use lib.ListN.{length, drop, set, getD, replicate, length-set}
-use borrow.Author.Tests.{le-leb, lt-leb}
+use borrow.Author.Tests.{eq-eqb, le-leb, lt-leb}
 use Rattle.fields.specs.{Bytes.Text, Bytes.bytes, Limits.maxText, Limits.maxNodes}
-use Rattle.model.specs.{declared.fault.ModelFault.the-variants.Size, Tree.leaf, Tree.group, Tree.marked, Tree.nodes, declared.rule.Mark.Mark, Flatten.nil}
+use Rattle.model.specs.{declared.fault.ModelFault.the-variants.Size, Tree.nodes, Tree.nodeUnder, Flatten.nil}
 use Rattle.model.specs.{Flatten.membersOf, Answer.answer, Answer.answered}
 use Rattle.model.specs.{Fault.Answer, Fault.Answers, Fault.refused, Fault.accepted, declared.fault.ModelFault.ModelFault, Accept.Within}
-use Rattle.model.specs.{Accept.Laws.accepted-within, Syntax.Syntax, Syntax.text, Syntax.writtenNames}
+use Rattle.model.specs.{Accept.Laws.accepted-within, Syntax.Syntax, Syntax.text}
 use Rattle.canonical.specs.declared.write.Written.the-variants.{Length, Refused}
 use Rattle.canonical.specs.declared.fault.WriteFault.the-variants.{Model, LongText}
 use Rattle.judge.specs.Reading.{readingBy}
@@ -18,23 +18,15 @@ use Rattle.canonical.specs.declared.write.Written.{Written}
 use Rattle.canonical.specs.{declared.tidy.Tidied.Tidied, Tidy.tidy, Order.order, Order.Kept.order-length}
 use Rattle.canonical.specs.Canonical.{WriteReply, canonicalText, writeFitting, writeBy, writtenOf, bufferWritten}
 use Rattle.canonical.specs.Canonical.Fixed.{canonical-tidy}
-use Rattle.canonical.specs.Writer.{Head.headIn, Place.TreeAt, Keeps.KeepsTree, Keeps.Proper, Keeps.LeastAt, Keeps.signCode, Stack.treesOn}
+use Rattle.canonical.specs.Writer.{Head.headIn, Place.TreeAt, Keeps.NamedAt, Keeps.signCode, Stack.treesOn}
 use Rattle.canonical.specs.Writer.{Stack.HeadsFit, Lists.treeAt, Lists.PutReady}
 use Rattle.canonical.specs.Writer.{Length.LengthReady, Length.signedLength, Recursion.TidyReady, Recursion.TidiedAt, Recursion.Stepped.on-top}
-use Rattle.canonical.specs.Writer.{Recursion.Stepped.mark-kept}
-use Rattle.canonical.specs.Writer.{Stack.stacked, Stack.markIf, Tidied.headOf, Stack.Push.push, Stack.Skip.trees-none, Stack.Skip.some-node}
-use Rattle.canonical.specs.Writer.{Keeps.Laws.withMark}
+use Rattle.canonical.specs.Writer.{Stack.stacked, Tidied.headOf, Stack.Push.push, Stack.Skip.trees-none, Stack.Skip.some-node}
+use Rattle.canonical.specs.Writer.Keeps.Laws.{named-some, nil-sign}
 
 -- the text of the tree on top
 abbrev pub textAt : Text → List ℕ → ℕ → Text
 textAt x stack top = text (order (treeAt x stack top))
-
-proper-signed : (x : Text) (u : Syntax) (p : ℕ) → Proper x u p → signCode u ≡ 0 → ⊥
-proper-signed x (marked m (leaf a)) p h e = absurd (omega (arith, e))
-proper-signed x (marked m (group s ts)) p h e = absurd (omega (arith, e, h .1))
-
-marked-same : {x : Text} (u : Syntax) {r : Tidied} → KeepsTree x u r → withMark (markIf (r .marked)) u ≡ u
-marked-same (marked m n) {r} k = ap (λ (j : Mark). marked j n) (mark-kept (r .marked) m (k .marked-is))
 
 -- what is answered where it is written into a buffer of k bytes
 abbrev pub treeReply : Text → List ℕ → ℕ → ℕ → WriteReply
@@ -114,8 +106,8 @@ module _ (x : Text) (t : Syntax) (e : answer x ≡ accepted t) where
     pub nil-text : r .sign ≡ 0 → canonicalText t ≡ bytes "()"
     nil-text z =
         ap text (canonical-tidy t)
-        ∙ ⊎-elim (λ i. ap (λ (u : Syntax). text (order u)) i) (λ (p, n). absurd (proper-signed x (tidy t) (r .least) p (sym (k .keeps .sign-is) ∙ z)))
-        (k .keeps .kind-is)
+        ∙ ⊎-elim (λ i. ap (λ (u : Syntax). text (order u)) i)
+        (λ p. absurd (true≢false (sym (eq-eqb (r .sign) 0 z) ∙ nil-sign (tidy t) (k .keeps) ∙ named-some (tidy t) p))) (k .keeps .kind-is)
 
     -- any other stands on the stack by its head
     module _ (z : r .sign ≡ 0 → ⊥) where
@@ -124,23 +116,23 @@ module _ (x : Text) (t : Syntax) (e : answer x ≡ accepted t) where
           let n = some-node (tidy t) in
           (omega (arith, k .on-stack .top-is, k .few, within .few-nodes), omega (arith, k .on-stack .top-is, n))
 
-      kept : Proper x (tidy t) (r .least) × LeastAt x (r .least) (writtenNames (tidy t))
-      kept = ⊎-elim (λ i. absurd (z (k .keeps .sign-is ∙ ap signCode i))) (λ h. h) (k .keeps .kind-is)
+      kept : NamedAt x (tidy t) (r .least)
+      kept = ⊎-elim (λ i. absurd (z (k .keeps .sign-is ∙ ap (λ (u : Syntax). signCode (nodeUnder u)) i))) (λ h. h) (k .keeps .kind-is)
 
-      module _ (w : ℕ) (h : headIn w ≡ headOf (r .marked) r) where
+      module _ (w : ℕ) (h : headIn w ≡ headOf r) where
         abbrev topped : List ℕ
         topped = set stack (r .top - 1) w
 
         topped-is : drop (r .top - 1) topped ≡ w ∷ drop (r .top) stack
         topped-is = on-top stack (r .top) w (head-room .0) (omega (arith, head-room .1, k .on-stack .entries))
 
-        pushed : (treesOn x (w ∷ drop (r .top) stack) ≡ withMark (markIf (r .marked)) (tidy t) ∷ []) × HeadsFit x (w ∷ drop (r .top) stack)
+        pushed : (treesOn x (w ∷ drop (r .top) stack) ≡ tidy t ∷ []) × HeadsFit x (w ∷ drop (r .top) stack)
         pushed =
-            push (r .marked) w h (drop (r .top) stack) [] (tidy t) (k .keeps) (kept .0) (kept .1)
+            push w h (drop (r .top) stack) [] (tidy t) (k .keeps) kept
             (k .on-stack .trees-are ∙ ap (stacked (membersOf (tidy t))) (trees-none x)) (k .on-stack .heads)
 
         alone-is : treesOn x (drop (r .top - 1) topped) ≡ tidy t ∷ []
-        alone-is = ap (treesOn x) topped-is ∙ pushed .0 ∙ ap (λ (u : Syntax). u ∷ []) (marked-same (tidy t) (k .keeps))
+        alone-is = ap (treesOn x) topped-is ∙ pushed .0
 
         tree-is : treeAt x topped (r .top - 1) ≡ tidy t
         tree-is = ap (λ (l : List Syntax). getD l 0 nil) alone-is

@@ -13,7 +13,7 @@ use Rattle.model.specs.{declared.rule.Sign.Sign, declared.rule.Mark.Mark}
 use Rattle.model.specs.Tree.{group, marked, Members, none, size, nodes, membersWeight, MembersFormed}
 use Rattle.model.specs.Flatten.{_⧺_, membersOf, gathered}
 use Rattle.model.specs.Syntax.{Spelling, Syntax, text, membersText, markText, SpellingFormed}
-use Rattle.canonical.specs.{declared.tidy.Tidied.Tidied, declared.tidy.Gathered.Gathered, Tidy.stripped, Tidy.someGives, Tidy.tidy, Tidy.tidyAll}
+use Rattle.canonical.specs.{declared.tidy.Tidied.Tidied, declared.tidy.Gathered.Gathered, Tidy.stripped, Tidy.anyNullable, Tidy.tidy, Tidy.tidyAll}
 use Rattle.canonical.specs.Writer.{Place.TreeAt, Stack.stacked, Stack.treesOn, Stack.HeadsFit, Keeps.signByte, Keeps.KeepsTree, Keeps.KeepsMembers}
 
 pub record TidyReady (x : Text) (stack : List ℕ) (p top : ℕ) : Type 0 where
@@ -53,7 +53,7 @@ pub record Walking (x : Text) (old new : List ℕ) (s : Sign) (ts : Members Spel
   pub formed : MembersFormed SpellingFormed left
   pub ahead : drop p x ≡ membersText left s ++ (code ")" ∷ behind)
   pub sign-is : ((done ≡ none) × (sign ≡ 0)) ⊎ (sign ≡ signByte s)
-  pub keeps : KeepsMembers x s (gatheredOf s done) (someGives (tidyAll done)) g
+  pub keeps : KeepsMembers x s (gatheredOf s done) (anyNullable (tidyAll done)) g
   pub few : membersWeight 1 1 (gatheredOf s done) ≤ membersWeight 1 1 done
   pub several : 2 ≤ size (gatheredOf s done) → 0 < signByte s
   pub entries : length new ≡ length old

@@ -2,12 +2,11 @@
 pub mod Laws
 pub mod Skip
 pub mod Push
-use mathlib.Core.{Path._≡_, Bool.Bool, Bool.true, Bool.false, Bool.cond, List.List, List.[], List._∷_}
+use mathlib.Core.{Path._≡_, Bool.true, Bool.false, Bool.cond, List.List, List.[], List._∷_}
 use Prim.Native.{Nat.ℕ, Nat._≤_}
 use lib.{Dec.eqb, ListN.length, ListN.take, ListN.drop}
 use Rattle.fields.specs.Bytes.{Text}
-use Rattle.model.specs.{declared.rule.Mark.Mark, Fault.nameFrom, Tree.leaf, Tree.group, Tree.marked, Tree.Members, Tree.none, Tree._▹_, Tree.nodes}
-use Rattle.model.specs.declared.rule.Mark.the-variants.{Plain, Optional}
+use Rattle.model.specs.{Fault.nameFrom, Tree.leaf, Tree.group, Tree.marked, Tree.Members, Tree.none, Tree._▹_, Tree.nodes}
 use Rattle.model.specs.Syntax.{Spelling, Syntax, nodeText, signText}
 use Rattle.judge.specs.Packed.{signBy}
 use Rattle.canonical.specs.{declared.head.Head.Head, Tidy.tidyAtom, Order.smallestName, Writer.Head.headIn, Writer.Place.atomAt, Writer.Place.pieceAt}
@@ -22,12 +21,9 @@ abbrev pub stacked : Members Spelling → List Syntax → List Syntax
 stacked none l = l
 stacked (t ▹ ts) l = stacked ts (t ∷ l)
 
-abbrev pub markIf : Bool → Mark
-markIf b = cond b Optional Plain
-
 abbrev pub treeWith : Text → Head → List Syntax → Syntax
 treeWith x h l =
-    marked (markIf (h .marked))
+    marked (h .mark)
     (cond (eqb (h .sign) 1) (leaf (tidyAtom (atomAt x (h .least)))) (group (signBy (h .sign)) (turned (take (h .members) l) none)))
 
 unfoldable pub treesOn : Text → List ℕ → List Syntax

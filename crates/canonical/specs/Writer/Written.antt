@@ -12,7 +12,7 @@ use Rattle.model.specs.Tree.{group, Members, none, _▹_, size, nodes}
 use Rattle.model.specs.{Syntax.Spelling, Syntax.Syntax, Syntax.signText, Syntax.markText, Syntax.nodeText, Syntax.text, Syntax.membersText, Syntax.moreText}
 use Rattle.judge.specs.Packed.{signBy}
 use Rattle.canonical.specs.Order.{order, orderAll, arrange, Kept.order-length, Kept.order-size, Sorted.arrange-order}
-use Rattle.canonical.specs.Writer.{Place.pieceAt, Stack.turned, Stack.markIf, Stack.treeWith, Stack.treesOn, Stack.HeadFits}
+use Rattle.canonical.specs.Writer.{Place.pieceAt, Stack.turned, Stack.treeWith, Stack.treesOn, Stack.HeadFits}
 use Rattle.canonical.specs.Writer.Stack.Skip.{each-counts, nodes-with, heads-from, tree-at, fits-at}
 use Rattle.canonical.specs.Writer.Lists.{treeAt, headAt, treesListed, MembersReady, MembersListed, PutReady, TreePut, Laws.nothing-behind}
 use Rattle.canonical.specs.Writer.Lists.{Laws.listed-less}
@@ -46,7 +46,7 @@ module _ (s : Sign) (sign : ℕ) (e : signText s ≡ sign ∷ []) where
   group-led (t ▹ ts) h = some-led (code "(") t ts
 
 abbrev markAt : List ℕ → ℕ → Text
-markAt stack p = markText (markIf (headAt stack p .marked))
+markAt stack p = markText (headAt stack p .mark)
 
 -- what is yet to be put of the group at p: the members whose places stand before k
 abbrev ahead : Text → List ℕ → List ℕ → ℕ → ℕ → ℕ → ℕ → Text

@@ -13,9 +13,9 @@ use Rattle.model.specs.{Rule.used, Rule.names, Rule.ruleType}
 use Rattle.model.specs.{Rule.Means, Check.Exact.readable-is, Check.Exact.means-type, Check.Exact.means-conflict-free}
 use Rattle.model.specs.{Rule.Names.names-model, Check.readable, Check.Exact.readable-formed, Check.Exact.rule-type, Model.Types.type-symbols}
 use Rattle.model.specs.declared.rule.Upper.the-variants.{Number, Unbounded}
-use Rattle.model.specs.declared.rule.Mark.the-variants.{Plain, Optional}
+use Rattle.model.specs.declared.rule.Mark.the-variants.{Plain, Optional, Nonempty}
 use Rattle.model.specs.declared.rule.Kind.the-variants.{Atom, Group}
-use Rattle.model.specs.Types.{Operator, sequence, choice, interleaving, Ty, ε, atom, join, symbols}
+use Rattle.model.specs.Types.{Operator, sequence, choice, interleaving, Ty, ε, atom, join, nonempty, symbols}
 use Rattle.model.specs.Membership.{under, joined, begun, done, alive, over?, holds?, extends?}
 use Rattle.model.specs.Model.{countedType, operator, joinedFrom, joinedType, markedType, typeBy, after, evalStep, eval}
 use Rattle.judge.specs.declared.verdict.FirstFault.the-variants.{Nothing}
@@ -59,6 +59,7 @@ module _ (f : ℕ → Upper) where
   marked-by : (m : Mark) (A : Ty) → CountsAre f A → CountsAre f (markedType m A)
   marked-by Plain A h = h
   marked-by Optional A h = (tt, h)
+  marked-by Nonempty A h = h
 
   -- f gives the upper counts us for the names from k on
   abbrev Gives : ℕ → List Upper → Type 0
@@ -85,6 +86,7 @@ module _ (f : ℕ → Upper) where
   within-by ε w h u = tt
   within-by (atom a m n) w h u = rw h at (u a)
   within-by (join o A B) w h u = (within-by A w (h .0) u, within-by B w (h .1) u)
+  within-by (nonempty A) w h u = within-by A w h u
 
 -- a name that stands in the row touches a type that has it
 counted-touched : (p : Names) (x : ℕ) → p x ≡ true → (w : Word) → (count x w ≡ 0 → ⊥) → touched p w ≡ true
@@ -142,6 +144,7 @@ module _ (f : ℕ → Upper) (w : Word) (x : ℕ) (over : under (count x w) (f x
       (λ d. let (a, b) = excess B (h .1) (rw d at e) in
       let t = counted-touched (symbols B) x (rw d at e) w some in
       (rw (t, a) (second-joined o _ _ _), rw (t, b) (second-begun o _ _ _ _)))
+  excess (nonempty A) h e = let (a, b) = excess A h e in (rw (a, and-false), b)
 
 -- no number is foreign just if 0 is none of them
 over-known : (p : Names) (m : ℕ) → ((x : ℕ) → (p x ≡ true) ↔ ((1 ≤ x) × (x ≤ m))) → (w : Word) → upto m w ≡ true

@@ -6,10 +6,11 @@ use Prim.Native.Nat.{ℕ, suc}
 use lib.{Dec.leb, Dec.ltb, Bits.bitOr, ListN.getD}
 use Rattle.model.specs.{declared.rule.Upper.Upper, declared.rule.Mark.Mark, declared.rule.Kind.Kind, declared.rule.Rule.Rule, Membership.under}
 use Rattle.model.specs.{Rule.used, Types.Operator, Types.sequence, Types.choice, Types.interleaving, Types.Ty, Types.ε, Types.atom, Types.join}
+use Rattle.model.specs.Types.{nonempty}
 use Rattle.model.specs.declared.rule.Kind.the-variants.{Atom, Group}
 use Rattle.model.specs.Model.{Algebra, operator, eval}
 use Rattle.judge.specs.{declared.tally.Seen.Seen, declared.ahead.Ahead.Ahead, Row.Joined.joinedAll, Next.Set.single}
-use Rattle.judge.specs.Row.Attribute.{emptyAttribute, atomAttribute, pairAttribute, countedAttribute, markedAttribute}
+use Rattle.judge.specs.Row.Attribute.{emptyAttribute, atomAttribute, pairAttribute, nonemptyAttribute, countedAttribute, markedAttribute}
 
 -- Of a join: t tells whether the row has names of its second member, y′ whether that can be made longer; names of the first member may then come.
 abbrev pub firstOpen : Operator → Bool → Bool → Bool
@@ -47,6 +48,7 @@ unfoldable pub ahead : ℕ → (ℕ → Seen) → Ty → Ahead
 ahead n s ε = emptyAhead n
 ahead n s (atom a m k) = record { part = atomAttribute m (s a); next = atomNext a k (s a) }
 ahead n s (join o A B) = pairAhead o (ahead n s A) (ahead n s B)
+ahead n s (nonempty A) = let x = ahead n s A in record { part = nonemptyAttribute (x .part); next = x .next }
 
 -- over a model: a mark forbids no name
 module _ (n : ℕ) where

@@ -4,7 +4,7 @@ use mathlib.Core.Bool.{Bool, true, false, not, _&&_, _||_, true≢false, and-ass
 use Prim.Native.Nat.{ℕ, suc}
 use Rattle.fields.specs.Tests.{by-test}
 use Rattle.model.specs.Word.{Word, Names, Apart, only, either, count, touched, ordered}
-use Rattle.model.specs.Types.{Operator, sequence, choice, interleaving, Ty, ε, atom, join, symbols, ConflictFree}
+use Rattle.model.specs.Types.{Operator, sequence, choice, interleaving, Ty, ε, atom, join, nonempty, symbols, ConflictFree}
 use Rattle.model.specs.declared.rule.Upper.{Upper}
 use Rattle.model.specs.Membership.{under, begun, done, alive, over?, holds?, extends?}
 use Rattle.model.specs.{Word.Laws.apart-no, Word.Laws.apart-sym, Word.Span.touched-more, Word.Span.count-more, Membership.Laws.done-tells}
@@ -66,6 +66,7 @@ module _ (w : Word) (x : ℕ) where
         done-other A f,
         done-other B g,
       )
+  done-other (nonempty A) e = rw (touched-other (symbols A) e, done-other A e)
 
   alive-other : (A : Ty) → symbols A x ≡ false → alive A longer ≡ alive A w
   unfolding alive
@@ -81,6 +82,7 @@ module _ (w : Word) (x : ℕ) where
         alive-other A f,
         alive-other B g,
       )
+  alive-other (nonempty A) e = alive-other A e
 
   -- Of a join, where the name is the first member's, and where it is the second's.
   module _ (A B : Ty) (d : Apart (symbols A) (symbols B)) where

@@ -12,7 +12,8 @@ use Rattle.model.specs.{Membership.over?}
 use Rattle.model.specs.{Model.Model, Model.typeBy, Model.typeOf, Model.operator, Model.Eval.eval-map}
 use Rattle.model.specs.{Model.Types.Fits, Model.Types.type-conflict-free, Model.Types.type-symbols, Rule.ruleOf, Rule.names, Rule.ruleType, Rule.used}
 use Rattle.model.specs.{Rule.Laws.rule-eval, Check.readable, Check.Exact.readable-formed, Check.Exact.rule-type}
-use Rattle.model.specs.declared.rule.Mark.the-variants.{Plain, Optional}
+use Rattle.model.specs.declared.rule.Mark.the-variants.{Plain, Optional, Nonempty}
+use Rattle.model.specs.Types.{nonempty}
 use Rattle.judge.specs.{declared.tally.Seen.Seen, declared.ahead.Ahead.Ahead, Row.Attribute.seen, Row.Attribute.attribute}
 use Rattle.judge.specs.{Row.Attribute.attributeOf}
 use Rattle.judge.specs.{Row.Attribute.attribute-is, Row.Attribute.CountsWithin, Row.Joined.carried, Row.Pass.eval-same, Next.numbersTo, Next.nextNames}
@@ -28,6 +29,7 @@ unfolding ahead attribute
 part-is n s ε = refl
 part-is n s (atom a m k) = refl
 part-is n s (join o A B) = rw (part-is n s A, part-is n s B)
+part-is n s (nonempty A) = rw (part-is n s A)
 
 -- of a join's set
 module _ (o : Operator) (x y : Ahead) where
@@ -40,6 +42,10 @@ module _ (o : Operator) (x y : Ahead) where
   pair-has : (k : ℕ) → inSet (pairAhead o x y .next) k ≡ ((first && inSet (x .next) k) || (second && inSet (y .next) k))
   pair-has k =
       in-either (cond first (x .next) 0) (cond second (y .next) 0) k ∙ ap₂ _||_ (in-only-if first (x .next) k) (in-only-if second (y .next) k)
+
+nonempty-alive : (A : Ty) (w : Word) → alive (nonempty A) w ≡ alive A w
+unfolding alive
+nonempty-alive A w = refl
 
 -- the set: of the type's names, those with which the row can be made longer
 ahead-has : (A : Ty) → ConflictFree A → ((x : ℕ) → symbols A x ≡ true → 1 ≤ x) → (w : Word) → CountsWithin A w → (x : ℕ) → 1 ≤ x
@@ -58,6 +64,7 @@ ahead-has (join o A B) g p w q x h =
     ∙ rw (pa, pb, i, j, join-comes w x A B (g .0) (g .1) o)
     (unfold attributeOf in
     rw (ordered-span (symbols A) (symbols B) (g .0) w, touched-behind (symbols A) w, touched-behind (symbols B) w))
+ahead-has (nonempty A) g p w q x h = rw (nonempty-alive A (w ++ (x ∷ []))) (ahead-has A (g .1) p w q x h)
 
 -- `ahead n s` carries `typeBy` into `aheadBy n s`
 module _ (n : ℕ) (s : ℕ → Seen) where
@@ -78,6 +85,7 @@ module _ (n : ℕ) (s : ℕ → Seen) where
   unfolding ahead
   ahead-mark Plain A = refl
   ahead-mark Optional A = rw none-or
+  ahead-mark Nonempty A = refl
 
 -- of a rule that is a model's
 module _ (t : Model) (f : Fits t) (w : Word) where

@@ -1,12 +1,12 @@
 -- What the second pass over a row computes of a type, from what the first has seen of each name: its span, whether its part of the row is held,
 -- and whether that can be extended. `attributeBy` is the same over a model.
-use mathlib.Core.{Path._≡_, Path.refl, Bool.true, Bool.false, Bool.and-true, List.List, List.[], List._∷_, List.map}
+use mathlib.Core.{Path._≡_, Path.refl, Bool.true, Bool.false, Bool._&&_, Bool.and-true, List.List, List.[], List._∷_, List.map}
 use Prim.Native.Nat.{ℕ, zero, suc, min, max}
 use lib.{Dec.leb, Dec.ltb, ListN.length}
 use Rattle.model.specs.{declared.rule.Upper.Upper, declared.rule.Sign.Sign, declared.rule.Mark.Mark, Word.Word, Word.only, Word.count, Word.touched}
-use Rattle.model.specs.declared.rule.Mark.the-variants.{Plain, Optional}
+use Rattle.model.specs.declared.rule.Mark.the-variants.{Plain, Optional, Nonempty}
 use Rattle.model.specs.Word.Span.{firstPlace, lastBehind, first-untouched, behind-untouched, touched-behind, ordered-span, first-either, behind-either}
-use Rattle.model.specs.Types.{Operator, choice, Ty, ε, atom, join, symbols, ConflictFree}
+use Rattle.model.specs.Types.{Operator, choice, Ty, ε, atom, join, nonempty, symbols, ConflictFree}
 use Rattle.model.specs.Membership.{under, joined, begun, done, alive}
 use Rattle.model.specs.Model.{Algebra, operator, typeBy}
 use Rattle.judge.specs.{declared.tally.Seen.Seen, declared.attribute.Attribute.Attribute, Row.Joined.joinedAll, Row.Joined.carried}
@@ -27,11 +27,16 @@ pairAttribute o x y =
       alive = begun o (leb (x .behind) (y .first)) (ltb 0 (x .behind)) (ltb 0 (y .behind)) (x .done) (x .alive) (y .alive);
     }
 
+-- of T!: not done while the row has none of its symbols
+abbrev pub nonemptyAttribute : Attribute → Attribute
+nonemptyAttribute x = record { first = x .first; behind = x .behind; done = ltb 0 (x .behind) && x .done; alive = x .alive }
+
 -- of a row's length and what is seen of each name
 unfoldable pub attribute : ℕ → (ℕ → Seen) → Ty → Attribute
 attribute n s ε = emptyAttribute n
 attribute n s (atom a m k) = atomAttribute m (s a)
 attribute n s (join o A B) = pairAttribute o (attribute n s A) (attribute n s B)
+attribute n s (nonempty A) = nonemptyAttribute (attribute n s A)
 
 -- of the row itself
 unfoldable pub seen : Word → ℕ → Seen
@@ -50,6 +55,7 @@ abbrev pub CountsWithin : Ty → Word → Type 0
 CountsWithin ε w = Unit {0}
 CountsWithin (atom a m n) w = under (count a w) n ≡ true
 CountsWithin (join o A B) w = CountsWithin A w × CountsWithin B w
+CountsWithin (nonempty A) w = CountsWithin A w
 
 pub attribute-is : (A : Ty) → ConflictFree A → (w : Word) → CountsWithin A w → attribute (length w) (seen w) A ≡ attributeOf A w
 unfolding attribute attributeOf seen done alive
@@ -65,6 +71,7 @@ attribute-is (join o A B) g w h =
       touched-behind (symbols A) w,
       touched-behind (symbols B) w,
     )
+attribute-is (nonempty A) g w h = rw (attribute-is A (g .1) w h, touched-behind (symbols A) w)
 
 -- the attributes of a model's nodes, each as the type of that node has it
 module _ (n : ℕ) where
@@ -78,6 +85,7 @@ module _ (n : ℕ) where
   abbrev pub markedAttribute : Mark → Attribute → Attribute
   markedAttribute Plain x = x
   markedAttribute Optional x = pairAttribute choice (emptyAttribute n) x
+  markedAttribute Nonempty x = nonemptyAttribute x
 
   abbrev pub attributeBy : (ℕ → Seen) → Algebra Attribute
   attributeBy s =
@@ -103,3 +111,4 @@ module _ (n : ℕ) (s : ℕ → Seen) where
   unfolding attribute
   attribute-mark Plain A = refl
   attribute-mark Optional A = refl
+  attribute-mark Nonempty A = refl

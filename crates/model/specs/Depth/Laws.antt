@@ -1,6 +1,6 @@
 -- The pass finds the depth: what it keeps of a model's nodes is what can be seen of the flattened trees.
 use mathlib.Core.{Path._≡_, Path.refl, Path.ap, Path.ap₂, Path.sym, Path._∙_, Path.subst, Logic.⊎-elim, Logic.inl, Logic.inr}
-use mathlib.Core.Bool.{Bool, true, false, cond, not, _&&_, _||_, and-false, and-eq-true-iff}
+use mathlib.Core.Bool.{Bool, true, false, cond, not, _&&_, _||_, and-false, or-true, and-eq-true-iff}
 use mathlib.Core.List.{List, [], _∷_, map}
 use Prim.Native.Nat.{ℕ, suc, _+_, _-_, _≤_, _<_, max, min}
 use native.Mathlib.Omega.{arith}
@@ -11,7 +11,7 @@ use Rattle.model.specs.{declared.rule.Sign.Sign, declared.rule.Mark.Mark
 use Rattle.model.specs.{declared.depth.Flat.Flat, Rule.ruleOf, Model.Walk.Walked, Model.Walk.walked-turn}
 use Rattle.model.specs.declared.rule.Kind.the-variants.{Atom, Group}
 use Rattle.model.specs.declared.rule.Sign.the-variants.{None}
-use Rattle.model.specs.declared.rule.Mark.the-variants.{Plain, Optional}
+use Rattle.model.specs.declared.rule.Mark.the-variants.{Plain}
 use Rattle.model.specs.Tree.{Node, leaf, group, marked, Members, none, _▹_, size, atoms, isPlain}
 use Rattle.model.specs.Flatten.{signNumber, sameSign, _⧺_, isNil, someNil, merges, membersOf, gathered, grouped, over, droppedMark}
 use Rattle.model.specs.Flatten.{flattenNode, flatten, flattenAll, depth}
@@ -129,11 +129,10 @@ some-empty [] = refl
 some-empty (t ∷ l) = ap (λ b. isNil t || b) (some-empty l)
 
 over-kept : (m : Mark) (t : Model) → Flattened t → overBy m (kept t) ≡ kept (over m t)
-over-kept Plain t h = refl
-over-kept Optional t (inl e) = rw e
-over-kept Optional (marked m (leaf c)) (inr h) = refl
-over-kept Optional (marked m (group s none)) (inr h) = absurd (omega (arith, h .0))
-over-kept Optional (marked m (group s (t ▹ ts))) (inr h) = refl
+over-kept m t (inl e) = rw (e, or-true) (by-test (isPlain m) (λ p. rw p) (λ p. rw p))
+over-kept m (marked k (leaf c)) (inr h) = by-test (isPlain m) (λ p. rw p) (λ p. rw p (rw p))
+over-kept m (marked k (group s none)) (inr h) = absurd (omega (arith, h .0))
+over-kept m (marked k (group s (t ▹ ts))) (inr h) = by-test (isPlain m) (λ p. rw p) (λ p. rw p (rw p))
 
 group-kept : (s : Sign) (l : List Model) → AllFlattened l → groupBy s (map kept l) ≡ kept (over (droppedMark s (someNil l)) (grouped s (gathered s l)))
 group-kept s l h =

@@ -1,13 +1,13 @@
 -- How many groups are around the atoms of a tree. Flattening takes groups away: a tree is no deeper than its brackets are nested.
-use mathlib.Core.{Path._≡_, Path.refl, Path.ap, Path.sym, Path._∙_}
+use mathlib.Core.{Path._≡_, Path.refl, Path.ap, Path.sym, Path._∙_, Bool._||_}
 use mathlib.Core.List.{List, [], _∷_, _++_, map, map-append, append-assoc}
 use Prim.Native.Nat.{ℕ, suc, _+_, _≤_, _<_, max}
 use native.Mathlib.Omega.{arith}
 use lib.ListN.{length, length-append}
 use Rattle.fields.specs.Tests.{by-test}
 use Rattle.model.specs.{declared.rule.Sign.Sign, declared.rule.Mark.Mark}
-use Rattle.model.specs.declared.rule.Mark.the-variants.{Plain, Optional}
-use Rattle.model.specs.Tree.{Node, leaf, group, Tree, marked, Members, none, _▹_, size, highest, nodeNesting, nesting, membersNesting}
+use Rattle.model.specs.declared.rule.Mark.the-variants.{Plain}
+use Rattle.model.specs.Tree.{Node, leaf, group, Tree, marked, Members, none, _▹_, size, isPlain, highest, nodeNesting, nesting, membersNesting}
 use Rattle.model.specs.Flatten.{_⧺_, isNil, someNil, merges, membersOf, gathered, grouped, over, droppedMark, flattenNode, flattenAll, nodeAround}
 use Rattle.model.specs.Flatten.{groupsAround, membersAround, depth}
 use Rattle.model.specs.Flatten.Solid.{Solid, SolidAll}
@@ -96,9 +96,8 @@ module _ {A : Type 0} where
   grouped-inside s (t ▹ none) = omega (arith, deepest-first t none)
   grouped-inside s (t ▹ u ▹ ts) = rw (members-deeper (t ▹ u ▹ ts) 0) (highest-more (membersAround (t ▹ u ▹ ts) 0) .1)
 
-  over-inside : (m : Mark) (t : Tree A) → deepest (over m t) ≤ deepest t
-  over-inside Plain t = omega arith
-  over-inside Optional (marked m n) = by-test (isNil (marked m n)) (λ e. rw e (omega arith)) (λ e. rw e (omega arith))
+  over-inside : (m : Mark) (t : Tree A) → deepest (over m t) ≡ deepest t
+  over-inside m (marked k n) = by-test (isPlain m || isNil (marked k n)) (λ e. rw e) (λ e. rw e)
 
   mutual
     node-inside : (n : Node A) → deepest (flattenNode n) ≤ nodeNesting n

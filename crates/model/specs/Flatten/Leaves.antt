@@ -1,11 +1,11 @@
 -- Flattening keeps the atoms, in the order written.
-use mathlib.Core.{Path._≡_, Path.refl, Path.sym, Path.ap, Path.ap₂, Path._∙_, Bool.true, Bool.false≢true}
+use mathlib.Core.{Path._≡_, Path.refl, Path.sym, Path.ap, Path.ap₂, Path._∙_, Bool.true, Bool._||_, Bool.false≢true}
 use mathlib.Core.List.{List, [], _∷_, _++_, append-nil, append-assoc}
 use lib.ListN.{length}
 use Rattle.fields.specs.Tests.{by-test}
 use Rattle.model.specs.{declared.rule.Sign.Sign, declared.rule.Mark.Mark}
-use Rattle.model.specs.declared.rule.Mark.the-variants.{Plain, Optional}
-use Rattle.model.specs.Tree.{Node, leaf, group, Tree, marked, Members, none, _▹_, nodeLeaves, leaves, membersLeaves, atoms}
+use Rattle.model.specs.declared.rule.Mark.the-variants.{Plain}
+use Rattle.model.specs.Tree.{Node, leaf, group, Tree, marked, Members, none, _▹_, nodeLeaves, leaves, membersLeaves, nodeWeight, atoms, isPlain}
 use Rattle.model.specs.Tree.Leaves.{length-leaves}
 use Rattle.model.specs.Flatten.{_⧺_, isNil, someNil, merges, membersOf, gathered, grouped, over, droppedMark, flattenNode, flatten, flattenAll}
 
@@ -22,6 +22,9 @@ module _ {A : Type 0} where
   nil-leaves (marked m (leaf a)) e = absurd (false≢true e)
   nil-leaves (marked m (group s none)) e = refl
   nil-leaves (marked m (group s (t ▹ ts))) e = absurd (false≢true e)
+
+  pub nil-atoms : (t : Tree A) → isNil t ≡ true → atoms t ≡ 0
+  nil-atoms t e = sym (length-leaves t) ∙ ap length (nil-leaves t e)
 
   pub merged-leaves : (s : Sign) (t : Tree A) → merges s t ≡ true → membersLeaves (membersOf t) ≡ leaves t
   merged-leaves s (marked m (leaf a)) e = absurd (false≢true e)
@@ -42,8 +45,7 @@ module _ {A : Type 0} where
   grouped-leaves s (t ▹ u ▹ ts) = refl
 
   over-leaves : (m : Mark) (t : Tree A) → leaves (over m t) ≡ leaves t
-  over-leaves Plain t = refl
-  over-leaves Optional (marked m n) = by-test (isNil (marked m n)) (λ e. rw e (sym (nil-leaves (marked m n) e))) (λ e. rw e refl)
+  over-leaves m (marked k n) = by-test (isPlain m || isNil (marked k n)) (λ e. rw e) (λ e. rw e)
 
   mutual
     node-kept : (n : Node A) → leaves (flattenNode n) ≡ nodeLeaves n
@@ -61,3 +63,6 @@ module _ {A : Type 0} where
 
   pub flatten-atoms : (t : Tree A) → atoms (flatten t) ≡ atoms t
   flatten-atoms t = sym (length-leaves (flatten t)) ∙ ap length (flatten-leaves t) ∙ length-leaves t
+
+  pub flattenNode-atoms : (n : Node A) → atoms (flattenNode n) ≡ nodeWeight 1 0 n
+  flattenNode-atoms n = flatten-atoms (marked Plain n)

@@ -6,18 +6,14 @@ use native.Mathlib.Nat.{add-zero, add-assoc}
 use lib.ListN.{length}
 use Rattle.fields.specs.Tests.{by-test}
 use Rattle.model.specs.{declared.rule.Sign.Sign, declared.rule.Mark.Mark}
-use Rattle.model.specs.declared.rule.Mark.the-variants.{Plain, Optional}
-use Rattle.model.specs.Tree.{Node, leaf, group, Tree, marked, Members, none, _▹_, atoms, membersWeight, mapNode, mapTree, mapMembers, highest}
+use Rattle.model.specs.Tree.{Node, leaf, group, Tree, marked, Members, none, _▹_, atoms, membersWeight, mapNode, mapTree, mapMembers, isPlain, highest}
 use Rattle.model.specs.Tree.{numberNode, numberTree, numberAll}
 use Rattle.model.specs.Flatten.{_⧺_, isNil, someNil, merges, membersOf, gathered, grouped, over, droppedMark, flattenNode, flatten, flattenAll}
 use Rattle.model.specs.Flatten.{nodeAround, groupsAround, membersAround, depth}
-use Rattle.model.specs.{Tree.Leaves.length-leaves, Tree.Leaves.members-leaves}
-use Rattle.model.specs.Flatten.Leaves.{nil-leaves, merged-leaves, flatten-atoms}
+use Rattle.model.specs.{Tree.Leaves.length-leaves, Tree.Leaves.members-leaves, Tree.Map.map-number}
+use Rattle.model.specs.Flatten.Leaves.{nil-atoms, merged-leaves, flatten-atoms}
 
 module _ {A : Type 0} where
-  nil-atoms : (t : Tree A) → isNil t ≡ true → atoms t ≡ 0
-  nil-atoms t e = sym (length-leaves t) ∙ ap length (nil-leaves t e)
-
   merged-atoms : (s : Sign) (t : Tree A) → merges s t ≡ true → atoms t ≡ membersWeight 1 0 (membersOf t)
   merged-atoms s t e = sym (length-leaves t) ∙ ap length (sym (merged-leaves s t e)) ∙ members-leaves (membersOf t)
 
@@ -64,9 +60,8 @@ module _ {A B : Type 0} (f : ℕ → A → B) where
   grouped-number s (t ▹ u ▹ ts) k = refl
 
   over-number : (m : Mark) (t : Tree A) (k : ℕ) → over m (numberTree f t k) ≡ numberTree f (over m t) k
-  over-number Plain t k = refl
-  over-number Optional (marked m n) k =
-      rw (nil-number (marked m n) k) (by-test (isNil (marked m n)) (λ e. rw e) (λ e. rw e))
+  over-number m (marked j n) k =
+      rw (nil-number (marked j n) k) (by-test (isPlain m || isNil (marked j n)) (λ e. rw e) (λ e. rw e))
 
   mutual
     flattenNode-number : (n : Node A) (k : ℕ) → flattenNode (numberNode f n k) ≡ numberTree f (flattenNode n) k
@@ -83,22 +78,9 @@ module _ {A B : Type 0} (f : ℕ → A → B) where
     flattenAll-number none k = refl
     flattenAll-number (t ▹ ts) k = rw (flatten-number t k, flattenAll-number ts (k + atoms t), flatten-atoms t)
 
--- a map leaves the numbers aside
 module _ {A B : Type 0} (f : A → B) where
-  mutual
-    mapNode-number : (n : Node A) (k : ℕ) → numberNode (λ i a. f a) n k ≡ mapNode f n
-    mapNode-number (leaf a) k = refl
-    mapNode-number (group s ts) k = ap (group s) (mapMembers-number ts k)
-
-    map-number : (t : Tree A) (k : ℕ) → numberTree (λ i a. f a) t k ≡ mapTree f t
-    map-number (marked m n) k = ap (marked m) (mapNode-number n k)
-
-    mapMembers-number : (ts : Members A) (k : ℕ) → numberAll (λ i a. f a) ts k ≡ mapMembers f ts
-    mapMembers-number none k = refl
-    mapMembers-number (t ▹ ts) k = ap₂ {C = Members B} (λ u us. u ▹ us) (map-number t k) (mapMembers-number ts (k + atoms t))
-
   pub flatten-map : (t : Tree A) → flatten (mapTree f t) ≡ mapTree f (flatten t)
-  flatten-map t = rw (← map-number t 0, ← map-number (flatten t) 0) (flatten-number (λ i a. f a) t 0)
+  flatten-map t = rw (← map-number f t 0, ← map-number f (flatten t) 0) (flatten-number (λ i a. f a) t 0)
 
   mutual
     nodeAround-map : (n : Node A) (d : ℕ) → nodeAround (mapNode f n) d ≡ nodeAround n d

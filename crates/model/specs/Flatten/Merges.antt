@@ -5,15 +5,11 @@ use mathlib.Core.List.{[], _∷_}
 use Prim.Native.Nat.{ℕ}
 use lib.ListN.{getD}
 use borrow.Author.Tests.{eqb-true}
-use Rattle.model.specs.{declared.rule.Sign.Sign, declared.rule.Mark.Mark}
+use Rattle.model.specs.{declared.rule.Sign.Sign, Mark.Laws.is-plain}
 use Rattle.model.specs.declared.rule.Sign.the-variants.{None, Sequence, Choice, Interleaving}
-use Rattle.model.specs.declared.rule.Mark.the-variants.{Plain, Optional}
+use Rattle.model.specs.declared.rule.Mark.the-variants.{Plain}
 use Rattle.model.specs.Tree.{leaf, group, Tree, marked, Members, none, _▹_, isPlain}
 use Rattle.model.specs.Flatten.{signNumber, sameSign, isNil, merges, membersOf}
-
-pub is-plain : (m : Mark) → isPlain m ≡ true → m ≡ Plain
-is-plain Plain e = refl
-is-plain Optional e = absurd (false≢true e)
 
 -- a sign is known by its number
 abbrev signAt : ℕ → Sign

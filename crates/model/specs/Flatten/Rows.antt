@@ -1,21 +1,23 @@
--- Flattening keeps the rows, of every tree. What `()` leaves behind where it is dropped is the one thing that differs from sign to sign.
+-- Flattening keeps the rows, of every tree whose marks fit. What `()` leaves behind where it is dropped is the one thing that differs from sign to sign.
 use mathlib.Core.{Path._≡_, Path.refl, Path.ap, Path.ap₂, Logic._↔_, Logic.inl, Logic.inr, Logic.⊎-elim}
-use mathlib.Core.Bool.{Bool, true, false, cond, false≢true}
+use mathlib.Core.Bool.{Bool, true, false, cond, _&&_, false≢true}
 use mathlib.Core.List.{List, [], _∷_}
 use Prim.Native.Nat.{ℕ, _+_}
 use native.Mathlib.Omega.{arith}
+use borrow.Author.Tests.{ltb-true}
 use Rattle.fields.specs.Tests.{by-test}
 use Rattle.model.specs.{declared.rule.Sign.Sign, declared.rule.Mark.Mark, Word.Word}
 use Rattle.model.specs.declared.rule.Sign.the-variants.{None, Sequence, Choice, Interleaving}
-use Rattle.model.specs.declared.rule.Mark.the-variants.{Plain, Optional}
-use Rattle.model.specs.Tree.{Node, leaf, group, Tree, marked, Members, none, _▹_, size, atoms, numberNode, numberTree, numberAll}
-use Rattle.model.specs.Types.{Ty, ε, join, Operator, sequence, choice, interleaving, Language, Joined, Holds}
-use Rattle.model.specs.Types.Languages.{Same, itself, thus, back, Empty, Neutral, joined-same, neutral-left, neutral-right, joined-assoc}
+use Rattle.model.specs.declared.rule.Mark.the-variants.{Plain, Optional, Nonempty}
+use Rattle.model.specs.Tree.{Node, leaf, group, Tree, marked, Members, none, _▹_, size, nodeWeight, atoms, markFits}
+use Rattle.model.specs.Tree.{NodeMarksFit, MarksFit, MembersMarksFit, numberNode, numberTree, numberAll, Map.marks-number}
+use Rattle.model.specs.Types.{Ty, ε, join, nonempty, Operator, sequence, choice, interleaving, Language, Joined, Holds}
+use Rattle.model.specs.Types.Languages.{Same, itself, thus, back, nil-or-not, Empty, Neutral, joined-same, neutral-left, neutral-right, joined-assoc}
 use Rattle.model.specs.Model.{Counts, Model, operator, joinedFrom, joinedType, markedType, countedType, typeBy, foldNode, fold, foldAll, typeOf}
 use Rattle.model.specs.Model.{nodeTypeWith, typeWith, typesWith}
 use Rattle.model.specs.Flatten.{isChoice, _⧺_, isNil, someNil, merges, withMember, gathered, grouped, over, droppedMark}
 use Rattle.model.specs.Flatten.{flattenNode, flatten, flattenAll}
-use Rattle.model.specs.Flatten.{Map.flatten-number, Merges.merged-some}
+use Rattle.model.specs.Flatten.{Map.flatten-number, Merges.merged-some, Leaves.nil-atoms, Leaves.flattenNode-atoms}
 
 -- the words of members, joined from the right
 abbrev pub Together : Operator → List Ty → Language
@@ -79,11 +81,24 @@ dropped-all Interleaving = itself Empty
 pub marked-same : (m : Mark) (T U : Ty) → Same (Holds T) (Holds U) → Same (Holds (markedType m T)) (Holds (markedType m U))
 marked-same Plain T U f = f
 marked-same Optional T U f = joined-same choice (itself Empty) f
+marked-same Nonempty T U f = λ w. (λ h. (f w .0 (h .0), h .1), λ h. (f w .1 (h .0), h .1))
 
--- `?` in the place of another mark
+-- a mark in the place of another
 pub optional-over : (m : Mark) (T : Ty) → Same (Holds (markedType Optional T)) (Holds (markedType Optional (markedType m T)))
 optional-over Plain T = itself (Joined choice Empty (Holds T))
 optional-over Optional T = one-empty (Holds T)
+optional-over Nonempty T = λ w. (
+  ⊎-elim inl (λ h. ⊎-elim inl (λ n. inr (h, n)) (nil-or-not w)),
+  ⊎-elim inl (λ h. inr (h .0)),
+)
+
+pub nonempty-over : (m : Mark) (T : Ty) → Same (Holds (nonempty T)) (Holds (nonempty (markedType m T)))
+nonempty-over Plain T = itself (Holds (nonempty T))
+nonempty-over Optional T = λ w. (λ h. (inr (h .0), h .1), λ h. (⊎-elim (λ e. absurd (h .1 e)) (λ i. i) (h .0), h .1))
+nonempty-over Nonempty T = λ w. (λ h. (h, h .1), λ h. h .0)
+
+pub dropped-fits : (s : Sign) (b : Bool) (k : ℕ) → markFits (droppedMark s b) k ≡ true
+dropped-fits s b k = by-test (isChoice s && b) (λ e. rw e) (λ e. rw e)
 
 module _ {A : Type 0} where
   with-some : (s : Sign) (t : Tree A) (us : Members A) → isNil t ≡ false → size (withMember s t us) ≡ 0 → ⊥
@@ -115,14 +130,19 @@ module _ {A : Type 0} (f : A → Ty) where
   nil-rows (marked m (leaf a)) e = absurd (false≢true e)
   nil-rows (marked Plain (group s none)) e = itself Empty
   nil-rows (marked Optional (group s none)) e = absurd (false≢true e)
+  nil-rows (marked Nonempty (group s none)) e = absurd (false≢true e)
   nil-rows (marked m (group s (t ▹ ts))) e = absurd (false≢true e)
 
-  over-rows : (m : Mark) (t : Tree A) → Same (rows (over m t)) (Holds (markedType m (typeWith f t)))
-  over-rows Plain t = itself (rows t)
-  over-rows Optional (marked m n) =
+  pub over-rows : (m : Mark) (t : Tree A) → markFits m (atoms t) ≡ true → Same (rows (over m t)) (Holds (markedType m (typeWith f t)))
+  over-rows Plain t h = itself (rows t)
+  over-rows Optional (marked m n) h =
       by-test (isNil (marked m n))
-      (λ e. rw e λ w. (inl, ⊎-elim (λ h. h) (nil-rows (marked m n) e w .1)))
+      (λ e. rw e λ w. (inr, ⊎-elim (nil-rows (marked m n) e w .0) (λ i. i)))
       (λ e. rw e (optional-over m (nodeTypeWith f n)))
+  over-rows Nonempty (marked m n) h =
+      by-test (isNil (marked m n))
+      (λ e. absurd (omega (arith, ltb-true 0 (nodeWeight 1 0 n) h, nil-atoms (marked m n) e)))
+      (λ e. rw e (nonempty-over m (nodeTypeWith f n)))
 
   with-rows : (s : Sign) (t : Tree A) (us : Members A) → isNil t ≡ false
       → Same (Together (operator s) (typesWith f (withMember s t us))) (Joined (operator s) (rows t) (Together (operator s) (typesWith f us)))
@@ -161,22 +181,23 @@ module _ {A : Type 0} (f : A → Ty) where
   group-rows s none h = by-test (isChoice s) (λ e. rw e (itself Empty)) (λ e. rw e (itself Empty))
   group-rows s (t ▹ ts) h =
       let l = flattenAll (t ▹ ts) in
-      thus (over-rows (droppedMark s (someNil l)) (grouped s (gathered s l)))
+      thus (over-rows (droppedMark s (someNil l)) (grouped s (gathered s l)) (dropped-fits s (someNil l) (atoms (grouped s (gathered s l)))))
       (thus (left-rows s (someNil l) (gathered s l) (none-left s (flatten t) (flattenAll ts)))
       (thus (gathered-rows s l) (thus h (back (from-together (operator s) (typeWith f t) (typesWith f ts))))))
 
   mutual
-    node-kept : (n : Node A) → Same (rows (flattenNode n)) (Holds (nodeTypeWith f n))
-    node-kept (leaf a) = itself (Holds (f a))
-    node-kept (group s ts) = group-rows s ts (members-kept ts (operator s))
+    node-kept : (n : Node A) → NodeMarksFit n → Same (rows (flattenNode n)) (Holds (nodeTypeWith f n))
+    node-kept (leaf a) h = itself (Holds (f a))
+    node-kept (group s ts) h = group-rows s ts (members-kept ts (operator s) h)
 
-    pub rows-kept : (t : Tree A) (w : Word) → Holds (typeWith f (flatten t)) w ↔ Holds (typeWith f t) w
-    rows-kept (marked m n) =
-        thus (over-rows m (flattenNode n)) (marked-same m (typeWith f (flattenNode n)) (nodeTypeWith f n) (node-kept n))
+    pub rows-kept : (t : Tree A) → MarksFit t → (w : Word) → Holds (typeWith f (flatten t)) w ↔ Holds (typeWith f t) w
+    rows-kept (marked m n) h =
+        thus (over-rows m (flattenNode n) (rw (flattenNode-atoms n) (h .0)))
+        (marked-same m (typeWith f (flattenNode n)) (nodeTypeWith f n) (node-kept n (h .1)))
 
-    members-kept : (ts : Members A) (o : Operator) → Same (Together o (treeTypes (flattenAll ts))) (Together o (typesWith f ts))
-    members-kept none o = itself (Neutral o)
-    members-kept (t ▹ ts) o = joined-same o (rows-kept t) (members-kept ts o)
+    members-kept : (ts : Members A) (o : Operator) → MembersMarksFit ts → Same (Together o (treeTypes (flattenAll ts))) (Together o (typesWith f ts))
+    members-kept none o h = itself (Neutral o)
+    members-kept (t ▹ ts) o h = joined-same o (rows-kept t (h .0)) (members-kept ts o (h .1))
 
 -- an atom of a model means what its number and counts say
 abbrev withNumber : ℕ → Counts → ℕ × Counts
@@ -197,6 +218,7 @@ mutual
   members-types none k = refl
   members-types (t ▹ ts) k = ap₂ {C = List Ty} (λ T l. T ∷ l) (tree-type t k) (members-types ts (k + atoms t))
 
-pub flatten-rows : (t : Model) (w : Word) → Holds (typeOf (flatten t)) w ↔ Holds (typeOf t) w
-flatten-rows t =
-    rw (← tree-type (flatten t) 1, ← tree-type t 1, ← flatten-number withNumber t 1) (rows-kept numberedType (numberTree withNumber t 1))
+pub flatten-rows : (t : Model) → MarksFit t → (w : Word) → Holds (typeOf (flatten t)) w ↔ Holds (typeOf t) w
+flatten-rows t h =
+    rw (← tree-type (flatten t) 1, ← tree-type t 1, ← flatten-number withNumber t 1)
+    (rows-kept numberedType (numberTree withNumber t 1) (marks-number withNumber t 1 .1 h))

@@ -1,12 +1,11 @@
 -- What flattening leaves: `()`, or a tree in which no group has fewer than two members and none could join the group around it.
-use mathlib.Core.{Path._≡_, Path.refl, Path.subst, Logic._⊎_, Logic.inl, Logic.inr, Logic.⊎-elim, Bool.false}
+use mathlib.Core.{Path._≡_, Path.refl, Path.subst, Logic._⊎_, Logic.inl, Logic.inr, Logic.⊎-elim, Bool.false, Bool._||_, Bool.or-true}
 use mathlib.Core.List.{List, [], _∷_}
 use Prim.Native.Nat.{_≤_}
 use native.Mathlib.Omega.{arith}
 use Rattle.fields.specs.Tests.{by-test}
 use Rattle.model.specs.{declared.rule.Sign.Sign, declared.rule.Mark.Mark}
-use Rattle.model.specs.declared.rule.Mark.the-variants.{Plain, Optional}
-use Rattle.model.specs.Tree.{Node, leaf, group, Tree, marked, Members, none, _▹_, size}
+use Rattle.model.specs.Tree.{Node, leaf, group, Tree, marked, Members, none, _▹_, size, isPlain}
 use Rattle.model.specs.Flatten.{_⧺_, nil, isNil, someNil, merges, membersOf, withMember, gathered, grouped, over, droppedMark}
 use Rattle.model.specs.Flatten.{flattenNode, flatten, flattenAll}
 use Rattle.model.specs.Flatten.Merges.{merged}
@@ -56,9 +55,8 @@ module _ {A : Type 0} where
   grouped-flattened s (t ▹ u ▹ ts) h = inr (omega arith, h)
 
   over-flattened : (m : Mark) (t : Tree A) → Flattened t → Flattened (over m t)
-  over-flattened Plain t h = h
-  over-flattened Optional t (inl e) = inl (rw e)
-  over-flattened Optional (marked m n) (inr h) = inr (rw (solid-not-nil (marked m n) h) h)
+  over-flattened m t (inl e) = inl (rw (e, or-true))
+  over-flattened m (marked k n) (inr h) = inr (by-test (isPlain m || isNil (marked k n)) (λ e. rw e h) (λ e. rw e h))
 
   mutual
     pub node-flattened : (n : Node A) → Flattened (flattenNode n)

@@ -1,6 +1,6 @@
 -- Laws of the operators of document 001 on languages: each has a neutral language, and is associative.
-use mathlib.Core.{Path._≡_, Path.refl, Path.sym, Path.ap, Path._∙_, Path.subst, Logic._↔_, Logic.inl, Logic.inr, Logic.⊎-elim}
-use mathlib.Core.List.{[], _∷_, _++_, append-assoc, append-nil}
+use mathlib.Core.{Path._≡_, Path.refl, Path.sym, Path.ap, Path._∙_, Path.subst, Logic._↔_, Logic._⊎_, Logic.inl, Logic.inr, Logic.⊎-elim}
+use mathlib.Core.List.{[], _∷_, _++_, append-assoc, append-nil, cons≢nil}
 use Rattle.model.specs.Word.{Word, Shuffle, none, left, right}
 use Rattle.model.specs.Word.Laws.{shuffle-swap, append-shuffle}
 use Rattle.model.specs.Types.{Operator, sequence, choice, interleaving, Language, Joined}
@@ -17,6 +17,10 @@ thus f g w = (λ h. g w .0 (f w .0 h), λ h. f w .1 (g w .1 h))
 
 pub back : {P Q : Language} → Same P Q → Same Q P
 back f w = (f w .1, f w .0)
+
+pub nil-or-not : (w : Word) → (w ≡ []) ⊎ (¬ w ≡ [])
+nil-or-not [] = inl refl
+nil-or-not (x ∷ w) = inr (λ e. cons≢nil e)
 
 -- the empty row alone
 abbrev pub Empty : Language

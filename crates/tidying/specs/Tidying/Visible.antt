@@ -7,7 +7,7 @@ use Rattle.fields.specs.{Bytes.Laws.apart, Split.tab, Split.lineFeed, Split.oth
 use Rattle.fields.specs.Bytes.Runs.{digit-inner, all-map, all-append, numeral-digits}
 use Rattle.model.specs.declared.rule.{Sign.Sign, Mark.Mark}
 use Rattle.model.specs.declared.rule.Sign.the-variants.{None, Sequence, Choice, Interleaving}
-use Rattle.model.specs.declared.rule.Mark.the-variants.{Plain, Optional}
+use Rattle.model.specs.declared.rule.Mark.the-variants.{Plain, Optional, Nonempty}
 use Rattle.model.specs.Tree.{Node, leaf, group, marked, Members, none, _▹_, NodeFormed, Formed, MembersFormed}
 use Rattle.model.specs.Syntax.{Count, unwritten, between, onward, Spelling, Syntax, CountFormed, SpellingFormed, countText, signText, markText}
 use Rattle.model.specs.Syntax.{nodeText, text, membersText, moreText}
@@ -43,6 +43,7 @@ sign-visible Interleaving = tt
 mark-visible : (m : Mark) → Visible (markText m)
 mark-visible Plain = tt
 mark-visible Optional = tt
+mark-visible Nonempty = tt
 
 mutual
   node-visible : (n : Node Spelling) → NodeFormed SpellingFormed n → Visible (nodeText n)

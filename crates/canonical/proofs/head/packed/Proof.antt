@@ -1,21 +1,23 @@
 -- The parts of the number are those of the head.
+use Prim.Native.Nat.{_<_}
 use native.Mathlib.Omega.{arith}
-use Rattle.canonical.specs.Writer.Head.{low-small, head-packed}
 use borrow.Author.Needs.{needs}
+use Rattle.model.specs.Mark.Laws.{few-marks}
+use Rattle.canonical.specs.Writer.Head.{head-packed}
 use Rattle.canonical.proofs.head.packed.Statement.{statement}
 use Rattle.canonical.proofs.head.packed.Tie as tie
 
-add-result-3 : tie.Need-add-result-3
-add-result-3 c =
-    let a = c .before .before .before .before in
-    omega (arith, low-small (a .args .head .sign) (a .args .head .marked) (a .pre), c .before .before .before .low-byte .ensures)
+abbrev numbered : tie.After-struct-known4 → tie.After-mark-number
+numbered c = c .before .before .before .before
+
+few : (c : tie.After-struct-known4) → numbered c .mark-number .result < 3
+few c = rw (numbered c .mark-number .ensures) (few-marks (numbered c .before .args .head .mark))
 
 returns : tie.Need-returns
 returns c =
-    let a = c .before .before .before .before in
-    let h = a .args .head in
-    rw (c .before .before .before .low-byte .ensures)
-    (head-packed (h .least) (h .size) (h .members) (search needs) (search needs) (search needs) (h .sign) (a .pre) (h .marked))
+    let h = numbered c .before .args .head in
+    rw (numbered c .mark-number .ensures)
+    (head-packed (h .least) (h .size) (h .members) (h .sign) (search needs) (search needs) (search needs) (search needs) (h .mark))
 
 pub packed-spec : {M : Type 1} → statement M
 packed-spec =
@@ -30,5 +32,8 @@ packed-spec =
     (λ c. search needs)
     (λ c. search needs)
     (λ c. search needs)
-    add-result-3
+    (λ c. search needs)
+    (λ c. search needs)
+    (λ c. omega (arith, few c))
+    (λ c. omega (arith, few c))
     returns)

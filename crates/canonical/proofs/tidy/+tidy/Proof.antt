@@ -132,7 +132,7 @@ module _ (t : ℕ) where
   gather-requires : lts.Need-gather-requires (claims t) (at t) tidy.Post Inv-loop μ-loop
   gather-requires c κs =
       let b = c .before .before .before .before in
-      member-fits (head b .loop .inv) (member b) (b .tidy .last .1 .0) (b .tidy .result) (tidied b)
+      rw (c .before .before .sign-by .ensures) (member-fits (head b .loop .inv) (member b) (b .tidy .last .1 .0) (b .tidy .result) (tidied b))
 
   loop-less : lts.Need-loop-less (claims t) (at t) tidy.Post Inv-loop μ-loop
   loop-less c =

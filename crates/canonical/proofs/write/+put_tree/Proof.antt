@@ -42,11 +42,11 @@ claims t = (
 )
 
 abbrev Inv-loop : lts.InvT-loop
-Inv-loop text stack list₀ buffer₀ at start to head end before₀ p₀ k₀ list buffer before p k =
+Inv-loop text stack list₀ buffer₀ at start to head mark end before₀ p₀ k₀ list buffer before p k =
     Writing text stack list₀ list buffer₀ buffer at start end to before p k
 
 abbrev μ-loop : lts.MeasureT-loop
-μ-loop text stack list₀ buffer₀ at start to head end before₀ p₀ k₀ list buffer before p k = k
+μ-loop text stack list₀ buffer₀ at start to head mark end before₀ p₀ k₀ list buffer before p k = k
 
 module _ (t : ℕ) where
   abbrev entry : lts.After-unpacked (claims t) (at t) put-tree.Post Inv-loop μ-loop → lts.Start (claims t) (at t) put-tree.Post Inv-loop μ-loop

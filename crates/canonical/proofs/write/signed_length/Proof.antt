@@ -1,13 +1,14 @@
 -- Word by word.
 use Prim.Native.Nat.{ℕ, _+_, _*_, _≤_, _-_}
-use mathlib.Core.{Path._≡_, Path.refl, Path.ap, Path._∙_, Logic.⊎-elim, Bool.Bool, Bool.cond}
+use mathlib.Core.{Path._≡_, Path.refl, Path.ap, Path._∙_, Logic.⊎-elim}
 use native.Mathlib.{Omega.arith, Nat.zero-add}
 use lib.Dec.{eqb}
 use lib.ListN.{length, drop}
 use Rattle.fields.specs.{Bytes.Text, Limits.maxText, Limits.maxNodes, Tests.by-test}
+use Rattle.model.specs.Syntax.{markText}
 use Rattle.canonical.specs.declared.head.Head.{Head}
 use Rattle.canonical.specs.Writer.{Place.keptEnd, Place.Ends.kept-inside, Stack.treesOn, Stack.Skip.least-inside, Lists.headAt, Length.signedLength}
-use Rattle.canonical.specs.Writer.Length.Laws.{plainLength, ownLength, wordsLength, words-length, words-step, words-over}
+use Rattle.canonical.specs.Writer.Length.Laws.{plainLength, wordsLength, mark-short, words-length, words-step, words-over}
 use borrow.Author.{Needs.needs, Tests.eq-eqb, Tests.ne-eqb}
 use Rattle.canonical.proofs.write.signed_length.Statement.{statement}
 use Rattle.canonical.proofs.write.signed_length.Tie as tie
@@ -39,15 +40,12 @@ inside k e =
 head-is : (k : tie.After-struct-known Inv-loop μ-loop) → k .before .unpacked .result ≡ head (turn k)
 head-is k = k .before .unpacked .ensures
 
--- the length of a turn, without a mark and with one
+-- the length of a turn without its mark
 atom-own : (x : Text) {g h : Head} {r own : ℕ} → g ≡ h → g .sign ≡ 1 → r ≡ keptEnd x (g .least) → own ≡ r - g .least → own ≡ plainLength x h
 atom-own x {g} e t k o = rw (← e, eq-eqb (g .sign) 1 t) (o ∙ ap (λ n. n - g .least) k)
 
 group-own : (x : Text) {g h : Head} {own : ℕ} → g ≡ h → (g .sign ≡ 1 → ⊥) → own ≡ 1 → own ≡ plainLength x h
 group-own x {g} e t o = rw (← e, ne-eqb (g .sign) 1 t) o
-
-mark-own : (x : Text) {g h : Head} {b : Bool} {own : ℕ} → g ≡ h → g .marked ≡ b → own ≡ plainLength x h + cond b 1 0 → own ≡ ownLength x h
-mark-own x e m o = rw (← e, m) (rw (← e) at o)
 
 own-first : (j : tie.Joined1 Inv-loop μ-loop) → j .if1 .own ≡ plainLength (whole (turn (j .before))) (head (turn (j .before)))
 own-first j =
@@ -57,13 +55,12 @@ own-first j =
     (λ (t, o). group-own x (head-is (j .before)) (t .left) o)
     (j .if1 .came)
 
-own-whole : (j : tie.Joined2 Inv-loop μ-loop) → j .if2 .own ≡ ownLength (whole (turn (j .before .before))) (head (turn (j .before .before)))
-own-whole j =
-    let k = j .before .before in
-    ⊎-elim
-    (λ (t, s, o). mark-own (whole (turn k)) (head-is k) (t .taken) (o ∙ ap (λ n. n + 1) (own-first (j .before))))
-    (λ (t, o). mark-own (whole (turn k)) (head-is k) (t .left) (o ∙ own-first (j .before) ∙ omega arith))
-    (j .if2 .came)
+-- and of its mark
+abbrev marked : tie.After-mark-length Inv-loop μ-loop → tie.Joined1 Inv-loop μ-loop
+marked c = c .before
+
+more-is : (c : tie.After-mark-length Inv-loop μ-loop) → c .mark-length .result ≡ length (markText (head (turn (marked c .before)) .mark))
+more-is c = c .mark-length .ensures ∙ ap (λ (h : Head). length (markText (h .mark))) (head-is (marked c .before))
 
 -- it is short
 plain-short : (x : Text) (h : Head) → h .least ≤ length x → length x ≤ maxText → plainLength x h ≤ 4096
@@ -77,8 +74,8 @@ first-short j =
     let l = turn (j .before) in
     rw (own-first j) (plain-short (whole l) (head l) (inside (j .before .before .before .before) refl) (entry l .pre .short))
 
-own-short : (j : tie.Joined2 Inv-loop μ-loop) → j .if2 .own ≤ 4097
-own-short j = ⊎-elim (λ (t, s, o). omega (arith, o, first-short (j .before))) (λ (t, o). omega (arith, o, first-short (j .before))) (j .if2 .came)
+own-short : (c : tie.After-mark-length Inv-loop μ-loop) → marked c .if1 .own + c .mark-length .result ≤ 4097
+own-short c = omega (arith, first-short (marked c), more-is c, mark-short (head (turn (marked c .before)) .mark))
 
 loop-holds : tie.Need-loop-holds Inv-loop μ-loop
 loop-holds c = (omega arith, search needs, omega arith, rw zero-add (words-length _ _ (c .before .pre .heads)))
@@ -93,20 +90,12 @@ sub-own c =
     let i = known k in
     omega (arith, kept-inside {x = whole (turn k)} {p = k .before .unpacked .result .least} (record { name-is = refl; kept-is = c .kept-end .ensures }) i)
 
-add-own : tie.Need-add-own Inv-loop μ-loop
-add-own c = omega (arith, first-short (c .before .before))
-
-add-sum : tie.Need-add-sum Inv-loop μ-loop
-add-sum c = omega (arith, own-short (c .before))
-
-add-sum-2 : tie.Need-add-sum-2 Inv-loop μ-loop
-add-sum-2 c = omega (arith, own-short (c .before))
-
 loop-again : tie.Need-loop-again Inv-loop μ-loop
 loop-again c =
-    let l = turn (c .before .before .before) in
+    let m = marked (c .before) in
+    let l = turn (m .before) in
     let w = words-step (whole l) (entry l .args .stack .now) (l .loop .i) (omega (arith, entry l .pre .entries)) in
-    (omega arith, omega arith, omega (arith, own-short (c .before)), omega (arith, own-whole (c .before), w, l .loop .inv .3))
+    (omega arith, omega arith, omega (arith, own-short (c .before)), omega (arith, own-first m, more-is (c .before), w, l .loop .inv .3))
 
 returns : tie.Need-returns Inv-loop μ-loop
 returns c =
@@ -127,9 +116,10 @@ signed-length-spec =
     (λ c κs. known (c .before .before))
     (λ c κs. (known (c .before .before .before), c .name-end .ensures))
     sub-own
-    add-own
-    add-sum
-    add-sum-2
+    (λ c κs. search needs)
+    (λ c. omega (arith, own-short (c .before)))
+    (λ c. omega (arith, own-short (c .before)))
+    (λ c. omega (arith, own-short (c .before)))
     (λ c. search needs)
     (λ c. search needs)
     loop-again

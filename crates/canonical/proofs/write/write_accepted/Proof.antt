@@ -1,12 +1,11 @@
 -- The tree of the text is tidied; `()` is written as it is, any other tree by its head on the stack.
 use borrow.Author.Needs.{needs}
-use mathlib.Core.Path.{_≡_, ap, _∙_}
+use mathlib.Core.Path.{_≡_, _∙_}
 use Prim.Native.Nat.{_≤_, _<_}
 use native.Mathlib.Omega.{arith}
 use lib.ListN.{replicate}
 use Rattle.fields.specs.Limits.{maxNodes}
-use Rattle.canonical.specs.{declared.head.Head.Head, Writer.Head.headIn, Writer.Tidied.headOf}
-use Rattle.canonical.specs.{Tidy.tidy, Writer.Recursion.TidiedAt, Writer.Recursion.Turns.sign-small}
+use Rattle.canonical.specs.Writer.{Head.headIn, Tidied.headOf, Recursion.TidiedAt}
 use Rattle.canonical.specs.Writer.Accepted.{whole-stands, whole-ready, nil-text, head-room, one-tree, tree-text}
 use Rattle.canonical.proofs.write.write_accepted.Statement.{statement}
 use Rattle.canonical.proofs.write.write_accepted.Tie as tie
@@ -47,11 +46,6 @@ returns c =
 sub-top : tie.Need-sub-top
 sub-top c = omega (arith, room (c .before))
 
-packed-requires : tie.Need-packed-requires
-packed-requires c κs =
-    let t = tidied (c .before .before) in
-    omega (arith, ap (λ (d : Head). d .sign) (c .head-of .ensures), known t .keeps .sign-is, sign-small (tidy (start t .pre .0)))
-
 mul-stack : tie.Need-mul-stack
 mul-stack c = omega (arith, room (c .before .before .before))
 
@@ -65,7 +59,7 @@ headed p = p .before
 abbrev other : tie.After-packed → tie.Else1
 other p = headed p .before .before
 
-head-is : (p : tie.After-packed) → headIn (p .packed .result) ≡ headOf (tidied (other p) .tidy .result .marked) (tidied (other p) .tidy .result)
+head-is : (p : tie.After-packed) → headIn (p .packed .result) ≡ headOf (tidied (other p) .tidy .result)
 head-is p = p .packed .ensures ∙ headed p .head-of .ensures
 
 write-tree-requires : tie.Need-write-tree-requires
@@ -97,7 +91,7 @@ write-accepted-spec =
     returns
     sub-top
     (λ c κs. search needs)
-    packed-requires
+    (λ c κs. search needs)
     mul-stack
     array-write-stack
     write-tree-requires

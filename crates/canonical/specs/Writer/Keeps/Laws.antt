@@ -1,21 +1,21 @@
 -- The steps keep what is known: of an atom, of a member more, of a group that is closed, of a mark.
-use mathlib.Core.{Path._≡_, Path.refl, Path.ap, Path._∙_, Logic._⊎_, Logic.inl, Logic.inr, Logic.⊎-elim}
-use mathlib.Core.{Bool.Bool, Bool.true, Bool.false, Bool.cond, Bool.not, Bool._&&_}
+use mathlib.Core.{Path._≡_, Path.refl, Path.sym, Path.ap, Path._∙_, Logic._⊎_, Logic.inl, Logic.inr, Logic.⊎-elim}
+use mathlib.Core.Bool.{Bool, false, _||_, true≢false}
 use Prim.Native.{Nat.ℕ, Nat._+_, Nat._-_, Nat._≤_, Nat._<_, Char.code}
 use native.Mathlib.Omega.{arith}
 use lib.{Dec.eqb}
 use borrow.Author.Tests.{ne-eqb}
-use Rattle.fields.specs.{Bytes.Text, Tests.by-test}
+use Rattle.fields.specs.{Bytes.Text, Tests.by-test, Tests.neither}
 use Rattle.model.specs.{declared.rule.Sign.Sign, declared.rule.Mark.Mark}
 use Rattle.model.specs.declared.rule.Sign.the-variants.{None, Sequence, Choice, Interleaving}
-use Rattle.model.specs.declared.rule.Mark.the-variants.{Plain, Optional}
-use Rattle.model.specs.Tree.{leaf, group, marked, Members, none, _▹_, size}
-use Rattle.model.specs.Flatten.{nil, isChoice, sameSign, grouped, droppedMark}
+use Rattle.model.specs.declared.rule.Mark.the-variants.{Nonempty}
+use Rattle.model.specs.Tree.{Node, leaf, group, marked, Members, none, _▹_, size, nodeUnder, isPlain}
+use Rattle.model.specs.Flatten.{nil, isNil, isChoice, sameSign, membersOf, grouped, droppedMark}
 use Rattle.model.specs.Syntax.{Spelling, Syntax}
 use Rattle.canonical.specs.{declared.tidy.Tidied.Tidied, declared.tidy.Gathered.Gathered}
-use Rattle.canonical.specs.Tidy.{isOptional, nodeNullable, marking}
-use Rattle.canonical.specs.Writer.Tidied.{optionalBy, placedAt, remarkedBy, nothingBy, noMembers, groupedBy, groupClosedBy}
-use Rattle.canonical.specs.Writer.Keeps.{signByte, nullableNode, KeepsTree, KeepsMembers}
+use Rattle.canonical.specs.Tidy.{fitting, marking, stripped}
+use Rattle.canonical.specs.Writer.Tidied.{markingBy, strippedBy, placedAt, remarkedBy, nothingBy, noMembers, groupedBy, groupClosedBy}
+use Rattle.canonical.specs.Writer.Keeps.{signByte, signCode, NamedAt, KeepsTree, KeepsMembers}
 
 -- signs by their bytes
 pub choice-byte : (s : Sign) → eqb (signByte s) (code "|") ≡ isChoice s
@@ -53,7 +53,7 @@ pub keeps-placed : {x : Text} {u : Syntax} {r : Tidied} (top next : ℕ) → Kee
 keeps-placed top next k =
     record {
       sign-is = k .sign-is;
-      marked-is = k .marked-is;
+      mark-is = k .mark-is;
       nullable-is = k .nullable-is;
       members-is = k .members-is;
       size-is = k .size-is;
@@ -65,7 +65,7 @@ pub keeps-nil : (x : Text) (top next : ℕ) → KeepsTree x nil (nothingBy top n
 keeps-nil x top next =
     record {
       sign-is = refl;
-      marked-is = refl;
+      mark-is = refl;
       nullable-is = refl;
       members-is = refl;
       size-is = refl;
@@ -73,42 +73,47 @@ keeps-nil x top next =
       kind-is = inl refl;
     }
 
+-- `()` has no sign
+module _ {x : Text} {p : ℕ} where
+  pub named-some : (u : Syntax) → NamedAt x u p → isNil u ≡ false
+  named-some (marked m (leaf a)) h = refl
+  named-some (marked m (group s none)) h = absurd (omega (arith, h .proper .0))
+  named-some (marked m (group s (t ▹ ts))) h = refl
+
+  named-signed : (u : Syntax) → NamedAt x u p → eqb (signCode (nodeUnder u)) 0 ≡ false
+  named-signed (marked m (leaf a)) h = refl
+  named-signed (marked m (group s ts)) h = ne-eqb (signByte s) 0 (λ e. omega (arith, h .proper .1))
+
+pub nil-sign : {x : Text} (u : Syntax) {r : Tidied} → KeepsTree x u r → eqb (r .sign) 0 ≡ isNil u
+nil-sign u k = rw (k .sign-is) (⊎-elim (λ e. rw e) (λ p. named-signed u p ∙ sym (named-some u p)) (k .kind-is))
+
 -- another mark
-abbrev pub withMark : Mark → Syntax → Syntax
-withMark m (marked k n) = marked m n
+pub members-under : (m k : Mark) (n : Node Spelling) → membersOf (marked m n) ≡ membersOf (marked k n)
+members-under m k (leaf a) = refl
+members-under m k (group s ts) = refl
 
-module _ {x : Text} {r : Tidied} (m : Mark) (b : Bool) (e : b ≡ isOptional m) where
-  pub keeps-marked : (u : Syntax) → ((u ≡ nil) → m ≡ Plain) → KeepsTree x u r → KeepsTree x (withMark m u) (remarkedBy b r)
-  keeps-marked (marked k (leaf a)) f h =
-      record {
-        sign-is = h .sign-is;
-        marked-is = e;
-        nullable-is = h .nullable-is;
-        members-is = h .members-is;
-        size-is = h .size-is;
-        least-inside = h .least-inside;
-        kind-is = ⊎-elim (λ i. inl (ap (withMark m) i ∙ ap (λ (j : Mark). marked j (group None none)) (f i))) inr (h .kind-is);
-      }
-  keeps-marked (marked k (group s ts)) f h =
-      record {
-        sign-is = h .sign-is;
-        marked-is = e;
-        nullable-is = h .nullable-is;
-        members-is = h .members-is;
-        size-is = h .size-is;
-        least-inside = h .least-inside;
-        kind-is = ⊎-elim (λ i. inl (ap (withMark m) i ∙ ap (λ (j : Mark). marked j (group None none)) (f i))) inr (h .kind-is);
-      }
+keeps-remarked : {x : Text} {r : Tidied} (m k : Mark) (n : Node Spelling) → isNil (marked k n) ≡ false → KeepsTree x (marked k n) r
+    → KeepsTree x (marked m n) (remarkedBy m r)
+keeps-remarked m k n i h =
+    record {
+      sign-is = h .sign-is;
+      mark-is = refl;
+      nullable-is = h .nullable-is;
+      members-is = h .members-is ∙ ap size (members-under k m n);
+      size-is = h .size-is;
+      least-inside = h .least-inside;
+      kind-is = ⊎-elim (λ e. absurd (true≢false (sym (ap isNil e) ∙ i))) (λ p. inr (record { proper = p .proper; least = p .least })) (h .kind-is);
+    }
 
--- `?` is left out where the empty row is held without it
-mark-if : (b : Bool) → not b ≡ isOptional (cond b Plain Optional)
-mark-if true = refl
-mark-if false = refl
+pub keeps-marking : {x : Text} (m : Mark) (u : Syntax) {r : Tidied} → KeepsTree x u r → KeepsTree x (marking m u) (markingBy m r)
+keeps-marking m (marked k n) {r} h =
+    rw (nil-sign (marked k n) h) (by-test (isPlain m || isNil (marked k n))
+    (λ e. rw e h)
+    (λ e. rw (e, ← h .nullable-is)
+    (keeps-remarked (fitting m (r .nullable)) k n (neither (isPlain m) (isNil (marked k n)) e .1) h)))
 
-pub keeps-optional : {x : Text} (u : Syntax) {r : Tidied} → KeepsTree x u r → KeepsTree x (marking Optional u) (optionalBy r)
-keeps-optional (marked m n) {r} h =
-    keeps-marked (cond (nodeNullable n) Plain Optional) (not (r .nullable)) (ap not (h .nullable-is) ∙ mark-if (nodeNullable n)) (marked m n)
-    (λ e. ap (λ (u : Syntax). cond (nullableNode u) Plain Optional) e) h
+pub keeps-stripped : {x : Text} (s : Sign) (u : Syntax) {r : Tidied} → KeepsTree x u r → KeepsTree x (stripped s u) (strippedBy (signByte s) r)
+keeps-stripped s u h = rw (choice-byte s) (by-test (isChoice s) (λ c. rw c (keeps-marking Nonempty u h)) (λ c. rw c h))
 
 -- a group of the members
 module _ {x : Text} (s : Sign) {v : Bool} {g : Gathered} where
@@ -122,21 +127,17 @@ module _ {x : Text} (s : Sign) {v : Bool} {g : Gathered} where
       rw (a, b)
       record {
         sign-is = refl;
-        marked-is = refl;
+        mark-is = refl;
         nullable-is = k .all-nullable (omega arith);
         members-is = k .members-are;
         size-is = omega (arith, k .nodes-are);
         least-inside = k .within;
-        kind-is = inr ((omega arith, f (omega arith)), k .all-least (omega arith));
+        kind-is = inr (record { proper = (omega arith, f (omega arith)); least = k .all-least (omega arith) });
       }
 
   pub keeps-closed : (us : Members Spelling) (next : ℕ) → KeepsMembers x s us v g → (2 ≤ size us → 0 < signByte s)
       → KeepsTree x (marking (droppedMark s v) (grouped s us)) (groupClosedBy g (signByte s) next)
-  keeps-closed us next k f =
-      rw (choice-byte s, k .given-is)
-      (by-test (isChoice s && v)
-      (λ e. rw e (keeps-optional (grouped s us) (keeps-grouped us next k f)))
-      (λ e. rw e (keeps-grouped us next k f)))
+  keeps-closed us next k f = rw (choice-byte s, k .given-is) (keeps-marking (droppedMark s v) (grouped s us) (keeps-grouped us next k f))
 
 -- no members yet
 pub keeps-none : (x : Text) (s : Sign) (top : ℕ) → KeepsMembers x s none false (noMembers top)

@@ -1,28 +1,28 @@
 -- The group at its end.
 use mathlib.Core.{Path._≡_, Path.refl, Path.sym, Path.ap, Path._∙_, Path.subst, Logic._⊎_, Logic.⊎-elim, Bool.Bool, Bool.false}
-use mathlib.Core.{Bool._&&_, List.List, List.[], List._∷_, List._++_, List.head-eq-of-cons-eq, List.tail-eq-of-cons-eq}
+use mathlib.Core.{List.List, List.[], List._∷_, List._++_, List.head-eq-of-cons-eq, List.tail-eq-of-cons-eq}
 use Prim.Native.{Nat.ℕ, Nat.suc, Nat._+_, Nat._-_, Nat._≤_, Char.code}
 use native.Mathlib.Omega.{arith}
 use lib.{Dec.eqb, ListN.length, ListN.take, ListN.drop, ListN.getD, ListN.take-append-drop, ListN.length-append, ListN.length-drop}
 use lib.Seq.{drop-cons}
 use borrow.Author.Tests.{ne-eqb}
 use Rattle.fields.specs.{Bytes.Text, Tests.by-test}
-use Rattle.model.specs.{declared.rule.Sign.Sign, Fault.is}
+use Rattle.model.specs.{declared.rule.Sign.Sign, Mark.markAt}
 use Rattle.model.specs.declared.rule.Sign.the-variants.{None, Sequence, Choice, Interleaving}
 use Rattle.model.specs.Tree.{group, marked, Members, none, _▹_, size, nodes, membersWeight, SignFits}
 use Rattle.model.specs.Flatten.{_⧺_, membersOf, grouped, droppedMark}
 use Rattle.model.specs.Syntax.{Spelling, Syntax, text, membersText, markText}
 use Rattle.model.specs.Flatten.Append.{append-none}
 use Rattle.canonical.specs.{declared.tidy.Tidied.Tidied, declared.tidy.Gathered.Gathered, declared.head.Head.Head, Writer.Head.headIn}
-use Rattle.canonical.specs.Tidy.{isOptional, someGives, settledGroup, tidy, tidyAll}
-use Rattle.canonical.specs.Writer.Tidied.{groupedBy, groupClosedBy, markedBy}
+use Rattle.canonical.specs.Tidy.{anyNullable, settledGroup, tidy, tidyAll}
+use Rattle.canonical.specs.Writer.Tidied.{groupedBy, givenMark, groupClosedBy, markedBy}
 use Rattle.canonical.specs.Writer.Keeps.{signByte, KeepsMembers}
 use Rattle.canonical.specs.Writer.Keeps.Laws.{keeps-closed}
 use Rattle.canonical.specs.Writer.Stack.{turned, stacked, treeWith, treesOn, HeadFits, HeadsFit}
 use Rattle.canonical.specs.Writer.Stack.Skip.{trees-more, some-node}
 use Rattle.canonical.specs.Writer.Recursion.{OnStack, TidiedAt, Walking, Looping, gatheredOf}
 use Rattle.canonical.specs.Writer.Recursion.Place.{drop-behind, mark-at}
-use Rattle.canonical.specs.Writer.Recursion.Steps.{mark-nodes, keeps-mark, next-mark, top-mark, stack-mark}
+use Rattle.canonical.specs.Writer.Recursion.Steps.{mark-nodes, mark-places, keeps-mark, next-mark, stack-mark}
 use Rattle.canonical.specs.Writer.Recursion.Group.{behindGroup, place-inside, walked-over}
 
 -- A tree is taken from the stack, and its members stay.
@@ -46,11 +46,7 @@ next-grouped : (g : Gathered) (sign n : ℕ) → groupedBy g sign n .next ≡ n
 next-grouped g sign n = by-test (eqb (g .members) 0) (λ e. rw e) (λ e. by-test (eqb (g .members) 1) (λ i. rw (e, i)) (λ i. rw (e, i)))
 
 next-closed : (g : Gathered) (sign n : ℕ) → groupClosedBy g sign n .next ≡ n
-next-closed g sign n =
-    by-test (eqb sign (code "|") && g .given) (λ e. rw e (next-grouped g sign n)) (λ e. rw e (next-grouped g sign n))
-
-top-closed : (g : Gathered) (sign n : ℕ) → groupClosedBy g sign n .top ≡ groupedBy g sign n .top
-top-closed g sign n = by-test (eqb sign (code "|") && g .given) (λ e. rw e) (λ e. rw e)
+next-closed g sign n = mark-places (givenMark g sign) (groupedBy g sign n) .1 ∙ next-grouped g sign n
 
 grouped-nodes : (s : Sign) (us : Members Spelling) → nodes (grouped s us) ≤ suc (membersWeight 1 1 us)
 grouped-nodes s none = omega arith
@@ -104,7 +100,7 @@ module _ {x : Text} {old new : List ℕ} {p top place sign : ℕ} {g : Gathered}
   ends-ahead : drop place x ≡ code ")" ∷ behindGroup h
   ends-ahead = w .ahead ∙ ap (λ (l : Members Spelling). membersText l (h .group-sign) ++ (code ")" ∷ behindGroup h)) (walked-over h e)
 
-  mark-here : is x (code "?") (place + 1) ≡ isOptional (h .mark)
+  mark-here : markAt x (place + 1) ≡ h .mark
   mark-here = mark-at x (place + 1) (h .mark) (h .stands .rest) (h .stands .stops) (drop-behind x (code ")" ∷ []) (behindGroup h) place ends-ahead)
 
   abbrev s : Sign
@@ -119,8 +115,8 @@ module _ {x : Text} {old new : List ℕ} {p top place sign : ℕ} {g : Gathered}
   abbrev closed : Tidied
   closed = groupClosedBy g (signByte s) (place + 1)
 
-  mark-is : is x (code "?") (closed .next) ≡ isOptional (h .mark)
-  mark-is = ap (is x (code "?")) (next-closed g (signByte s) (place + 1)) ∙ mark-here
+  mark-is : markAt x (closed .next) ≡ h .mark
+  mark-is = ap (markAt x) (next-closed g (signByte s) (place + 1)) ∙ mark-here
 
   -- the text ends behind the mark
   text-ends : place + 1 + length (markText (h .mark)) ≡ p + length (text (marked (h .mark) (group s (h .members))))
@@ -140,9 +136,9 @@ module _ {x : Text} {old new : List ℕ} {p top place sign : ℕ} {g : Gathered}
   on-stack : OnStack x (tidy (marked (h .mark) (group s (w .done)))) old new top (markedBy x closed .top)
   on-stack =
       subst (λ n. OnStack x (tidy (marked (h .mark) (group s (w .done)))) old new top n)
-      (sym (top-mark x (h .mark) closed mark-is ∙ top-closed g (signByte s) (place + 1)))
+      (sym (mark-places (givenMark g (signByte s)) (groupedBy g (signByte s) (place + 1)) .0))
       (stack-mark (h .mark) closedTree
-      (stack-mark (droppedMark s (someGives (tidyAll (w .done)))) (grouped s us)
+      (stack-mark (droppedMark s (anyNullable (tidyAll (w .done)))) (grouped s us)
       (stack-grouped s g old new top (place + 1) (w .entries) (omega (arith, h .inside, h .stack-length, w .entries)) us (w .keeps) (w .top-is) (w .trees-are)
       (w .heads))))
 
@@ -158,7 +154,7 @@ module _ {x : Text} {old new : List ℕ} {p top place sign : ℕ} {g : Gathered}
             omega (
               arith,
               mark-nodes (h .mark) closedTree,
-              mark-nodes (droppedMark s (someGives (tidyAll (w .done)))) (grouped s us),
+              mark-nodes (droppedMark s (anyNullable (tidyAll (w .done)))) (grouped s us),
               grouped-nodes s us,
               w .few,
             );

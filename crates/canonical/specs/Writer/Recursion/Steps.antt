@@ -1,69 +1,47 @@
--- A tree that is an atom; a group's members, one by one; the group at its end.
-use mathlib.Core.{Path._≡_, Path.refl, Path.sym, Path.ap, Path._∙_, Path.subst, Logic.inr}
-use mathlib.Core.{Bool.Bool, Bool.true, Bool.false, Bool.cond, List.List}
-use Prim.Native.{Nat.ℕ, Nat._+_, Nat._-_, Char.code}
-use native.Mathlib.Omega.{arith}
-use lib.{ListN.length, ListN.drop, ListN.length-append}
-use Rattle.fields.specs.{Bytes.Text}
-use Rattle.model.specs.{declared.rule.Mark.Mark, Fault.is}
-use Rattle.model.specs.declared.rule.Mark.the-variants.{Plain, Optional}
-use Rattle.model.specs.Tree.{leaf, group, marked, Members, nodes}
-use Rattle.model.specs.Flatten.{membersOf}
+-- A tree that is an atom, and what a mark leaves as it is.
+use mathlib.Core.{Path._≡_, Path.refl, Path.sym, Path.ap, Path._∙_, Logic.inr, Bool.true, Bool.false, Bool._||_, List.List}
+use Prim.Native.{Nat.ℕ, Nat._+_, Nat._-_}
+use native.Mathlib.{Omega.arith, Nat.add-zero}
+use lib.{Dec.eqb, ListN.length, ListN.drop, ListN.getD, ListN.length-append}
+use Rattle.fields.specs.{Bytes.Text, Tests.by-test}
+use Rattle.model.specs.{declared.rule.Sign.Sign, declared.rule.Mark.Mark, Mark.markAt, Mark.Laws.is-plain, Mark.Laws.mark-text}
+use Rattle.model.specs.declared.rule.Mark.the-variants.{Nonempty}
+use Rattle.model.specs.Tree.{leaf, marked, Members, nodes, isPlain}
+use Rattle.model.specs.Flatten.{isChoice, membersOf}
 use Rattle.model.specs.Syntax.{Spelling, Syntax, nodeText, markText}
 use Rattle.canonical.specs.{declared.tidy.Tidied.Tidied}
-use Rattle.canonical.specs.Tidy.{isOptional, fromZero, tidyAtom, marking, tidyNode}
-use Rattle.canonical.specs.Tidy.Form.{count-not-zero}
+use Rattle.canonical.specs.Tidy.{tidyAtom, marking, stripped, tidyNode, Form.count-not-zero, Leaves.marking-kept}
 use Rattle.canonical.specs.Writer.Place.{AtomAt, TreeAt}
 use Rattle.canonical.specs.Writer.Place.Laws.{at-name, at-end, atom-inside, at-atom, at-zero, at-piece}
-use Rattle.canonical.specs.Writer.Tidied.{atomBy, markedBy}
-use Rattle.canonical.specs.Writer.Keeps.{KeepsTree}
-use Rattle.canonical.specs.Writer.Keeps.Laws.{keeps-placed, keeps-optional}
+use Rattle.canonical.specs.Writer.Tidied.{placedAt, countMark, markingBy, strippedBy, atomBy, markedBy}
+use Rattle.canonical.specs.Writer.Keeps.{signByte, KeepsTree}
+use Rattle.canonical.specs.Writer.Keeps.Laws.{choice-byte, members-under, keeps-placed, keeps-marking}
 use Rattle.canonical.specs.Writer.Stack.{stacked, treesOn, HeadsFit}
 use Rattle.canonical.specs.Writer.Recursion.{OnStack, TidiedAt}
 use Rattle.canonical.specs.Writer.Recursion.Place.{atom-stands, atom-mark}
 
 -- an atom without its mark
-zero-mark : (b : Bool) → b ≡ isOptional (cond b Optional Plain)
-zero-mark true = refl
-zero-mark false = refl
-
-raised-nullable : (a : Spelling) → false ≡ fromZero (tidyAtom a .count)
-raised-nullable a = sym (count-not-zero (a .count))
-
 pub keeps-atom : {x : Text} {p : ℕ} {a : Spelling} (top : ℕ) → AtomAt x p a → KeepsTree x (tidyNode (leaf a)) (atomBy x p top)
 keeps-atom {x} {p} {a} top h =
     record {
       sign-is = refl;
-      marked-is = at-zero h ∙ zero-mark (fromZero (a .count));
-      nullable-is = raised-nullable a;
+      mark-is = ap countMark (at-zero h);
+      nullable-is = sym (count-not-zero (a .count));
       members-is = refl;
       size-is = refl;
       least-inside = omega (arith, atom-inside h);
-      kind-is = inr ((ap tidyAtom (sym (at-atom h)), at-piece h), at-name h);
+      kind-is = inr (record { proper = (ap tidyAtom (sym (at-atom h)), at-piece h); least = at-name h });
     }
 
--- the mark behind a tree
+-- a mark leaves the nodes, the members and the places as they are
 pub mark-nodes : (m : Mark) (u : Syntax) → nodes (marking m u) ≡ nodes u
-mark-nodes Plain u = refl
-mark-nodes Optional (marked k n) = refl
+mark-nodes = marking-kept nodes (λ j k n. refl)
 
 mark-members : (m : Mark) (u : Syntax) → membersOf (marking m u) ≡ membersOf u
-mark-members Plain u = refl
-mark-members Optional (marked k (leaf a)) = refl
-mark-members Optional (marked k (group s ts)) = refl
+mark-members = marking-kept membersOf members-under
 
-pub keeps-mark : {x : Text} (m : Mark) (u : Syntax) {t : Tidied} → is x (code "?") (t .next) ≡ isOptional m → KeepsTree x u t
-    → KeepsTree x (marking m u) (markedBy x t)
-keeps-mark Plain u e k = rw e k
-keeps-mark Optional u {t} e k = rw e (keeps-placed (t .top) (t .next + 1) (keeps-optional u k))
-
-pub next-mark : (x : Text) (m : Mark) (t : Tidied) → is x (code "?") (t .next) ≡ isOptional m → markedBy x t .next ≡ t .next + length (markText m)
-next-mark x Plain t e = rw e (omega arith)
-next-mark x Optional t e = rw e refl
-
-pub top-mark : (x : Text) (m : Mark) (t : Tidied) → is x (code "?") (t .next) ≡ isOptional m → markedBy x t .top ≡ t .top
-top-mark x Plain t e = rw e refl
-top-mark x Optional t e = rw e refl
+pub mark-places : (m : Mark) (t : Tidied) → (markingBy m t .top ≡ t .top) × (markingBy m t .next ≡ t .next)
+mark-places m t = by-test (isPlain m || eqb (t .sign) 0) (λ e. rw e (refl, refl)) (λ e. rw e (refl, refl))
 
 pub stack-mark : {x : Text} (m : Mark) (u : Syntax) {old new : List ℕ} {top end : ℕ} → OnStack x u old new top end → OnStack x (marking m u) old new top end
 stack-mark {x} m u {old} {new} {top} {end} h =
@@ -74,18 +52,41 @@ stack-mark {x} m u {old} {new} {top} {end} h =
       heads = h .heads;
     }
 
+-- and so does a choice
+pub strip-nodes : (s : Sign) (u : Syntax) → nodes (stripped s u) ≡ nodes u
+strip-nodes s u = by-test (isChoice s) (λ c. rw c (mark-nodes Nonempty u)) (λ c. rw c)
+
+pub stack-strip : {x : Text} (s : Sign) (u : Syntax) (t : Tidied) {old new : List ℕ} {top : ℕ} → OnStack x u old new top (t .top)
+    → OnStack x (stripped s u) old new top (strippedBy (signByte s) t .top)
+stack-strip s u t h =
+    rw (choice-byte s) (by-test (isChoice s) (λ c. rw (c, mark-places Nonempty t .0) (stack-mark Nonempty u h)) (λ c. rw c h))
+
+-- the mark behind a tree
+pub keeps-mark : {x : Text} (m : Mark) (u : Syntax) {t : Tidied} → markAt x (t .next) ≡ m → KeepsTree x u t
+    → KeepsTree x (marking m u) (markedBy x t)
+keeps-mark m u {t} e k = rw e (keeps-placed (t .top) (t .next + length (markText m)) (keeps-marking m u k))
+
+pub next-mark : (x : Text) (m : Mark) (t : Tidied) → markAt x (t .next) ≡ m → markedBy x t .next ≡ t .next + length (markText m)
+next-mark x m t e = rw e
+
+-- there may be none
+pub none-behind : (x : Text) (t : Tidied) → isPlain (markAt x (t .next)) ≡ true → t ≡ markedBy x t
+none-behind x t e = rw (is-plain (markAt x (t .next)) e, add-zero)
+
+pub some-behind : (x : Text) (t : Tidied) → let m = markAt x (t .next) in
+    isPlain m ≡ false → placedAt (t .top) (t .next + 1) (markingBy m t) ≡ markedBy x t
+some-behind x t e = rw (mark-text (getD x (t .next) 0) (rw e tt))
+
 -- an atom with its mark
 pub atom-tidied : {x : Text} {p : ℕ} {m : Mark} {a : Spelling} (stack : List ℕ) (top : ℕ) → TreeAt x p (marked m (leaf a)) → HeadsFit x (drop top stack)
     → TidiedAt x stack stack p top (markedBy x (atomBy x p top)) (marked m (leaf a))
 atom-tidied {x} {p} {m} {a} stack top h i =
     let t = atomBy x p top in
     let u = tidyNode (leaf a) in
-    let e : is x (code "?") (t .next) ≡ isOptional m = ap (is x (code "?")) (at-end (atom-stands h)) ∙ atom-mark h in
+    let e : markAt x (t .next) ≡ m = ap (markAt x) (at-end (atom-stands h)) ∙ atom-mark h in
     record {
       keeps = keeps-mark m u e (keeps-atom top (atom-stands h));
       next-is = next-mark x m t e ∙ omega (arith, at-end (atom-stands h), length-append (nodeText (leaf a)) (markText m));
       few = omega (arith, mark-nodes m u);
-      on-stack =
-          subst (λ n. OnStack x (marking m u) stack stack top n) (sym (top-mark x m t e))
-          (stack-mark m u (record { entries = refl; top-is = refl; trees-are = refl; heads = i }));
+      on-stack = stack-mark m u (record { entries = refl; top-is = refl; trees-are = refl; heads = i });
     }

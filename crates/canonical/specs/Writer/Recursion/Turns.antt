@@ -1,23 +1,23 @@
 -- A turn of the loop keeps what is known.
 use mathlib.Core.{Path._≡_, Path.refl, Path.sym, Path.ap, Path._∙_, Path.subst, Logic._⊎_, Logic.inr, Logic.⊎-elim}
-use mathlib.Core.{Bool.true, Bool.false, Bool.false≢true, List.List, List.[], List._∷_}
+use mathlib.Core.{Bool.true, Bool.false≢true, List.List, List.[], List._∷_}
 use Prim.Native.{Nat.ℕ, Nat.suc, Nat._+_, Nat._-_, Nat._≤_, Nat._<_}
 use native.Mathlib.Omega.{arith}
 use lib.ListN.{length, drop, getD}
 use Rattle.fields.specs.{Bytes.Text, Tests.by-test}
 use Rattle.model.specs.declared.rule.Sign.{Sign}
-use Rattle.model.specs.declared.rule.Sign.the-variants.{None, Sequence, Choice, Interleaving}
+use Rattle.model.specs.declared.rule.Sign.the-variants.{None}
 use Rattle.model.specs.Tree.{leaf, group, marked, Members, none, _▹_, size, nodes, membersWeight, SignFits}
 use Rattle.model.specs.Flatten.{_⧺_, isNil, merges, membersOf, gathered}
 use Rattle.model.specs.Flatten.Merges.{merged}
 use Rattle.model.specs.Syntax.{Spelling, Syntax, text}
 use Rattle.model.specs.Flatten.Append.{append-none, append-thrice, append-weight}
 use Rattle.canonical.specs.{declared.tidy.Tidied.Tidied, declared.tidy.Gathered.Gathered, Tidy.stripped, Tidy.tidy}
-use Rattle.canonical.specs.Writer.Tidied.{FitsOn, withMemberBy, StackedBy, signAfter, memberAfter}
-use Rattle.canonical.specs.Writer.Keeps.{signByte, signCode, Proper, KeepsTree}
-use Rattle.canonical.specs.Writer.Keeps.Member.{stripped-nil, stripped-some, stripped-nodes, keeps-member}
+use Rattle.canonical.specs.Writer.Tidied.{strippedBy, notedBy, FitsOn, addedBy, StackedBy, signAfter, memberAfter}
+use Rattle.canonical.specs.Writer.Keeps.{signByte, NamedAt, KeepsTree}
+use Rattle.canonical.specs.Writer.Keeps.{Laws.named-some, Laws.keeps-stripped, Member.keeps-noted, Member.keeps-member}
 use Rattle.canonical.specs.Writer.Stack.{stacked, treesOn}
-use Rattle.canonical.specs.Writer.Recursion.{TidiedAt, Looping, gatheredOf}
+use Rattle.canonical.specs.Writer.Recursion.{OnStack, TidiedAt, Looping, gatheredOf, Steps.strip-nodes, Steps.stack-strip}
 use Rattle.canonical.specs.Writer.Recursion.Place.{drop-behind}
 use Rattle.canonical.specs.Writer.Recursion.Stepped.{gathered-more, given-more, Stepped, stepped}
 use Rattle.canonical.specs.Writer.Recursion.Group.{Turn, PastMember, behind-member, behindGroup, size-parts, weight-parts, more-signed, last-signed}
@@ -43,29 +43,22 @@ one-weight s w =
     (λ j. rw (e, j, append-none (membersOf w)) (members-weight w))
     (λ j. rw (e, j) (omega arith)))
 
-pub sign-small : (u : Syntax) → signCode u < 128
-sign-small (marked m (leaf a)) = omega arith
-sign-small (marked m (group None ts)) = omega arith
-sign-small (marked m (group Sequence ts)) = omega arith
-sign-small (marked m (group Choice ts)) = omega arith
-sign-small (marked m (group Interleaving ts)) = omega arith
-
 -- one member is several only where it joins a group that has a sign
-joined-signed : (x : Text) (s : Sign) (u : Syntax) (p : ℕ) → Proper x u p → merges s (stripped s u) ≡ true → 0 < signByte s
-joined-signed x s (marked m (leaf a)) p h e = absurd (false≢true e)
-joined-signed x s (marked m (group r ts)) p h e = subst (λ (q : Sign). 0 < signByte q) (ap groupSign (merged s (stripped s (marked m (group r ts))) e)) (h .1)
+joined-signed : {x : Text} (s : Sign) (u : Syntax) {p : ℕ} → NamedAt x u p → merges s u ≡ true → 0 < signByte s
+joined-signed s (marked m (leaf a)) h e = absurd (false≢true e)
+joined-signed s (marked m (group r ts)) h e = subst (λ (q : Sign). 0 < signByte q) (ap groupSign (merged s (marked m (group r ts)) e)) (h .proper .1)
   where
     groupSign : Syntax → Sign
     groupSign (marked k (leaf a)) = None
     groupSign (marked k (group q us)) = q
 
-one-signed : {x : Text} (s : Sign) (u : Syntax) {t : Tidied} → KeepsTree x u t → 2 ≤ size (gathered s (stripped s u ∷ [])) → 0 < signByte s
-one-signed {x} s u {t} k h =
+one-signed : {x : Text} (s : Sign) (u : Syntax) {t : Tidied} → KeepsTree x u t → 2 ≤ size (gathered s (u ∷ [])) → 0 < signByte s
+one-signed s u k h =
     ⊎-elim
-    (λ e. absurd (omega (arith, h, ap (λ (y : Syntax). size (gathered s (y ∷ []))) (ap (stripped s) e ∙ stripped-nil s))))
-    (λ (p, n). by-test (merges s (stripped s u))
-    (joined-signed x s u (t .least) p)
-    (λ j. absurd (omega (arith, rw (stripped-some s u k p, j) at h))))
+    (λ e. absurd (omega (arith, h, ap (λ (y : Syntax). size (gathered s (y ∷ []))) e)))
+    (λ p. by-test (merges s u)
+    (joined-signed s u p)
+    (λ j. absurd (omega (arith, rw (named-some u p, j) at h))))
     (k .kind-is)
 
 module _ {x : Text} {old new : List ℕ} {p top place sign : ℕ} {g : Gathered} (h : Looping x old new p top place sign g) (t : Turn h)
@@ -84,40 +77,51 @@ module _ {x : Text} {old new : List ℕ} {p top place sign : ℕ} {g : Gathered}
   pub next-inside : r .next < length x
   next-inside = behind .inside
 
-  -- on the stack there is room for the member's head
-  room-left : (2 ≤ r .top) × (r .top ≤ g .top)
+  -- the member as the group takes it
+  abbrev u : Syntax
+  u = stripped s (tidy (t .member))
+
+  abbrev q : Tidied
+  q = strippedBy (signByte s) r
+
+  kept : KeepsTree x u q
+  kept = keeps-stripped s (tidy (t .member)) (k .keeps)
+
+  standing : OnStack x u new mid (g .top) (q .top)
+  standing = stack-strip s (tidy (t .member)) r (k .on-stack)
+
+  few : nodes u ≤ nodes (t .member)
+  few = omega (arith, strip-nodes s (tidy (t .member)), k .few)
+
+  -- on the stack there is room for its head
+  room-left : (2 ≤ q .top) × (q .top ≤ g .top)
   room-left =
       let w = h .walking in
-      let n : 1 ≤ nodes (tidy (t .member)) = omega (arith, members-nodes (tidy (t .member))) in (
-        omega (arith, h .room, weight-parts h t, w .few, w .top-is, k .few, k .on-stack .top-is),
-        omega (arith, n, k .on-stack .top-is),
-      )
+      (omega (arith, h .room, weight-parts h t, w .few, w .top-is, few, standing .top-is), omega (arith, members-nodes u, standing .top-is))
 
-  pub member-fits : FitsOn x mid g r
-  member-fits =
+  fits : FitsOn x mid (notedBy r g) q
+  fits =
       let w = h .walking in
-      let u = tidy (t .member) in
       record {
-        entries = k .on-stack .entries ∙ w .entries ∙ h .stack-length;
+        entries = standing .entries ∙ w .entries ∙ h .stack-length;
         room = (omega (arith, room-left .0), omega (arith, room-left .1, w .top-is, h .inside));
         few = (
-          omega (arith, w .keeps .nodes-are, k .keeps .size-is, w .few, k .few, weight-parts h t, h .room, h .inside),
+          omega (arith, w .keeps .nodes-are, kept .size-is, w .few, few, weight-parts h t, h .room, h .inside),
           omega (
             arith,
             w .keeps .members-are,
-            k .keeps .members-is,
+            kept .members-is,
             size-weight (gatheredOf s done),
             members-nodes u,
             w .few,
-            k .few,
+            few,
             weight-parts h t,
             h .room,
             h .inside,
           ),
         );
-        some = omega (arith, k .keeps .size-is, members-nodes u);
-        inside = (w .keeps .within, k .keeps .least-inside);
-        small = omega (arith, k .keeps .sign-is, sign-small u);
+        some = omega (arith, kept .size-is, members-nodes u);
+        inside = (w .keeps .within, kept .least-inside);
       }
 
   -- with the sign and the place behind the member
@@ -126,6 +130,9 @@ module _ {x : Text} {old new : List ℕ} {p top place sign : ℕ} {g : Gathered}
 
   abbrev place′ : ℕ
   place′ = memberAfter (r .next) (getD x (r .next) 0)
+
+  pub member-fits : FitsOn x mid (notedBy r g) (strippedBy sign′ r)
+  member-fits = rw (behind .sign-is) fits
 
   pub further : place < place′
   further =
@@ -137,26 +144,25 @@ module _ {x : Text} {old new : List ℕ} {p top place sign : ℕ} {g : Gathered}
     where
       go : (d : Members Spelling) → done ≡ d → 0 < signByte s
       go none e =
-          one-signed s (tidy (t .member)) (k .keeps)
+          one-signed s u kept
           (subst (λ (d : Members Spelling). 2 ≤ size (gatheredOf s d)) (ap (λ (d : Members Spelling). d ⧺ (t .member ▹ none)) e) i)
       go (d ▹ ds) e =
           let n : size (h .members) ≡ suc (suc (size (h .members) - 2)) = omega (arith, size-parts h t, ap size e) in
           sign-some s (size (h .members) - 2) (subst (SignFits s) n (h .stands .formed .0))
 
-  module _ (after : List ℕ) (st : StackedBy mid after sign′ r) where
-    on-stack : Stepped x (gatheredOf s done ⧺ gathered s (stripped s (tidy (t .member)) ∷ [])) (treesOn x (drop top old)) mid after
-        (g .top + membersWeight 1 1 (gatheredOf s done)) (withMemberBy x g (signByte s) r .top)
+  module _ (after : List ℕ) (st : StackedBy mid after sign′ (strippedBy sign′ r)) where
+    on-stack : Stepped x (gatheredOf s done ⧺ gathered s (u ∷ [])) (treesOn x (drop top old)) mid after
+        (g .top + membersWeight 1 1 (gatheredOf s done)) (addedBy x (notedBy r g) (signByte s) q .top)
     on-stack =
-        stepped x s (gatheredOf s done) g r (treesOn x (drop top old)) mid after (tidy (t .member)) (k .keeps) (member-fits .room .0)
-        (omega (arith, member-fits .room .1, member-fits .entries))
+        stepped x s (gatheredOf s done) (notedBy r g) q (treesOn x (drop top old)) mid after u kept
         (record {
-          below = k .on-stack .top-is;
-          trees = k .on-stack .trees-are ∙ ap (stacked (membersOf (tidy (t .member)))) (h .walking .trees-are);
-          known = k .on-stack .heads;
+          below = standing .top-is;
+          trees = standing .trees-are ∙ ap (stacked (membersOf u)) (h .walking .trees-are);
+          known = standing .heads;
         })
-        (subst (λ n. StackedBy mid after n r) (behind .sign-is) st)
+        (rw (behind .sign-is) at st) (fits .room .0) (omega (arith, fits .room .1, fits .entries))
 
-    pub goes-on : Looping x old after p top place′ sign′ (withMemberBy x g sign′ r)
+    pub goes-on : Looping x old after p top place′ sign′ (addedBy x (notedBy r g) sign′ (strippedBy sign′ r))
     goes-on =
         let w = h .walking in
         let m = gathered-more s done (t .member) in
@@ -180,19 +186,18 @@ module _ {x : Text} {old new : List ℕ} {p top place sign : ℕ} {g : Gathered}
                 formed = formed-others h t;
                 ahead = behind .ahead;
                 sign-is = inr refl;
-                keeps = rw (m, given-more done (t .member)) (keeps-member s (w .keeps) r (tidy (t .member)) (k .keeps));
+                keeps = rw (m, given-more done (t .member)) (keeps-member s (keeps-noted s (w .keeps) (tidy (t .member)) (k .keeps)) q u kept);
                 few =
                     rw m (omega (
                       arith,
-                      append-weight 1 1 (gatheredOf s done) (gathered s (stripped s (tidy (t .member)) ∷ [])),
+                      append-weight 1 1 (gatheredOf s done) (gathered s (u ∷ [])),
                       append-weight 1 1 done (t .member ▹ none),
-                      one-weight s (stripped s (tidy (t .member))),
-                      stripped-nodes s (tidy (t .member)),
+                      one-weight s u,
                       w .few,
-                      k .few,
+                      few,
                     ));
                 several = several-more;
-                entries = on-stack .entries ∙ k .on-stack .entries ∙ w .entries;
+                entries = on-stack .entries ∙ standing .entries ∙ w .entries;
                 top-is = rw m (on-stack .top-is ∙ w .top-is);
                 trees-are = rw m (on-stack .trees-are);
                 heads = on-stack .heads;

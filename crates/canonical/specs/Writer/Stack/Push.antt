@@ -1,5 +1,5 @@
 -- A tree whose members stand on the stack is put on top of them by its head.
-use mathlib.Core.{Path._≡_, Path.refl, Path.sym, Path.ap, Path.ap₂, Path._∙_, Path.subst, Bool.Bool, Bool.true, Bool.false, Bool.true≢false}
+use mathlib.Core.{Path._≡_, Path.refl, Path.sym, Path.ap, Path.ap₂, Path._∙_, Path.subst, Bool.true, Bool.false, Bool.true≢false}
 use mathlib.Core.{Bool.false≢true, List.List, List._∷_, List.[]}
 use Prim.Native.Nat.{ℕ, _≤_, _<_}
 use native.Mathlib.Omega.{arith}
@@ -15,9 +15,8 @@ use Rattle.judge.specs.Packed.{signBy}
 use Rattle.canonical.specs.{declared.head.Head.Head, declared.tidy.Tidied.Tidied, Order.smallest, Order.smallestName, Writer.Head.headIn}
 use Rattle.canonical.specs.{Tidy.tidyAtom, Writer.Place.atomAt, Writer.Place.pieceAt}
 use Rattle.canonical.specs.Writer.Tidied.{headOf}
-use Rattle.canonical.specs.Writer.Keeps.{signByte, Proper, LeastAt, KeepsTree}
-use Rattle.canonical.specs.Writer.Keeps.Laws.{withMark}
-use Rattle.canonical.specs.Writer.Stack.{stacked, markIf, treeWith, treesOn, HeadFits, HeadsFit}
+use Rattle.canonical.specs.Writer.Keeps.{signByte, LeastAt, NamedAt, KeepsTree}
+use Rattle.canonical.specs.Writer.Stack.{stacked, treeWith, treesOn, HeadFits, HeadsFit}
 use Rattle.canonical.specs.Writer.Stack.Laws.{members-back, others-back, stacked-length}
 use Rattle.canonical.specs.Writer.Stack.Skip.{trees-more}
 
@@ -43,48 +42,41 @@ least-name : (x : Text) (p : ℕ) (l : List Text) → LeastAt x p l → nameFrom
 least-name x p [] h = absurd h
 least-name x p (n ∷ l) h = h
 
-marked-nodes : (b : Bool) (u : Syntax) → nodes (withMark (markIf b) u) ≡ nodes u
-marked-nodes b (marked m n) = refl
+module _ {x : Text} {r : Tidied} (f l : List Syntax) where
+  tree-pushed : (u : Syntax) → KeepsTree x u r → NamedAt x u (r .least) → l ≡ stacked (membersOf u) f → treeWith x (headOf r) l ≡ u
+  tree-pushed (marked m (leaf a)) k p e = rw (k .sign-is, k .mark-is, p .proper .0)
+  tree-pushed (marked m (group s ts)) k p e = rw (k .sign-is, k .mark-is, group-byte s, sign-back s, e, k .members-is, members-back ts f)
 
-marked-names : (b : Bool) (u : Syntax) → smallestName (withMark (markIf b) u) ≡ smallestName u
-marked-names b (marked m n) = refl
-
-module _ {x : Text} {r : Tidied} (b : Bool) (f l : List Syntax) where
-  tree-pushed : (u : Syntax) → KeepsTree x u r → Proper x u (r .least) → l ≡ stacked (membersOf u) f → treeWith x (headOf b r) l ≡ withMark (markIf b) u
-  tree-pushed (marked m (leaf a)) k p e = rw (k .sign-is, p .0)
-  tree-pushed (marked m (group s ts)) k p e = rw (k .sign-is, group-byte s, sign-back s, e, k .members-is, members-back ts f)
-
-  head-pushed : (u : Syntax) → KeepsTree x u r → Proper x u (r .least) → LeastAt x (r .least) (writtenNames u) → l ≡ stacked (membersOf u) f
-      → HeadFits x (headOf b r) l
-  head-pushed u k p n e =
+  head-pushed : (u : Syntax) → KeepsTree x u r → NamedAt x u (r .least)
+      → l ≡ stacked (membersOf u) f → HeadFits x (headOf r) l
+  head-pushed u k p e =
       let t = tree-pushed u k p e in
       record {
         enough = rw (e, stacked-length (membersOf u) f) (omega (arith, k .members-is));
-        size-is = k .size-is ∙ sym (ap nodes t ∙ marked-nodes b u);
-        least-is = least-name x (r .least) (writtenNames u) n ∙ sym (ap smallestName t ∙ marked-names b u);
+        size-is = k .size-is ∙ sym (ap nodes t);
+        least-is = least-name x (r .least) (writtenNames u) (p .least) ∙ sym (ap smallestName t);
         least-inside = k .least-inside;
         atom-is = atom u k p;
         group-is = group-of u k p;
       }
     where
-      atom : (u : Syntax) → KeepsTree x u r → Proper x u (r .least) → eqb (r .sign) 1 ≡ true
+      atom : (u : Syntax) → KeepsTree x u r → NamedAt x u (r .least) → eqb (r .sign) 1 ≡ true
           → (r .members ≡ 0) × (pieceAt x (r .least) ≡ nodeText (leaf (tidyAtom (atomAt x (r .least)))))
-      atom (marked m (leaf a)) k p h = (k .members-is, p .1 ∙ ap (λ (a : Spelling). nodeText (leaf a)) (p .0))
+      atom (marked m (leaf a)) k p h = (k .members-is, p .proper .1 ∙ ap (λ (a : Spelling). nodeText (leaf a)) (p .proper .0))
       atom (marked m (group s ts)) k p h = absurd (false≢true (sym (rw (k .sign-is) (group-byte s)) ∙ h))
 
-      group-of : (u : Syntax) → KeepsTree x u r → Proper x u (r .least) → eqb (r .sign) 1 ≡ false
+      group-of : (u : Syntax) → KeepsTree x u r → NamedAt x u (r .least) → eqb (r .sign) 1 ≡ false
           → (2 ≤ r .members) × (signText (signBy (r .sign)) ≡ r .sign ∷ [])
       group-of (marked m (leaf a)) k p h = absurd (true≢false (sym (eq-eqb (r .sign) 1 (k .sign-is)) ∙ h))
-      group-of (marked m (group s ts)) k p h = (omega (arith, k .members-is, p .0), rw (k .sign-is, sign-back s) (sign-bytes s (p .1)))
+      group-of (marked m (group s ts)) k p h = (omega (arith, k .members-is, p .proper .0), rw (k .sign-is, sign-back s) (sign-bytes s (p .proper .1)))
 
 -- on the stack
-module _ {x : Text} {r : Tidied} (b : Bool) (w : ℕ) (h : headIn w ≡ headOf b r) (l : List ℕ) (f : List Syntax) where
-  pub push : (u : Syntax) → KeepsTree x u r → Proper x u (r .least) → LeastAt x (r .least) (writtenNames u) → treesOn x l ≡ stacked (membersOf u) f
-      → HeadsFit x l
-      → (treesOn x (w ∷ l) ≡ withMark (markIf b) u ∷ f) × HeadsFit x (w ∷ l)
-  push u k p n e i = (
+module _ {x : Text} {r : Tidied} (w : ℕ) (h : headIn w ≡ headOf r) (l : List ℕ) (f : List Syntax) where
+  pub push : (u : Syntax) → KeepsTree x u r → NamedAt x u (r .least)
+      → treesOn x l ≡ stacked (membersOf u) f → HeadsFit x l → (treesOn x (w ∷ l) ≡ u ∷ f) × HeadsFit x (w ∷ l)
+  push u k p e i = (
     trees-more x w l ∙ ap (λ (d : Head). treeWith x d (treesOn x l) ∷ drop (d .members) (treesOn x l)) h
-        ∙ ap₂ {C = List Syntax} (λ t r. t ∷ r) (tree-pushed b f (treesOn x l) u k p e)
+        ∙ ap₂ {C = List Syntax} (λ t r. t ∷ r) (tree-pushed f (treesOn x l) u k p e)
         (ap (drop (r .members)) e ∙ ap (λ n. drop n (stacked (membersOf u) f)) (k .members-is) ∙ others-back (membersOf u) f),
-    (subst (λ (d : Head). HeadFits x d (treesOn x l)) (sym h) (head-pushed b f (treesOn x l) u k p n e), i),
+    (subst (λ (d : Head). HeadFits x d (treesOn x l)) (sym h) (head-pushed f (treesOn x l) u k p e), i),
   )

@@ -5,7 +5,8 @@ use mathlib.Core.{Path._≡_, Path.refl, Path.ap, List.List, List.map}
 use Prim.Native.Nat.{ℕ, _-_, _≤_, _+_}
 use lib.ListN.{take, drop, getD}
 use Rattle.model.specs.{declared.rule.Node.Node, Model.isAtom}
-use Rattle.judge.specs.{declared.tally.Seen.Seen, declared.ahead.Ahead.Ahead, Packed.nodeIn, Reading.Buffer.Stores, Reading.Buffer.holds-own}
+use Rattle.judge.specs.{declared.tally.Seen.Seen, declared.ahead.Ahead.Ahead, Packed.nodeIn, Packed.kind-node}
+use Rattle.judge.specs.Reading.Buffer.{Stores, holds-own}
 use Rattle.judge.specs.{Row.Tally.seenOf, Next.Ahead.emptyAhead, Next.Ahead.aheadBy, Next.Ahead.partAhead, Next.Ahead.Laws.ahead-parts}
 use Rattle.judge.specs.Row.Stack.{part-none, part-turn, name-turn, Evaluated, pass-none, pass-turn, pass-top, pass-empty}
 use Rattle.judge.proofs.next.root_next.Statement.{statement}
@@ -16,11 +17,11 @@ abbrev nodes : List ℕ → ℕ → List Node
 nodes words n = map nodeIn (take n words)
 
 abbrev Inv-loop2 : tie.InvT-loop2
-Inv-loop2 words len names children seen stack top name i kind mark end x₀ at₀ x at =
+Inv-loop2 words len names children seen stack top name i word kind end x₀ at₀ x at =
     (top ≤ at) × (at ≤ end) × (x ≡ partAhead children kind name (seenOf children (getD seen name 0)) (take (at - top) (drop top stack)))
 
 abbrev μ-loop2 : tie.MeasureT-loop2
-μ-loop2 words len names children seen stack top name i kind mark end x₀ at₀ x at = end - at
+μ-loop2 words len names children seen stack top name i word kind end x₀ at₀ x at = end - at
 
 abbrev Inv-loop : tie.InvT-loop
 Inv-loop words len names children seen stack₀ top₀ name₀ i₀ stack top name i =
@@ -38,20 +39,20 @@ abbrev seenAt : tie.Start Inv-loop2 μ-loop2 Inv-loop μ-loop → ℕ → Seen
 seenAt c k = seenOf (c .args .children) (getD (c .args .seen .now) k 0)
 
 -- the node of a turn, that turn, and the start
-abbrev node : tie.After-seen-of Inv-loop2 μ-loop2 Inv-loop μ-loop → tie.After-unpacked Inv-loop2 μ-loop2 Inv-loop μ-loop
+abbrev node : tie.After-seen-of Inv-loop2 μ-loop2 Inv-loop μ-loop → tie.After-kind-in Inv-loop2 μ-loop2 Inv-loop μ-loop
 node c = c .before .before .before .before
 
-abbrev turn : tie.After-unpacked Inv-loop2 μ-loop2 Inv-loop μ-loop → tie.At-loop Inv-loop2 μ-loop2 Inv-loop μ-loop
+abbrev turn : tie.After-kind-in Inv-loop2 μ-loop2 Inv-loop μ-loop → tie.At-loop Inv-loop2 μ-loop2 Inv-loop μ-loop
 turn c = c .before .before .before
 
 abbrev start : tie.At-loop Inv-loop2 μ-loop2 Inv-loop μ-loop → tie.Start Inv-loop2 μ-loop2 Inv-loop μ-loop
 start l = l .before .before
 
 -- its name, if it is an atom, is one of those counted
-named : (c : tie.After-unpacked Inv-loop2 μ-loop2 Inv-loop μ-loop) → isAtom (c .unpacked .result .kind) ≤ turn c .loop .name
+named : (c : tie.After-kind-in Inv-loop2 μ-loop2 Inv-loop μ-loop) → isAtom (c .kind-in .result) ≤ turn c .loop .name
 named c =
     let v = turn c .loop .inv in
-    name-turn (held (start (turn c))) (c .before .before .loop-test .taken) (v .0) (c .unpacked .ensures) (v .4 .name-is)
+    name-turn (held (start (turn c))) (c .before .before .loop-test .taken) (v .0) (kind-node _ (c .kind-in .ensures)) (v .4 .name-is)
 
 loop-holds : tie.Need-loop-holds Inv-loop2 μ-loop2 Inv-loop μ-loop
 loop-holds c = (search needs, search needs, search needs, search needs, pass-none (held (c .before)) refl (c .before .pre .1 .0))
@@ -93,7 +94,7 @@ loop-again c =
       omega arith,
       omega arith,
       omega arith,
-      pass-turn (ahead-parts _ (seenAt (start l))) (held (start l)) (k .before .before .loop-test .taken) (v .0) (k .unpacked .ensures) (v .4)
+      pass-turn (ahead-parts _ (seenAt (start l))) (held (start l)) (k .before .before .loop-test .taken) (v .0) (kind-node _ (k .kind-in .ensures)) (v .4)
           (omega arith) (v .2) (s .before .members-of .ensures) (s .lesser .ensures) (c .before .atoms-of .ensures .0) (rw z at (u .inv .2))
           (c .marked-ahead .ensures),
     )

@@ -5,8 +5,9 @@ use native.Mathlib.Omega.{arith}
 use lib.{ListN.length, ListN.take, ListN.getD, ListN.set, Seq.take-all}
 use borrow.Author.Needs.{needs}
 use Rattle.model.specs.{declared.rule.Node.Node, Model.atomsIn}
-use Rattle.judge.specs.{Packed.nodeIn, FirstFault.upperCounts, Reading.Buffer.Stores, Reading.Buffer.holds-own, Reading.Buffer.holds-count}
-use Rattle.judge.specs.{Reading.Buffer.holds-at, Row.Tally.limitedWord, Row.Tally.Seeing, Row.Tally.Limits.limits-turn, Row.Tally.Limits.atoms-take}
+use Rattle.judge.specs.{Packed.nodeIn, Packed.kind-node, FirstFault.upperCounts}
+use Rattle.judge.specs.Reading.Buffer.{Stores, holds-own, holds-count, holds-at}
+use Rattle.judge.specs.Row.Tally.{limitedWord, Seeing, Limits.limits-turn, Limits.atoms-take}
 use Rattle.judge.proofs.tally.limit_names.Statement.{statement}
 use Rattle.judge.proofs.tally.limit_names.Tie as tie
 
@@ -21,10 +22,10 @@ abbrev μ-loop : tie.MeasureT-loop
 μ-loop words len seen₀ name₀ i₀ seen name i = len - i
 
 -- places: where the node is known, the loop's head, and the start
-abbrev node : tie.After-atoms-of Inv-loop μ-loop → tie.After-unpacked Inv-loop μ-loop
+abbrev node : tie.After-atoms-of Inv-loop μ-loop → tie.After-kind-in Inv-loop μ-loop
 node c = c .before
 
-abbrev turn : tie.After-unpacked Inv-loop μ-loop → tie.At-loop Inv-loop μ-loop
+abbrev turn : tie.After-kind-in Inv-loop μ-loop → tie.At-loop Inv-loop μ-loop
 turn k = k .before .before .before
 
 abbrev start : tie.At-loop Inv-loop μ-loop → tie.Start Inv-loop μ-loop
@@ -38,7 +39,7 @@ turned : (c : tie.After-atoms-of Inv-loop μ-loop) {v : ℕ}
     → let l = turn (node c) in
     let n = nodes (start l .args .words .now) (start l .args .len) in
     let name = l .loop .name + c .atoms-of .result in
-    v ≡ limitedWord (node c .unpacked .result .kind) (getD (l .loop .seen) name 0)
+    v ≡ limitedWord (node c .kind-in .result) (getD (l .loop .seen) name 0)
     → (name ≡ atomsIn (take (l .loop .i + 1) n)) × Seeing (upperCounts (take (l .loop .i + 1) n)) [] (set (l .loop .seen) name v)
 turned c w =
     let k = node c in
@@ -46,7 +47,7 @@ turned c w =
     let h = held (start l) in
     let i : l .loop .i < start l .args .len = k .before .before .loop-test .taken in
     limits-turn (nodes (start l .args .words .now) (start l .args .len)) (nodeIn 0) (omega (arith, holds-count h)) (start l .pre .1 .0)
-    (k .unpacked .ensures ∙ holds-at h (l .loop .i) i) (l .loop .inv .1) (c .atoms-of .ensures .0) w (l .loop .inv .2)
+    (kind-node _ (k .kind-in .ensures) ∙ holds-at h (l .loop .i) i) (l .loop .inv .1) (c .atoms-of .ensures .0) w (l .loop .inv .2)
 
 few : (c : tie.After-atoms-of Inv-loop μ-loop) → turn (node c) .loop .name + c .atoms-of .result ≤ 64
 few c =
@@ -57,14 +58,14 @@ few c =
 loop-holds : tie.Need-loop-holds Inv-loop μ-loop
 loop-holds c = (omega arith, refl, c .pre .1 .1)
 
-mul-unpacked : tie.Need-mul-unpacked Inv-loop μ-loop
-mul-unpacked c = search needs
+mul-kind-in : tie.Need-mul-kind-in Inv-loop μ-loop
+mul-kind-in c = search needs
 
-element-copy-out-unpacked : tie.Need-element-copy-out-unpacked Inv-loop μ-loop
-element-copy-out-unpacked c = search needs
+element-copy-out-kind-in : tie.Need-element-copy-out-kind-in Inv-loop μ-loop
+element-copy-out-kind-in c = search needs
 
-unpacked-requires : tie.Need-unpacked-requires Inv-loop μ-loop
-unpacked-requires c κs = search needs
+kind-in-requires : tie.Need-kind-in-requires Inv-loop μ-loop
+kind-in-requires c κs = search needs
 
 atoms-of-requires : tie.Need-atoms-of-requires Inv-loop μ-loop
 atoms-of-requires c κs = search needs
@@ -113,9 +114,9 @@ limit-names-spec =
     Inv-loop
     μ-loop
     loop-holds
-    mul-unpacked
-    element-copy-out-unpacked
-    unpacked-requires
+    mul-kind-in
+    element-copy-out-kind-in
+    kind-in-requires
     atoms-of-requires
     add-name
     mul-limited
