@@ -1,4 +1,4 @@
--- Counts and marks in one form, and flattening with them: document 02, W4, but for the order of members. Built from the pieces of `Flatten`.
+-- Counts and marks in one form, and flattening with them: document 02, W4 and W7, but for the order of members. Built from the pieces of `Flatten`.
 -- Below it:
 --   Nullable, Rows          `treeNullable` tells of the empty row; the rows are the same
 --   Form                    what is left is neat, and a neat tree stays as it is
