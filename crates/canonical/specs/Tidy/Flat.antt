@@ -1,17 +1,15 @@
 -- Flattening leaves a neat tree as it is, and its marks fit: each node has an atom.
-use mathlib.Core.{Path._≡_, Path.refl, Path.ap₂, Bool.true, Bool.false, Bool.and-false}
+use mathlib.Core.{Path._≡_, Path.refl, Path.ap₂, Bool.false, Bool.and-false}
 use mathlib.Core.List.{List, _∷_}
-use Prim.Native.Nat.{ℕ, _≤_}
+use Prim.Native.Nat.{_≤_}
 use native.Mathlib.Omega.{arith}
-use borrow.Author.Tests.{lt-ltb}
 use Rattle.fields.specs.Tests.{by-test}
-use Rattle.model.specs.{declared.rule.Sign.Sign, declared.rule.Mark.Mark}
-use Rattle.model.specs.declared.rule.Mark.the-variants.{Plain, Optional, Nonempty}
-use Rattle.model.specs.Tree.{Node, leaf, group, marked, Members, none, _▹_, size, nodeWeight, atoms, membersWeight, isPlain, markFits}
+use Rattle.model.specs.{declared.rule.Sign.Sign, declared.rule.Mark.Mark, declared.rule.Mark.the-variants.Plain}
+use Rattle.model.specs.Tree.{Node, leaf, group, marked, Members, none, _▹_, size, nodeWeight, atoms, membersWeight, isPlain}
 use Rattle.model.specs.Tree.{NodeMarksFit, MarksFit, MembersMarksFit}
 use Rattle.model.specs.Syntax.{Spelling, Syntax}
 use Rattle.model.specs.Flatten.{isChoice, someNil, gathered, over, flattenNode, flatten, flattenAll, Solid.Solid, Solid.SolidAll}
-use Rattle.model.specs.{Mark.Laws.is-plain, Flatten.Append.grouped-several}
+use Rattle.model.specs.{Mark.Laws.is-plain, Mark.Laws.atom-fits, Flatten.Append.grouped-several}
 use Rattle.canonical.specs.{Neat.NeatNode, Neat.Neat, Neat.NeatAll, Tidy.Form.neat-not-nil, Tidy.Form.listOf}
 
 mutual
@@ -61,11 +59,6 @@ mutual
   members-atoms : (ts : Members Spelling) (s : Sign) → NeatAll ts s → size ts ≤ membersWeight 1 0 ts
   members-atoms none s h = omega arith
   members-atoms (t ▹ ts) s h = omega (arith, tree-atoms t (h .0), members-atoms ts s (h .2))
-
-atom-fits : (m : Mark) (k : ℕ) → 1 ≤ k → markFits m k ≡ true
-atom-fits Plain k h = refl
-atom-fits Optional k h = refl
-atom-fits Nonempty k h = lt-ltb 0 k h
 
 mutual
   node-marks : (n : Node Spelling) → NeatNode n → NodeMarksFit n

@@ -1,7 +1,7 @@
 -- 13 and 18: the counts of a tree are right and its marks fit just where neither fault stands in its text. The automaton's states hold what was read, so
 -- each byte tells.
 use mathlib.Core.{Logic._↔_, Logic.Iff·rfl, Logic.⊎-elim, Logic.by-cases}
-use mathlib.Core.Bool.{Bool, true, false, not, _&&_, _||_, or-false, true≢false}
+use mathlib.Core.Bool.{true, false, not, _&&_, _||_, or-false, Bool·not-not}
 use mathlib.Core.Path.{_≡_, refl, sym, ap, subst, _∙_}
 use mathlib.Core.List.{List, [], _∷_, List·Memᴰ, List·Memᴰ·head, List·Memᴰ·eq-of-singleton, List·Memᴰ·not-nil, List·Memᴰ·append-cases, Memᴰ·append-left}
 use mathlib.Core.List.{Memᴰ·append-right}
@@ -15,7 +15,7 @@ use Rattle.fields.specs.Bytes.{Text, isInitial, isDigit, isInner}
 use Rattle.model.specs.Tree.{Node, leaf, group, marked, Members, none, _▹_, nodeLeaves, leaves, membersLeaves, nodeWeight, Formed, isPlain, markFits}
 use Rattle.model.specs.Tree.{NodeMarksFit, MarksFit, MembersMarksFit}
 use Rattle.model.specs.declared.rule.Mark.the-variants.{Plain, Optional, Nonempty}
-use Rattle.model.specs.{Mark.markOf, Mark.Laws.plain-is}
+use Rattle.model.specs.{Mark.markOf, Mark.Laws.is-plain}
 use Rattle.model.specs.Syntax.{Count, unwritten, between, onward, Spelling, Syntax, SpellingFormed, Begins, text}
 use Rattle.model.specs.Syntax.Machine.{snoc, byteOf, bare, Frame, opened, signed, CountPart, low, dot, dots, high, star, Focus, expect, naming, counting}
 use Rattle.model.specs.Syntax.Machine.{after, State, dead, at, Alive, close, shut, grows, some-digit, stepCount, stepAfter, step, run, start, here}
@@ -119,20 +119,16 @@ close-tells s (signed o u ts ∷ k) t b i =
     ))
     (λ _ a. absurd a))
 
-not-false : (c : Bool) → not c ≡ false → c ≡ true
-not-false true e = refl
-not-false false e = absurd (true≢false e)
-
 after-tells : (s : State) (k : List Frame) (t : Syntax) (b : ℕ) → Behind s k t → ByteTells s (stepAfter k t b)
 after-tells s k (marked m n) b i =
     cond-cases (ByteTells s) (isPlain m && not (isPlain (markOf b))) _ _
     (λ q _.
     let p = and-yes (isPlain m) (not (isPlain (markOf b))) q in
-    let f : markFits m (nodeWeight 1 0 n) ≡ true = rw (plain-is m (p .0)) in
+    let f : markFits m (nodeWeight 1 0 n) ≡ true = rw (is-plain m (T-true (isPlain m) (p .0))) in
     let u : isPlain (markOf b) ≡ false = tells-not (isPlain (markOf b)) .0 (T-true (not (isPlain (markOf b))) (p .1)) in
     rw u (
       λ h. (i .1 (h .0, (f, h .1 .1)), rw (h .1 .0)),
-      λ h. let j = i .0 (h .0) in (j .0, (not-false (markFits (markOf b) (nodeWeight 1 0 n)) (h .1), j .1 .1)),
+      λ h. let j = i .0 (h .0) in (j .0, (sym (Bool·not-not (markFits (markOf b) (nodeWeight 1 0 n))) ∙ ap not (h .1), j .1 .1)),
     ))
     (λ _. close-tells s k (marked m n) b i)
 
