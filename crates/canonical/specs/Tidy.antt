@@ -80,6 +80,7 @@ marking m t = cond (isPlain m || isNil t) t (marked (fitting m (nodeNullable (no
 abbrev pub stripped : Sign → Syntax → Syntax
 stripped s t = cond (isChoice s) (marking Nonempty t) t
 
+-- a tree of the list holds the empty row
 abbrev pub anyNullable : List Syntax → Bool
 anyNullable [] = false
 anyNullable (t ∷ l) = treeNullable t || anyNullable l
