@@ -2,6 +2,7 @@
 
 mod ahead;
 mod attribute;
+mod cursor;
 pub mod fault;
 pub mod first_fault;
 mod lexeme;

@@ -11,10 +11,10 @@ ghost use Rattle.judge.specs.declared.reply.ChildrenTally.the-variants.{
 ghost use Rattle.judge.specs.Reply.{childrenIn, childrenReply, judgedOf, Read.TextsRead};
 ghost use Rattle.judge.specs.Reply.Children.{childFrom, childrenFrom, stoppedAt, ChildrenTallied};
 ghost use Rattle.judge.specs.Reading.Table.{Tabled, Distinct, partsIn};
+use crate::cursor::Got;
 use crate::lexeme::NameEnd;
 use crate::lexeme::name_begins;
 use crate::lexeme::name_end;
-use crate::reader::Got;
 use crate::reader::read_whole;
 use crate::row::verdict_by;
 use crate::table::SLOTS;

@@ -13,7 +13,7 @@ use Rattle.model.specs.{declared.verdict.Verdict.the-variants.Dead, Verdict.ver
 use Rattle.model.specs.{Syntax.writtenNames, Fault.Answer, Fault.Answers, Fault.refused, Fault.accepted, Answer.answer-is, Model.Model, Model.modelOf}
 use Rattle.model.specs.{Model.encode, Model.typeOf, Model.atomsIn, Rule.ReadsInto, Rule.ruleOf, Rule.ruleType, Rule.used, Rule.Laws.used-is}
 use Rattle.model.specs.{Rule.Laws.used-with, Check.readable, Check.Exact.readable-is, Check.Exact.rule-type}
-use Rattle.judge.specs.{declared.reader.Cursor.Cursor, declared.reply.Sizes.Sizes, declared.reply.ChildrenRead.ChildrenRead, Packed.nodeIn, Packed.ruleIn}
+use Rattle.judge.specs.{declared.cursor.Cursor.Cursor, declared.reply.Sizes.Sizes, declared.reply.ChildrenRead.ChildrenRead, Packed.nodeIn, Packed.ruleIn}
 use Rattle.judge.specs.{declared.reply.ChildrenTally.ChildrenTally, declared.verdict.Next.Next, Reading.Table.partsIn, Reading.Table.Laws.parts-long}
 use Rattle.judge.specs.{Reading.Walk.Kept, Named.Laws.row-upto, Row.upto, Row.Tally.seenOf, Row.Tally.Tallied, Row.Pass.seenVerdict}
 use Rattle.judge.specs.{Row.Code.verdict-stopped, Row.Code.verdict-tallied, Reply.Children.ChildrenTallied, Reply.Children.row-whole}

@@ -1,5 +1,6 @@
--- How many groups are around the atoms of a tree. Flattening takes groups away: a tree is no deeper than its brackets are nested.
-use mathlib.Core.{Path._≡_, Path.refl, Path.ap, Path.sym, Path._∙_, Bool._||_}
+-- How many groups are around the atoms of a tree. Flattening takes groups away, those of one member among them: a tree is no deeper than it is high,
+-- and no higher than its brackets are nested.
+use mathlib.Core.{Path._≡_, Path.refl, Path.ap, Path.sym, Path._∙_, Bool.true, Bool._||_}
 use mathlib.Core.List.{List, [], _∷_, _++_, map, map-append, append-assoc}
 use Prim.Native.Nat.{ℕ, suc, _+_, _≤_, _<_, max}
 use native.Mathlib.Omega.{arith}
@@ -8,8 +9,9 @@ use Rattle.fields.specs.Tests.{by-test}
 use Rattle.model.specs.{declared.rule.Sign.Sign, declared.rule.Mark.Mark}
 use Rattle.model.specs.declared.rule.Mark.the-variants.{Plain}
 use Rattle.model.specs.Tree.{Node, leaf, group, Tree, marked, Members, none, _▹_, size, isPlain, highest, nodeNesting, nesting, membersNesting}
-use Rattle.model.specs.Flatten.{_⧺_, isNil, someNil, merges, membersOf, gathered, grouped, over, droppedMark, flattenNode, flattenAll, nodeAround}
-use Rattle.model.specs.Flatten.{groupsAround, membersAround, depth}
+use Rattle.model.specs.Tree.{heightOver, nodeHeight, height, membersHeight, nodes, nodeWeight, membersWeight}
+use Rattle.model.specs.Flatten.{_⧺_, isNil, someNil, merges, membersOf, gathered, grouped, over, droppedMark, flattenNode, flatten, flattenAll}
+use Rattle.model.specs.Flatten.{nodeAround, groupsAround, membersAround, depth, Append.append-none}
 use Rattle.model.specs.Flatten.Solid.{Solid, SolidAll}
 
 -- the greatest of two lists, and of numbers that are one more
@@ -99,16 +101,66 @@ module _ {A : Type 0} where
   over-inside : (m : Mark) (t : Tree A) → deepest (over m t) ≡ deepest t
   over-inside m (marked k n) = by-test (isPlain m || isNil (marked k n)) (λ e. rw e) (λ e. rw e)
 
+  -- a group of one is no deeper than its member
+  joined-inside : (s : Sign) (t : Tree A) → merges s t ≡ true → deepest (grouped s (membersOf t)) ≤ deepest t
+  joined-inside s (marked m (leaf a)) e = omega arith
+  joined-inside s (marked m (group r none)) e = omega arith
+  joined-inside s (marked m (group r (t ▹ none))) e = omega (arith, deepest-first t none, members-inside (marked m (group r (t ▹ none))))
+  joined-inside s (marked m (group r (t ▹ u ▹ ts))) e = omega arith
+
+  one-inside : (s : Sign) (t : Tree A) → deepest (grouped s (gathered s (t ∷ []))) ≤ deepest t
+  one-inside s t =
+      by-test (isNil t) (λ e. rw e (omega arith)) (λ e. rw e (by-test (merges s t)
+      (λ f. rw (f, append-none (membersOf t)) (joined-inside s t f))
+      (λ f. rw f (omega arith))))
+
+  group-inside : (s : Sign) (ts : Members A) → deepestIn (flattenAll ts) ≤ membersHeight ts
+      → deepest (grouped s (gathered s (flattenAll ts))) ≤ heightOver (size ts) (membersHeight ts)
+  group-inside s none h = omega arith
+  group-inside s (t ▹ none) h = omega (arith, one-inside s (flatten t))
+  group-inside s (t ▹ u ▹ ts) h =
+      let l = flattenAll (t ▹ u ▹ ts) in
+      omega (arith, grouped-inside s (gathered s l), gathered-inside s l)
+
   mutual
-    node-inside : (n : Node A) → deepest (flattenNode n) ≤ nodeNesting n
+    node-inside : (n : Node A) → deepest (flattenNode n) ≤ nodeHeight n
     node-inside (leaf a) = omega arith
     node-inside (group s ts) =
         let l = flattenAll ts in
-        omega (arith, over-inside (droppedMark s (someNil l)) (grouped s (gathered s l)), grouped-inside s (gathered s l), gathered-inside s l, all-inside ts)
+        omega (arith, over-inside (droppedMark s (someNil l)) (grouped s (gathered s l)), group-inside s ts (all-inside ts))
 
-    pub no-deeper : (t : Tree A) → depth t ≤ nesting t
-    no-deeper (marked m n) = omega (arith, over-inside m (flattenNode n), node-inside n)
+    pub no-higher : (t : Tree A) → depth t ≤ height t
+    no-higher (marked m n) = omega (arith, over-inside m (flattenNode n), node-inside n)
 
-    all-inside : (ts : Members A) → deepestIn (flattenAll ts) ≤ membersNesting ts
+    all-inside : (ts : Members A) → deepestIn (flattenAll ts) ≤ membersHeight ts
     all-inside none = omega arith
-    all-inside (t ▹ ts) = omega (arith, no-deeper t, all-inside ts)
+    all-inside (t ▹ ts) = omega (arith, no-higher t, all-inside ts)
+
+  -- nor is it higher than its brackets are nested
+  mutual
+    node-nested : (n : Node A) → nodeHeight n ≤ nodeNesting n
+    node-nested (leaf a) = omega arith
+    node-nested (group s ts) = omega (arith, members-nested ts)
+
+    tree-nested : (t : Tree A) → height t ≤ nesting t
+    tree-nested (marked m n) = node-nested n
+
+    members-nested : (ts : Members A) → membersHeight ts ≤ membersNesting ts
+    members-nested none = omega arith
+    members-nested (t ▹ ts) = omega (arith, tree-nested t, members-nested ts)
+
+  pub no-deeper : (t : Tree A) → depth t ≤ nesting t
+  no-deeper t = omega (arith, no-higher t, tree-nested t)
+
+  -- and it has a node for each of these groups
+  mutual
+    node-groups : (n : Node A) → nodeHeight n ≤ nodeWeight 1 1 n
+    node-groups (leaf a) = omega arith
+    node-groups (group s ts) = omega (arith, members-groups ts)
+
+    pub height-nodes : (t : Tree A) → height t ≤ nodes t
+    height-nodes (marked m n) = node-groups n
+
+    members-groups : (ts : Members A) → membersHeight ts ≤ membersWeight 1 1 ts
+    members-groups none = omega arith
+    members-groups (t ▹ ts) = omega (arith, height-nodes t, members-groups ts)
