@@ -1,6 +1,6 @@
 // What is ahead of a row: the names of each node that may come next, beside the node's attribute.
 
-ghost use mathlib.Core.{Path._≡_, Bool.cond, List.[]};
+ghost use mathlib.Core.{Path._≡_, List.[]};
 ghost use Prim.Native.Nat.{suc, _≤_};
 ghost use Rattle.fields.specs.Limits.{maxAtoms};
 ghost use Rattle.model.specs.{Membership.under, Model.operator, Model.isAtom};
@@ -10,6 +10,7 @@ use crate::attribute::Attribute;
 use crate::attribute::begin;
 use crate::attribute::blank;
 use crate::attribute::marked_in;
+use crate::attribute::only_if;
 use crate::attribute::pair;
 use crate::tally::Seen;
 use model::rule::Kind;
@@ -36,12 +37,6 @@ fn single(name: usize) -> u64
     ensures { λ r. ⌜ r ≡ single name ⌝ }
 {
     1u64 << (name - 1)
-}
-
-fn only_if(test: bool, set: u64) -> u64
-    ensures { λ r. ⌜ r ≡ cond test set 0 ⌝ }
-{
-    if test { set } else { 0 }
 }
 
 fn one_more_fits(count: u16, max: Upper) -> bool

@@ -1,10 +1,10 @@
 // Attributes of nodes: what a row is to each of them.
 
-ghost use mathlib.Core.{Path._≡_, List.[]};
+ghost use mathlib.Core.{Path._≡_, Bool.cond, List.[]};
 ghost use Prim.Native.Nat.{max, min};
 ghost use Rattle.model.specs.{Membership.joined, Membership.begun, Model.operator};
 ghost use Rattle.judge.specs.Row.Attribute.{emptyAttribute, atomAttribute, pairAttribute, nonemptyAttribute, countedAttribute, markedAttribute};
-ghost use Rattle.judge.specs.{Packed.nodeIn, Row.Root.partAttribute, Row.Root.grownAttribute};
+ghost use Rattle.judge.specs.{Packed.nodeIn, Row.Attribute.attributeIn, Row.Root.partAttribute, Row.Root.grownAttribute};
 use crate::packed::mark_in;
 use crate::tally::Seen;
 use model::mark::MARK_PLACE;
@@ -31,6 +31,37 @@ pub(crate) fn blank() -> Attribute
         done: false,
         alive: false,
     }
+}
+
+pub(crate) fn only_if(test: bool, n: u64) -> u64
+    ensures { λ r. ⌜ r ≡ cond test n 0 ⌝ }
+{
+    if test { n } else { 0 }
+}
+
+// An attribute in one number, so that an array of nodes can hold it: 16 bits each for `first` and `behind`, and a bit for `done` and for `alive`, which
+// the compiler tests as such.
+const DONE: u64 = 4294967296;
+
+const ALIVE: u64 = 8589934592;
+
+pub(crate) fn attribute_in(word: u64) -> Attribute
+    ensures { λ r. ⌜ r ≡ attributeIn word ⌝ }
+{
+    Attribute {
+        first: (word % 65536) as u16,
+        behind: (word / 65536 % 65536) as u16,
+        done: word / DONE % 2 == 1,
+        alive: word / ALIVE % 2 == 1,
+    }
+}
+
+pub(crate) fn attribute_word(x: Attribute) -> u64
+    ensures { λ r. ⌜ attributeIn r ≡ x ⌝ }
+{
+    let done = only_if(x.done, DONE);
+    let alive = only_if(x.alive, ALIVE);
+    (x.first as u64) + (x.behind as u64) * 65536 + done + alive
 }
 
 fn earlier(a: u16, b: u16) -> u16

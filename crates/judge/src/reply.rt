@@ -192,7 +192,7 @@ pub fn judge_children(model: &[u8], children: &[u8]) -> ChildrenJudged
     let mut seen = [0u64; MAX_ATOMS + 1];
     match read_children(model, children, &mut words, &mut seen) {
         ChildrenRead::Both(read) => ChildrenJudged::Verdict(verdict_by(
-            &words,
+            &mut words,
             read.nodes,
             read.names,
             read.children,

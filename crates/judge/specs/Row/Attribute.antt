@@ -1,8 +1,9 @@
 -- What the second pass over a row computes of a type, from what the first has seen of each name: its span, whether its part of the row is held,
 -- and whether that can be extended. `attributeBy` is the same over a model.
-use mathlib.Core.{Path._≡_, Path.refl, Bool.true, Bool.false, Bool._&&_, Bool.and-true, List.List, List.[], List._∷_, List.map}
-use Prim.Native.Nat.{ℕ, zero, suc, min, max}
-use lib.{Dec.leb, Dec.ltb, ListN.length}
+use mathlib.Core.{Path._≡_, Path.refl, Bool.Bool, Bool.true, Bool.false, Bool.cond, Bool._&&_, Bool.and-true, List.List, List.[], List._∷_, List.map}
+use Prim.Native.Nat.{ℕ, zero, suc, _+_, _*_, _/_, _%_, _≤_, _<_, min, max}
+use native.Mathlib.Omega.{arith}
+use lib.{Dec.leb, Dec.ltb, Dec.eqb, ListN.length}
 use Rattle.model.specs.{declared.rule.Upper.Upper, declared.rule.Sign.Sign, declared.rule.Mark.Mark, Word.Word, Word.only, Word.count, Word.touched}
 use Rattle.model.specs.declared.rule.Mark.the-variants.{Plain, Optional, Nonempty}
 use Rattle.model.specs.Word.Span.{firstPlace, lastBehind, first-untouched, behind-untouched, touched-behind, ordered-span, first-either, behind-either}
@@ -10,6 +11,41 @@ use Rattle.model.specs.Types.{Operator, choice, Ty, ε, atom, join, nonempty, s
 use Rattle.model.specs.Membership.{under, joined, begun, done, alive}
 use Rattle.model.specs.Model.{Algebra, operator, typeBy}
 use Rattle.judge.specs.{declared.tally.Seen.Seen, declared.attribute.Attribute.Attribute, Row.Joined.joinedAll, Row.Joined.carried}
+
+-- An attribute in one number: two numbers of 16 bits, and a bit for each test.
+abbrev pub doneBit : ℕ
+doneBit = 4294967296
+
+abbrev pub aliveBit : ℕ
+aliveBit = 8589934592
+
+unfoldable pub attributeIn : ℕ → Attribute
+attributeIn w =
+    record { first = w % 65536; behind = w / 65536 % 65536; done = eqb (w / doneBit % 2) 1; alive = eqb (w / aliveBit % 2) 1 }
+
+abbrev pub attributeWord : Attribute → ℕ
+attributeWord x = x .first + x .behind * 65536 + cond (x .done) doneBit 0 + cond (x .alive) aliveBit 0
+
+-- a bit by its test
+pub cond-under : (b : Bool) (n : ℕ) → cond b n 0 ≤ n
+cond-under true n = omega arith
+cond-under false n = omega arith
+
+bit-is : (b : Bool) (n : ℕ) → (cond b n 0 ≡ cond b 1 0 * n) × (eqb (cond b 1 0) 1 ≡ b)
+bit-is true n = (omega arith, refl)
+bit-is false n = (omega arith, refl)
+
+pub unpack-attribute : (x : Attribute) → x .first < 65536 → x .behind < 65536 → attributeIn (attributeWord x) ≡ x
+unfolding attributeIn
+unpack-attribute x h k =
+    let d = bit-is (x .done) doneBit in
+    let a = bit-is (x .alive) aliveBit in
+    let p = parts (cond (x .done) 1 0) (cond (x .alive) 1 0) (cond-under (x .done) 1) (cond-under (x .alive) 1) in
+    rw (d .0, a .0, p .0, p .1, p .2, p .3, d .1, a .1)
+  where
+    parts : (d a : ℕ) → d ≤ 1 → a ≤ 1 → let w = x .first + x .behind * 65536 + d * doneBit + a * aliveBit in
+        (w % 65536 ≡ x .first) × (w / 65536 % 65536 ≡ x .behind) × (w / doneBit % 2 ≡ d) × (w / aliveBit % 2 ≡ a)
+    parts d a i j = (omega arith, omega arith, omega arith, omega arith)
 
 abbrev pub emptyAttribute : ℕ → Attribute
 emptyAttribute n = record { first = n; behind = 0; done = true; alive = true }
