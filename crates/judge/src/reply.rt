@@ -18,7 +18,7 @@ use crate::lexeme::name_end;
 use crate::reader::read_whole;
 use crate::row::verdict_by;
 use crate::table::SLOTS;
-use crate::table::find;
+use crate::table::look_up;
 use crate::table::slot_of;
 use crate::tally::is_full;
 use crate::tally::limit_names;
@@ -112,7 +112,7 @@ fn tally_children(
         }
         let end = read.end;
         let slot = slot_of(read.key);
-        let number = find(model, names, n, heads, &children[at..end], read.key, slot) as usize;
+        let number = look_up(model, names, n, heads, &children[at..end], read.key, slot) as usize;
         let word = seen[number];
         if is_full(word) {
             return stopped(children, end, count);

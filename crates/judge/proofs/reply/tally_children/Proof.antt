@@ -30,16 +30,16 @@ entry c = c .before .before .before
 abbrev turn : tie.After-is-child Inv-loop μ-loop → tie.In-loop Inv-loop μ-loop
 turn c = c .before .before .before .before
 
-abbrev known : tie.After-find Inv-loop μ-loop → tie.Then2 Inv-loop μ-loop
+abbrev known : tie.After-look-up Inv-loop μ-loop → tie.Then2 Inv-loop μ-loop
 known c = c .before .before .before
 
 abbrev start : tie.Then2 Inv-loop μ-loop → tie.Start Inv-loop μ-loop
 start c = entry (turn (c .before) .before)
 
-abbrev head : tie.After-find Inv-loop μ-loop → tie.At-loop Inv-loop μ-loop
+abbrev head : tie.After-look-up Inv-loop μ-loop → tie.At-loop Inv-loop μ-loop
 head c = turn (known c .before) .before
 
-abbrev found : tie.After-is-full Inv-loop μ-loop → tie.After-find Inv-loop μ-loop
+abbrev found : tie.After-is-full Inv-loop μ-loop → tie.After-look-up Inv-loop μ-loop
 found c = c .before .before
 
 met : (c : tie.Then2 Inv-loop μ-loop) → NameMet (start c .args .children .now) (turn (c .before) .before .loop .at) (c .before .before .name-end .result .end)
@@ -50,20 +50,20 @@ met c =
 abbrev texts : tie.Start Inv-loop μ-loop → List Text
 texts s = partsIn (s .args .model .now) (s .args .names .now) (s .args .n)
 
-abbrev child : tie.After-find Inv-loop μ-loop → Text
+abbrev child : tie.After-look-up Inv-loop μ-loop → Text
 child c = take (known c .before .before .name-end .result .end - head c .loop .at) (drop (head c .loop .at) (start (known c) .args .children .now))
 
-number-is : (c : tie.After-find Inv-loop μ-loop) → c .find .result ≡ numberIn (texts (start (known c))) (child c)
+number-is : (c : tie.After-look-up Inv-loop μ-loop) → c .look-up .result ≡ numberIn (texts (start (known c))) (child c)
 number-is c =
     let s = start (known c) in
-    _∙_ {b = lastIn (texts s) (child c)} (c .find .ensures .0) (last-number (texts s) (child c) (s .pre .0 .1))
+    _∙_ {b = lastIn (texts s) (child c)} (c .look-up .ensures .0) (last-number (texts s) (child c) (s .pre .0 .1))
 
 -- each child and its tab have two bytes
 few : (c : tie.In-loop Inv-loop μ-loop) → c .before .loop .count ≤ 32768
 few c = omega (arith, c .before .loop .inv .0 .apart, c .loop-test .taken, entry (c .before) .pre .1 .1)
 
 -- one further child may have the name
-free : (c : tie.Else3 Inv-loop μ-loop) → let f = found (c .before) in oneLeft ≤ getD (head f .loop .seen) (f .find .result) 0
+free : (c : tie.Else3 Inv-loop μ-loop) → let f = found (c .before) in oneLeft ≤ getD (head f .loop .seen) (f .look-up .result) 0
 free c = ltb-false _ _ (sym (c .before .is-full .ensures) ∙ c .if3 .left)
 
 loop-holds : tie.Need-loop-holds Inv-loop μ-loop
@@ -99,17 +99,17 @@ returns-2 c us _ =
 slot-of-requires : tie.Need-slot-of-requires Inv-loop μ-loop
 slot-of-requires c κs = search needs
 
-sub-find : tie.Need-sub-find Inv-loop μ-loop
-sub-find c = omega (arith, met (c .before) .bounds)
+sub-look-up : tie.Need-sub-look-up Inv-loop μ-loop
+sub-look-up c = omega (arith, met (c .before) .bounds)
 
-part-find-start : tie.Need-part-find-start Inv-loop μ-loop
-part-find-start c = omega (arith, met (c .before) .bounds)
+part-look-up-start : tie.Need-part-look-up-start Inv-loop μ-loop
+part-look-up-start c = omega (arith, met (c .before) .bounds)
 
-part-find-end : tie.Need-part-find-end Inv-loop μ-loop
-part-find-end c = met (c .before) .bounds .1
+part-look-up-end : tie.Need-part-look-up-end Inv-loop μ-loop
+part-look-up-end c = met (c .before) .bounds .1
 
-find-requires : tie.Need-find-requires Inv-loop μ-loop
-find-requires c κs =
+look-up-requires : tie.Need-look-up-requires Inv-loop μ-loop
+look-up-requires c κs =
     let t = c .before .before in
     let m = met t in
     let key = t .before .before .name-end .ensures .key-is ∙ ap keyOf (sym (m .part-is ∙ m .name-is)) in
@@ -119,10 +119,10 @@ cast-number : tie.Need-cast-number Inv-loop μ-loop
 cast-number c = search needs
 
 mul-word : tie.Need-mul-word Inv-loop μ-loop
-mul-word c = omega (arith, c .find .ensures .1)
+mul-word c = omega (arith, c .look-up .ensures .1)
 
 element-copy-out-word : tie.Need-element-copy-out-word Inv-loop μ-loop
-element-copy-out-word c = omega (arith, c .find .ensures .1)
+element-copy-out-word c = omega (arith, c .look-up .ensures .1)
 
 is-full-requires : tie.Need-is-full-requires Inv-loop μ-loop
 is-full-requires c κs = search needs
@@ -143,7 +143,7 @@ returns-3 c us t =
     rw (c .stopped .ensures)
     (walk-faulty (s .args .children .now) (p .0) h (met k) us (texts s) _
     (row-stops (p .1 us t) (walk-inside (s .args .children .now) (p .0) h (met k) (texts s)) (omega (arith, few (turn (k .before))))
-    (walk-number (s .args .children .now) (p .0) h (met k) (texts s) (number-is f)) (f .find .ensures .1)
+    (walk-number (s .args .children .now) (p .0) h (met k) (texts s) (number-is f)) (f .look-up .ensures .1)
     (ltb-true _ _ (sym (u .is-full .ensures) ∙ c .before .if3 .taken))))
 
 cast-noted : tie.Need-cast-noted Inv-loop μ-loop
@@ -153,10 +153,10 @@ noted-requires : tie.Need-noted-requires Inv-loop μ-loop
 noted-requires c κs = free c
 
 mul-seen : tie.Need-mul-seen Inv-loop μ-loop
-mul-seen c = omega (arith, found (c .before .before) .find .ensures .1)
+mul-seen c = omega (arith, found (c .before .before) .look-up .ensures .1)
 
 element-write-seen : tie.Need-element-write-seen Inv-loop μ-loop
-element-write-seen c = omega (arith, found (c .before .before) .find .ensures .1)
+element-write-seen c = omega (arith, found (c .before .before) .look-up .ensures .1)
 
 add-count : tie.Need-add-count Inv-loop μ-loop
 add-count c = omega (arith, few (turn (known (found (c .before .before)) .before)))
@@ -176,7 +176,7 @@ loop-again c =
     let h = turn (k .before) .loop-test .taken in (
       walk-goes (s .args .children .now) (p .0) h (met k),
       λ us t. row-goes (p .1 us t) (walk-inside (s .args .children .now) (p .0) h (met k) (texts s)) (omega (arith, few (turn (k .before))))
-          (walk-number (s .args .children .now) (p .0) h (met k) (texts s) (number-is f)) (f .find .ensures .1) (free (c .before)) (c .noted .ensures),
+          (walk-number (s .args .children .now) (p .0) h (met k) (texts s) (number-is f)) (f .look-up .ensures .1) (free (c .before)) (c .noted .ensures),
     )
 
 returns-4 : tie.Need-returns-4 Inv-loop μ-loop
@@ -204,10 +204,10 @@ tally-children-spec =
     is-child-requires
     returns-2
     slot-of-requires
-    sub-find
-    part-find-start
-    part-find-end
-    find-requires
+    sub-look-up
+    part-look-up-start
+    part-look-up-end
+    look-up-requires
     cast-number
     mul-word
     element-copy-out-word

@@ -3,7 +3,7 @@ use mathlib.Core.{Path._≡_, Path.refl, Path.sym, Path.ap₂, Path._∙_, Logic
 use mathlib.Core.{Bool.and-eq-true-iff, List.[], List._∷_}
 use Prim.Native.Nat.{ℕ, zero, suc, _+_, _*_, _-_, _/_, _%_, _^_, _≤_, _<_}
 use native.Mathlib.{Decide.ℕ-discrete, Decide.decLt, Nat.mod-lt, Nat.mod-eq-of-lt, Nat.div-eq-of-lt, Nat.div-lt-iff-lt-mul, Omega.arith}
-use lib.ListN.{length, getD}
+use lib.{ListN.length, ListN.take, ListN.drop, ListN.getD, ListN.length-take, ListN.List·getD-eq-default, Seq.getD-take, Seq.getD-drop}
 use borrow.Author.Tests.{eqb-true, eq-eqb}
 use Rattle.fields.specs.{Tests.by-test, Bytes.Text, Bytes.sameText, Bytes.Laws.same-text}
 use Rattle.judge.specs.Reading.Table.{keyStep, keyFrom, keyOf, sameRun, sameEight}
@@ -18,6 +18,11 @@ turned-fits k h = small (k % 72057594037927936) (k / 72057594037927936) (mod-lt 
 -- a text of bytes
 abbrev pub Bytes : Text → Type 0
 Bytes x = (i : ℕ) → getD x i 0 < 256
+
+pub part-bytes : (x : Text) → Bytes x → (m n : ℕ) → Bytes (take m (drop n x))
+part-bytes x u m n i =
+    by-cases (decLt i m) (λ h. rw (getD-take m (drop n x) i 0 h, getD-drop n x i 0) (u (n + i)))
+    (λ h. rw (List·getD-eq-default (take m (drop n x)) 0 {n = i} (omega (arith, length-take m (drop n x)))) (omega arith))
 
 -- keys of m bytes are below this
 abbrev room : ℕ → ℕ
