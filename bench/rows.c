@@ -77,7 +77,7 @@ static uint64_t key_of(const char *name)
 static uint64_t slot_of(const char *name)
 {
     uint64_t key = key_of(name);
-    return ((uint32_t)key * UINT64_C(419952358) + (key >> 32) * 363946181) / (1 << 24) % 256;
+    return ((uint32_t)key * UINT64_C(419952358) + (key >> 32) * 681387477) / (1 << 24) % 256;
 }
 
 typedef uint64_t slot_of_name(const char *name);
