@@ -2,6 +2,7 @@
 
 ghost use mathlib.Core.Path.{_≡_};
 ghost use Rattle.judge.specs.FirstFault.{faultJudged, childrenFault, searchedOf};
+use crate::packed::WORDS;
 use crate::packed::pack;
 use crate::reply::ChildrenRead;
 use crate::reply::read_children;
@@ -11,8 +12,6 @@ use crate::tally::search_row;
 use crate::verdict::ChildrenSearched;
 use crate::verdict::FirstFault;
 use crate::verdict::Searched;
-use model::rule::MAX_ATOMS;
-use model::rule::MAX_NODES;
 use model::rule::Rule;
 
 // Refused as judge_row refuses. Else the place of the first such child, or that there is none.
@@ -21,10 +20,9 @@ pub fn first_fault(rule: Rule, row: &[u16]) -> Searched
 {
     match test_row(rule, row) {
         Tested::Passed(_) => {
-            let mut words = [0u64; MAX_NODES];
-            let mut seen = [0u64; MAX_ATOMS + 1];
+            let mut words = [0u64; WORDS];
             pack(rule, &mut words);
-            Searched::Found(search_row(&words, rule.len, row, &mut seen))
+            Searched::Found(search_row(&mut words, rule.len, row))
         }
         Tested::Refused(f) => Searched::Refused(f),
     }
@@ -34,9 +32,8 @@ pub fn first_fault(rule: Rule, row: &[u16]) -> Searched
 pub fn search_children(model: &[u8], children: &[u8]) -> ChildrenSearched
     ensures { λ r. ⌜ r ≡ searchedOf (childrenFault (now (model .entry)) (now (children .entry))) ⌝ }
 {
-    let mut words = [0u64; MAX_NODES];
-    let mut seen = [0u64; MAX_ATOMS + 1];
-    match read_children(model, children, &mut words, &mut seen) {
+    let mut words = [0u64; WORDS];
+    match read_children(model, children, &mut words) {
         ChildrenRead::Both(_) => ChildrenSearched::Found(FirstFault::Nothing),
         ChildrenRead::Faulty(p) => ChildrenSearched::Found(FirstFault::At(p)),
         ChildrenRead::ModelRefused(f, _) => ChildrenSearched::ModelRefused(f),

@@ -5,7 +5,8 @@ ghost use lib.ListN.{length, take, drop, getD};
 ghost use Prim.Native.Nat.{_≤_};
 ghost use Rattle.fields.specs.Limits.{maxAtoms, maxNodes, maxRow};
 ghost use Rattle.model.specs.{Word.keep, Model.atomsIn, Rule.names, Rule.ruleType, Check.readable};
-ghost use Rattle.judge.specs.{Packed.nodeIn, Packed.ruleIn, Row.upto, Row.Tally.seenOf};
+ghost use Rattle.judge.specs.Packed.{nodeIn, ruleIn, seenIn, unseen};
+ghost use Rattle.judge.specs.{Row.upto, Row.Tally.seenOf};
 ghost use Rattle.judge.specs.Next.{numbersTo, nextNames, fitted, nextJudged, childrenNext, HandsNext, HandsChildrenNext, Set.inSet};
 ghost use Rattle.judge.specs.Next.Ahead.{rootAhead};
 use crate::ahead::begin_ahead;
@@ -13,6 +14,7 @@ use crate::ahead::blank_ahead;
 use crate::ahead::grown_ahead;
 use crate::ahead::marked_ahead;
 use crate::fault::JudgeFault;
+use crate::packed::WORDS;
 use crate::packed::kind_in;
 use crate::packed::pack;
 use crate::reply::ChildrenRead;
@@ -27,21 +29,14 @@ use crate::verdict::Next;
 use fields::limits::lesser;
 use model::check::atoms_of;
 use model::check::members_of;
-use model::rule::MAX_ATOMS;
 use model::rule::MAX_NODES;
 use model::rule::Rule;
 
 // The pass of row::root, with what is ahead of each node: of the first one, the names that may come next behind a row in which no child is at fault.
-fn root_next(
-    words: &[u64; MAX_NODES],
-    len: usize,
-    names: usize,
-    children: u16,
-    seen: &[u64; MAX_ATOMS + 1],
-) -> u64
-    requires { ⌜ (len ≤ maxNodes) × (length (now words) ≡ maxNodes) ⌝ }
+fn root_next(words: &[u64; WORDS], len: usize, names: usize, children: u16) -> u64
+    requires { ⌜ (len ≤ maxNodes) × (maxNodes ≤ length (now words)) ⌝ }
     requires { ⌜ (names ≡ atomsIn (map nodeIn (take len (now words)))) × (names ≤ maxAtoms) ⌝ }
-    ensures { λ r. ⌜ r ≡ rootAhead (ruleIn (now (words .entry)) len) children (λ k. seenOf children (getD (now (seen .entry)) k 0)) .next ⌝ }
+    ensures { λ r. ⌜ r ≡ rootAhead (ruleIn (now (words .entry)) len) children (λ k. seenOf children (getD (seenIn (now (words .entry))) k 0)) .next ⌝ }
 {
     let mut stack = [blank_ahead(); MAX_NODES];
     let mut top = MAX_NODES;
@@ -52,7 +47,7 @@ fn root_next(
         let word = words[i];
         let kind = kind_in(word);
         let end = lesser(members_of(kind), MAX_NODES - top) + top;
-        let here = seen_of(seen[name], children);
+        let here = seen_of(words[MAX_NODES + name], children);
         let mut x = begin_ahead(children, kind, here, name);
         let mut at = top;
         while at < end {
@@ -121,24 +116,23 @@ fn list_names(set: u64, n: usize, row: &mut [u16]) -> Next
 
 // Of a row that is not refused, by the first len nodes, which are a rule that some model text reads into and have so many names.
 fn next_on(
-    words: &[u64; MAX_NODES],
+    words: &mut [u64; WORDS],
     len: usize,
     names: usize,
     children: &[u16],
     row: &mut [u16],
 ) -> Next
-    requires { ⌜ (len ≤ maxNodes) × (length (now words) ≡ maxNodes) ⌝ }
+    requires { ⌜ (len ≤ maxNodes) × (maxNodes ≤ length (now words)) × (seenIn (now words) ≡ unseen) ⌝ }
     requires { ⌜ (readable (ruleIn (now words) len) ≡ true) × (names ≡ atomsIn (map nodeIn (take len (now words)))) ⌝ }
     requires { ⌜ (length (now children) ≤ maxRow) × (upto names (now children) ≡ true) ⌝ }
     ensures { λ r. ⌜ HandsNext
         (fitted (length (now (row .entry))) (nextNames (ruleType (ruleIn (now (words .entry)) len)) names (now (children .entry))))
         r (now (row .entry)) (now (row .exit)) ⌝ }
 {
-    let mut seen = [0u64; MAX_ATOMS + 1];
-    match search_row(words, len, children, &mut seen) {
+    match search_row(words, len, children) {
         FirstFault::At(_) => Next::Names(0),
         FirstFault::Nothing => {
-            let set = root_next(words, len, names, children.len() as u16, &seen);
+            let set = root_next(words, len, names, children.len() as u16);
             list_names(set, names, row)
         }
     }
@@ -151,9 +145,9 @@ pub fn next_names(rule: Rule, children: &[u16], row: &mut [u16]) -> Next
 {
     match test_row(rule, children) {
         Tested::Passed(names) => {
-            let mut words = [0u64; MAX_NODES];
+            let mut words = [0u64; WORDS];
             pack(rule, &mut words);
-            next_on(&words, rule.len, names, children, row)
+            next_on(&mut words, rule.len, names, children, row)
         }
         Tested::Refused(f) => Next::Refused(f),
     }
@@ -165,12 +159,11 @@ pub fn next_children(model: &[u8], children: &[u8], row: &mut [u16]) -> Children
         (childrenNext (now (model .entry)) (now (children .entry)) (length (now (row .entry))))
         r (now (row .entry)) (now (row .exit)) ⌝ }
 {
-    let mut words = [0u64; MAX_NODES];
-    let mut seen = [0u64; MAX_ATOMS + 1];
-    match read_children(model, children, &mut words, &mut seen) {
+    let mut words = [0u64; WORDS];
+    match read_children(model, children, &mut words) {
         ChildrenRead::Both(read) => {
             let names = read.names;
-            let set = root_next(&words, read.nodes, names, read.children, &seen);
+            let set = root_next(&words, read.nodes, names, read.children);
             ChildrenNext::Next(list_names(set, names, row))
         }
         ChildrenRead::Faulty(_) => ChildrenNext::Next(Next::Names(0)),

@@ -7,17 +7,21 @@ ghost use Rattle.model.specs.declared.rule.Kind.the-variants.{Atom, Group};
 ghost use Rattle.model.specs.Rule.{used, unused, ruleWith};
 ghost use Rattle.fields.specs.Limits.{maxNodes};
 ghost use Rattle.judge.specs.Reading.Buffer.{Stores};
-ghost use Rattle.judge.specs.Packed.{packedWord, nodeIn, ruleIn, plainNode, markedNode, isSign, signBy, kindBy};
+ghost use Rattle.judge.specs.Packed.{packedWord, nodeIn, ruleIn, unseen, Fresh, plainNode, markedNode, isSign, signBy, kindBy};
 use model::mark::MARK_PLACE;
 use model::mark::mark_number;
 use model::mark::numbered_mark;
 use model::rule::Kind;
+use model::rule::MAX_ATOMS;
 use model::rule::MAX_NODES;
 use model::rule::Mark;
 use model::rule::Node;
 use model::rule::Rule;
 use model::rule::Sign;
 use model::rule::Upper;
+
+// The nodes of a rule, and behind them, from MAX_NODES on, what is seen of each name: one array, since each is cleared by a call of its own.
+pub(crate) const WORDS: usize = MAX_NODES + MAX_ATOMS + 1;
 
 // The number of a node that has no mark: its shape is a sign's byte or 0, or 1 or 2 for an atom.
 fn packed(shape: u8, low: u16, high: u16) -> u64
@@ -142,9 +146,9 @@ fn packed_node(node: Node) -> u64
 }
 
 // The nodes of a rule. Places from len on stay as they were.
-pub(crate) fn pack(rule: Rule, words: &mut [u64; MAX_NODES])
-    requires { ⌜ (rule .len ≤ maxNodes) × (length (now words) ≡ maxNodes) ⌝ }
-    ensures { λ r. ⌜ Stores nodeIn maxNodes (now (words .exit)) (rule .len) (used rule) ⌝ }
+pub(crate) fn pack(rule: Rule, words: &mut [u64; WORDS])
+    requires { ⌜ (rule .len ≤ maxNodes) × Fresh (now words) ⌝ }
+    ensures { λ r. ⌜ Stores nodeIn maxNodes unseen (now (words .exit)) (rule .len) (used rule) ⌝ }
 {
     let len = rule.len;
     let mut i: usize = 0;
@@ -173,8 +177,8 @@ pub(crate) fn no_rule() -> Rule
 }
 
 // The rule of the first len nodes.
-pub(crate) fn unpack(words: &[u64; MAX_NODES], len: usize) -> Rule
-    requires { ⌜ (len ≤ maxNodes) × (length (now words) ≡ maxNodes) ⌝ }
+pub(crate) fn unpack(words: &[u64; WORDS], len: usize) -> Rule
+    requires { ⌜ (len ≤ maxNodes) × (maxNodes ≤ length (now words)) ⌝ }
     ensures { λ r. ⌜ r ≡ ruleIn (now (words .entry)) len ⌝ }
 {
     let mut rule = no_rule();

@@ -7,6 +7,7 @@ ghost use Rattle.model.specs.Syntax.{numberIn};
 ghost use Rattle.judge.specs.Reading.{namesWith, refusal, reading, partsOf};
 ghost use Rattle.judge.specs.Packed.{placeOf};
 use crate::cursor::Got;
+use crate::packed::WORDS;
 use crate::packed::no_rule;
 use crate::packed::unpack;
 use crate::reader::read_whole;
@@ -85,7 +86,7 @@ fn names_of(words: &[u64; MAX_NODES], len: usize) -> Names
 pub fn read_model(text: &[u8]) -> Reading
     ensures { λ r. ⌜ r ≡ reading (now (text .entry)) ⌝ }
 {
-    let mut work = [0u64; MAX_NODES];
+    let mut work = [0u64; WORDS];
     let mut names = [0u64; MAX_NODES];
     let mut heads = [0u8; SLOTS];
     match read_whole(text, &mut work, &mut names, &mut heads) {
@@ -102,9 +103,8 @@ pub fn read_model(text: &[u8]) -> Reading
 pub fn model_outcome(text: &[u8]) -> Outcome
     ensures { λ r. ⌜ r ≡ reading (now (text .entry)) .outcome ⌝ }
 {
-    let mut words = [0u64; MAX_NODES];
-    let mut seen = [0u64; MAX_ATOMS + 1];
-    match read_children(text, b"", &mut words, &mut seen) {
+    let mut words = [0u64; WORDS];
+    match read_children(text, b"", &mut words) {
         ChildrenRead::Both(_) => Outcome::Read,
         ChildrenRead::Faulty(_) => Outcome::Read,
         ChildrenRead::ModelRefused(f, p) => Outcome::Refused(f, p),

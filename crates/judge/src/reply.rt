@@ -6,6 +6,7 @@ ghost use lib.{Dec.ltb, ListN.length, ListN.getD};
 ghost use Rattle.fields.specs.{Bytes.isInitial, Limits.maxFile, Limits.maxNodes, Limits.maxRow, Children.shortName};
 ghost use Rattle.fields.specs.declared.fault.CueFault.the-variants.{ManyChildren};
 ghost use Rattle.model.specs.declared.rule.Upper.{Upper};
+ghost use Rattle.judge.specs.Packed.{seenIn, Fresh, SameNodes};
 ghost use Rattle.judge.specs.{declared.lexeme.NameEnd.NameEnd, Reading.Lexeme.NameEnds, Row.Tally.Seeing};
 ghost use Rattle.judge.specs.declared.reply.ChildrenTally.the-variants.{Faulty, Refused};
 ghost use Rattle.judge.specs.Reply.{childrenIn, childrenReply, judgedOf, Read.TextsRead};
@@ -15,11 +16,11 @@ use crate::cursor::Got;
 use crate::lexeme::NameEnd;
 use crate::lexeme::name_begins;
 use crate::lexeme::name_end;
+use crate::packed::WORDS;
 use crate::reader::read_whole;
 use crate::row::verdict_by;
 use crate::table::SLOTS;
 use crate::table::look_up;
-use crate::table::slot_of;
 use crate::tally::is_full;
 use crate::tally::limit_names;
 use crate::tally::noted;
@@ -32,7 +33,6 @@ use fields::limits::MAX_NAME;
 use fields::limits::MAX_ROW;
 use fields::split::TAB;
 use model::fault::ModelFault;
-use model::rule::MAX_ATOMS;
 use model::rule::MAX_NODES;
 use model::verdict::Verdict;
 
@@ -93,12 +93,13 @@ fn tally_children(
     n: usize,
     heads: &[u8; SLOTS],
     children: &[u8],
-    seen: &mut [u64; MAX_ATOMS + 1],
+    words: &mut [u64; WORDS],
 ) -> ChildrenTally
     requires { ⌜ Tabled (now model) (now names) (now heads) n × Distinct (partsIn (now model) (now names) n) ⌝ }
     requires { ⌜ (0 < length (now children)) × (length (now children) ≤ maxFile) ⌝ }
-    ensures { λ r. ⌜ ((us : List Upper) → Seeing us [] (now (seen .entry))
-        → ChildrenTallied us (partsIn (now (model .entry)) (now (names .entry)) n) (childrenIn (now (children .entry))) (now (seen .exit)) r) ⌝ }
+    ensures { λ r. ⌜ ((us : List Upper) → Seeing us [] (seenIn (now (words .entry)))
+        → ChildrenTallied us (partsIn (now (model .entry)) (now (names .entry)) n) (childrenIn (now (children .entry))) (seenIn (now (words .exit))) r) ⌝ }
+    ensures { λ r. ⌜ SameNodes (now (words .entry)) (now (words .exit)) ⌝ }
 {
     let mut count: usize = 0;
     let mut at: usize = 0;
@@ -111,13 +112,12 @@ fn tally_children(
             return ChildrenTally::Refused(CueFault::NoName);
         }
         let end = read.end;
-        let slot = slot_of(read.key);
-        let number = look_up(model, names, n, heads, &children[at..end], read.key, slot) as usize;
-        let word = seen[number];
+        let number = look_up(model, names, n, heads, &children[at..end], read.key) as usize;
+        let word = words[MAX_NODES + number];
         if is_full(word) {
             return stopped(children, end, count);
         }
-        seen[number] = noted(word, count as u16);
+        words[MAX_NODES + number] = noted(word, count as u16);
         count += 1;
         at = end + 1;
     }
@@ -146,14 +146,9 @@ pub(crate) enum ChildrenRead {
 
 // Reads the model text into the words of its nodes, and what is seen of each name in the children, a field each, into the other array, which holds
 // zeros; or gives the model text's refusal with its place, or the children's. No bytes are no children.
-pub(crate) fn read_children(
-    model: &[u8],
-    children: &[u8],
-    words: &mut [u64; MAX_NODES],
-    seen: &mut [u64; MAX_ATOMS + 1],
-) -> ChildrenRead
-    requires { ⌜ (length (now words) ≡ maxNodes) × Seeing [] [] (now seen) ⌝ }
-    ensures { λ r. ⌜ TextsRead (now (model .entry)) (now (children .entry)) (now (words .exit)) (now (seen .exit)) r ⌝ }
+pub(crate) fn read_children(model: &[u8], children: &[u8], words: &mut [u64; WORDS]) -> ChildrenRead
+    requires { ⌜ Fresh (now words) ⌝ }
+    ensures { λ r. ⌜ TextsRead (now (model .entry)) (now (children .entry)) (now (words .exit)) (seenIn (now (words .exit))) r ⌝ }
 {
     let mut names = [0u64; MAX_NODES];
     let mut heads = [0u8; SLOTS];
@@ -169,8 +164,8 @@ pub(crate) fn read_children(
                     names: past.names,
                 });
             }
-            limit_names(words, past.nodes, seen);
-            match tally_children(model, &names, past.names, &heads, children, seen) {
+            limit_names(words, past.nodes);
+            match tally_children(model, &names, past.names, &heads, children, words) {
                 ChildrenTally::Whole(n) => ChildrenRead::Both(Sizes {
                     nodes: past.nodes,
                     children: n as u16,
@@ -188,15 +183,13 @@ pub(crate) fn read_children(
 pub fn judge_children(model: &[u8], children: &[u8]) -> ChildrenJudged
     ensures { λ r. ⌜ r ≡ judgedOf (childrenReply (now (model .entry)) (now (children .entry))) ⌝ }
 {
-    let mut words = [0u64; MAX_NODES];
-    let mut seen = [0u64; MAX_ATOMS + 1];
-    match read_children(model, children, &mut words, &mut seen) {
+    let mut words = [0u64; WORDS];
+    match read_children(model, children, &mut words) {
         ChildrenRead::Both(read) => ChildrenJudged::Verdict(verdict_by(
             &mut words,
             read.nodes,
             read.names,
             read.children,
-            &seen,
         )),
         ChildrenRead::Faulty(_) => ChildrenJudged::Verdict(Verdict::Dead),
         ChildrenRead::ModelRefused(f, _) => ChildrenJudged::ModelRefused(f),

@@ -5,13 +5,13 @@ ghost use lib.{Dec.ltb, Dec.eqb, ListN.length, ListN.take};
 ghost use Prim.Native.Nat.{_*_, _≤_};
 ghost use Rattle.fields.specs.Limits.{maxAtoms, maxNodes, maxRow};
 ghost use Rattle.model.specs.{declared.rule.Upper.Upper, Model.atomsIn};
-ghost use Rattle.judge.specs.{Packed.nodeIn, FirstFault.upperCounts, Row.upto};
+ghost use Rattle.judge.specs.{Packed.nodeIn, Packed.seenIn, Packed.SameNodes, FirstFault.upperCounts, Row.upto};
 ghost use Rattle.judge.specs.Row.Tally.{oneLeft, limitNumber, limitedWord, seenOf, notedWord, Seeing, RowTallied};
+use crate::packed::WORDS;
 use crate::packed::kind_in;
 use crate::verdict::FirstFault;
 use model::check::atoms_of;
 use model::rule::Kind;
-use model::rule::MAX_ATOMS;
 use model::rule::MAX_NODES;
 use model::rule::Upper;
 
@@ -54,17 +54,18 @@ fn limited(kind: Kind, word: u64) -> u64
 }
 
 // The upper count of each name goes into the array, by the name's number. At first it holds zeros, and place 0 stays so: no foreign child is allowed.
-pub(crate) fn limit_names(words: &[u64; MAX_NODES], len: usize, seen: &mut [u64; MAX_ATOMS + 1])
-    requires { ⌜ (len ≤ maxNodes) × (length (now words) ≡ maxNodes) ⌝ }
-    requires { ⌜ (atomsIn (map nodeIn (take len (now words))) ≤ maxAtoms) × Seeing [] [] (now seen) ⌝ }
-    ensures { λ r. ⌜ Seeing (upperCounts (map nodeIn (take len (now (words .entry))))) [] (now (seen .exit)) ⌝ }
+pub(crate) fn limit_names(words: &mut [u64; WORDS], len: usize)
+    requires { ⌜ (len ≤ maxNodes) × (maxNodes ≤ length (now words)) ⌝ }
+    requires { ⌜ (atomsIn (map nodeIn (take len (now words))) ≤ maxAtoms) × Seeing [] [] (seenIn (now words)) ⌝ }
+    ensures { λ r. ⌜ Seeing (upperCounts (map nodeIn (take len (now (words .entry))))) [] (seenIn (now (words .exit))) ⌝ }
+    ensures { λ r. ⌜ SameNodes (now (words .entry)) (now (words .exit)) ⌝ }
 {
     let mut name: usize = 0;
     let mut i: usize = 0;
     while i < len {
         let kind = kind_in(words[i]);
         name += atoms_of(kind);
-        seen[name] = limited(kind, seen[name]);
+        words[MAX_NODES + name] = limited(kind, words[MAX_NODES + name]);
         i += 1;
     }
 }
@@ -113,35 +114,32 @@ pub(crate) fn noted(word: u64, i: u16) -> u64
 
 // What is seen of each name goes into the array, which holds the upper counts of the names, up to the first child that is foreign or one too many of
 // its name.
-fn tally_row(row: &[u16], seen: &mut [u64; MAX_ATOMS + 1]) -> FirstFault
+fn tally_row(row: &[u16], words: &mut [u64; WORDS]) -> FirstFault
     requires { ⌜ (length (now row) ≤ maxRow) × (upto maxAtoms (now row) ≡ true) ⌝ }
-    ensures { λ r. ⌜ ((us : List Upper) → Seeing us [] (now (seen .entry)) → RowTallied us (now (row .entry)) (now (seen .exit)) r) ⌝ }
+    ensures { λ r. ⌜ ((us : List Upper) → Seeing us [] (seenIn (now (words .entry))) → RowTallied us (now (row .entry)) (seenIn (now (words .exit))) r) ⌝ }
+    ensures { λ r. ⌜ SameNodes (now (words .entry)) (now (words .exit)) ⌝ }
 {
     let mut i: usize = 0;
     while i < row.len() {
         let name = row[i] as usize;
-        let word = seen[name];
+        let word = words[MAX_NODES + name];
         if is_full(word) {
             return FirstFault::At(i);
         }
-        seen[name] = noted(word, i as u16);
+        words[MAX_NODES + name] = noted(word, i as u16);
         i += 1;
     }
     FirstFault::Nothing
 }
 
 // The first pass over a row, by the first len nodes. The array holds zeros at first.
-pub(crate) fn search_row(
-    words: &[u64; MAX_NODES],
-    len: usize,
-    row: &[u16],
-    seen: &mut [u64; MAX_ATOMS + 1],
-) -> FirstFault
-    requires { ⌜ (len ≤ maxNodes) × (length (now words) ≡ maxNodes) ⌝ }
-    requires { ⌜ (atomsIn (map nodeIn (take len (now words))) ≤ maxAtoms) × Seeing [] [] (now seen) ⌝ }
+pub(crate) fn search_row(words: &mut [u64; WORDS], len: usize, row: &[u16]) -> FirstFault
+    requires { ⌜ (len ≤ maxNodes) × (maxNodes ≤ length (now words)) ⌝ }
+    requires { ⌜ (atomsIn (map nodeIn (take len (now words))) ≤ maxAtoms) × Seeing [] [] (seenIn (now words)) ⌝ }
     requires { ⌜ (length (now row) ≤ maxRow) × (upto maxAtoms (now row) ≡ true) ⌝ }
-    ensures { λ r. ⌜ RowTallied (upperCounts (map nodeIn (take len (now (words .entry))))) (now (row .entry)) (now (seen .exit)) r ⌝ }
+    ensures { λ r. ⌜ RowTallied (upperCounts (map nodeIn (take len (now (words .entry))))) (now (row .entry)) (seenIn (now (words .exit))) r ⌝ }
+    ensures { λ r. ⌜ SameNodes (now (words .entry)) (now (words .exit)) ⌝ }
 {
-    limit_names(words, len, seen);
-    tally_row(row, seen)
+    limit_names(words, len);
+    tally_row(row, words)
 }

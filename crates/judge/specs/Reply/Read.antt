@@ -14,6 +14,7 @@ use Rattle.model.specs.{Syntax.writtenNames, Fault.Answer, Fault.Answers, Fault
 use Rattle.model.specs.{Model.encode, Model.typeOf, Model.atomsIn, Rule.ReadsInto, Rule.ruleOf, Rule.ruleType, Rule.used, Rule.Laws.used-is}
 use Rattle.model.specs.{Rule.Laws.used-with, Check.readable, Check.Exact.readable-is, Check.Exact.rule-type}
 use Rattle.judge.specs.{declared.cursor.Cursor.Cursor, declared.reply.Sizes.Sizes, declared.reply.ChildrenRead.ChildrenRead, Packed.nodeIn, Packed.ruleIn}
+use Rattle.judge.specs.Packed.{SameNodes, Laws.same-first}
 use Rattle.judge.specs.{declared.reply.ChildrenTally.ChildrenTally, declared.verdict.Next.Next, Reading.Table.partsIn, Reading.Table.Laws.parts-long}
 use Rattle.judge.specs.{Reading.Walk.Kept, Named.Laws.row-upto, Row.upto, Row.Tally.seenOf, Row.Tally.Tallied, Row.Pass.seenVerdict}
 use Rattle.judge.specs.{Row.Code.verdict-stopped, Row.Code.verdict-tallied, Reply.Children.ChildrenTallied, Reply.Children.row-whole}
@@ -37,7 +38,7 @@ textChildren c = cond (ltb maxFile (length c)) (Refused LongFile) (childrenOf (c
 -- Both texts were read, and no child is at fault: the words hold the nodes of m's rule, and s tells what is seen of each name in the row of c's children.
 pub record BothRead (m c : Text) (words s : List ℕ) (r : Sizes) : Type 0 where
   pub model : ReadsInto m (ruleIn words (r .nodes))
-  pub nodes : (r .nodes ≤ maxNodes) × (length words ≡ maxNodes)
+  pub nodes : (r .nodes ≤ maxNodes) × (maxNodes ≤ length words)
   pub names : (r .names ≡ atomsIn (map nodeIn (take (r .nodes) words))) × (r .names ≤ maxAtoms)
   pub written : r .names ≡ length (writtenNames (model .tree))
   pub children : textChildren c ≡ Count (r .children)
@@ -68,32 +69,37 @@ children-fit {us} {ns} {cs} {s} {n = n} g e = go (rw e at g)
 
 -- The model text was read, and then the children text was.
 module _ {m : Text} {words : List ℕ} {kept : Kept} {d : Cursor} (w : WholeText m words kept d) (c : Text) where
-  pub long-refused : (s : List ℕ) → maxFile < length c → TextsRead m c words s (ChildrenRefused LongFile)
-  long-refused s h = children-refused {f = LongFile} (w .tree) (w .answers) (rw (lt-ltb maxFile (length c) h))
+  pub long-refused : (words′ s : List ℕ) → maxFile < length c → TextsRead m c words′ s (ChildrenRefused LongFile)
+  long-refused words′ s h = children-refused {f = LongFile} (w .tree) (w .answers) (rw (lt-ltb maxFile (length c) h))
 
   abbrev counts : List Upper
   counts = upperCounts (map nodeIn (take (d .nodes) words))
 
-  module _ (size : length c ≤ maxFile) {s : List ℕ} {x : ChildrenTally} (g : ChildrenTallied counts (partsIn m (kept .0) (d .names)) (childrenIn c) s x) where
+  -- the nodes stood as they were
+  module _ (size : length c ≤ maxFile) (words′ : List ℕ) (same : SameNodes words words′) {s : List ℕ} {x : ChildrenTally}
+      (g : ChildrenTallied counts (partsIn m (kept .0) (d .names)) (childrenIn c) s x) where
     given : {y : ChildrenTally} → x ≡ y → ChildrenTallied counts (writtenNames (w .tree)) (childrenIn c) s y
     given e = rw (← whole-names w) (rw e at g)
 
     children-are : textChildren c ≡ childrenOf (childrenIn c)
     children-are = rw (le-ltb maxFile (length c) size)
 
+    nodes-same : take (d .nodes) words′ ≡ take (d .nodes) words
+    nodes-same = same-first words words′ same (d .nodes) (w .nodes .few)
+
     named : d .names ≡ length (writtenNames (w .tree))
     named = sym (parts-long (w .tabled)) ∙ ap length (whole-names w)
 
-    pub bad-refused : {f : CueFault} → x ≡ Unnamed f → TextsRead m c words s (ChildrenRefused f)
+    pub bad-refused : {f : CueFault} → x ≡ Unnamed f → TextsRead m c words′ s (ChildrenRefused f)
     bad-refused {f} e = go (given e)
       where
-        go : ChildrenTallied counts (writtenNames (w .tree)) (childrenIn c) s (Unnamed f) → TextsRead m c words s (ChildrenRefused f)
+        go : ChildrenTallied counts (writtenNames (w .tree)) (childrenIn c) s (Unnamed f) → TextsRead m c words′ s (ChildrenRefused f)
         go (no-row k) = children-refused (w .tree) (w .answers) (children-are ∙ k)
 
-    pub stopped-read : {p : ℕ} → x ≡ Stopped p → TextsRead m c words s (Faulty p)
+    pub stopped-read : {p : ℕ} → x ≡ Stopped p → TextsRead m c words′ s (Faulty p)
     stopped-read {p} e = go (given e)
       where
-        go : ChildrenTallied counts (writtenNames (w .tree)) (childrenIn c) s (Stopped p) → TextsRead m c words s (Faulty p)
+        go : ChildrenTallied counts (writtenNames (w .tree)) (childrenIn c) s (Stopped p) → TextsRead m c words′ s (Faulty p)
         go (row-faulty {n = n} k f) =
             fault-read {p = p} (record {
               tree = w .tree;
@@ -103,20 +109,20 @@ module _ {m : Text} {words : List ℕ} {kept : Kept} {d : Cursor} (w : WholeText
               fault = rw (← w .nodes .held) f;
             })
 
-    pub texts-read : {n : ℕ} → x ≡ Whole n → TextsRead m c words s (Both (record { nodes = d .nodes; children = n; names = d .names }))
+    pub texts-read : {n : ℕ} → x ≡ Whole n → TextsRead m c words′ s (Both (record { nodes = d .nodes; children = n; names = d .names }))
     texts-read {n} e = go (given e)
       where
         go : ChildrenTallied counts (writtenNames (w .tree)) (childrenIn c) s (Whole n)
-            → TextsRead m c words s (Both (record { nodes = d .nodes; children = n; names = d .names }))
+            → TextsRead m c words′ s (Both (record { nodes = d .nodes; children = n; names = d .names }))
         go (row-whole k t) =
-            both-read (record {
-              model = record { tree = w .tree; answered = w .answers; rule-is = whole-rule w };
-              nodes = (w .nodes .few, w .nodes .whole);
-              names = (whole-count w, w .tabled .few);
+            both-read {r = record { nodes = d .nodes; children = n; names = d .names }} (record {
+              model = record { tree = w .tree; answered = w .answers; rule-is = rw nodes-same (whole-rule w) };
+              nodes = (w .nodes .few, omega (arith, w .nodes .whole, same .1));
+              names = (rw nodes-same (whole-count w), w .tabled .few);
               written = named;
               children = children-are ∙ k;
               long = length-map (childrenIn c) (numberIn (writtenNames (w .tree))) ∙ counted (childrenIn c) n k .0;
-              sound = sym (t .fault-is);
+              sound = rw nodes-same (sym (t .fault-is));
               tallied = t .tallied refl;
             })
 

@@ -34,7 +34,7 @@ pub record Evaluated {A : Type 0} (g : Algebra A) (l : List Node) (i : ℕ) (sta
   pub stack-is : drop top stack ≡ eval g (drop i l) (name + 1)
 
 -- the nodes l are held as numbers
-module _ {words : List ℕ} {len : ℕ} {l : List Node} (h : Stores nodeIn maxNodes words len l) where
+module _ {rest words : List ℕ} {len : ℕ} {l : List Node} (h : Stores nodeIn maxNodes rest words len l) where
   size-is : length l ≡ len
   size-is = holds-count h
 
@@ -87,7 +87,7 @@ module _ {A : Type 0} {g : Algebra A} {part : Kind → ℕ → List A → A} {gr
   step (Group s n) m k l = rw (p .group-is s n (0 + k) (k + 1) (take n l))
 
   -- a turn, with what its calls gave
-  module _ {words : List ℕ} {len : ℕ} {l : List Node} (h : Stores nodeIn maxNodes words len l)
+  module _ {rest words : List ℕ} {len : ℕ} {l : List Node} (h : Stores nodeIn maxNodes rest words len l)
       {i : ℕ} {x : Node} (a : 0 < i) (b : i ≤ len) (e : x ≡ nodeIn (getD words (i - 1) 0)) where
     pub pass-turn : {stack : List A} {top name : ℕ} → Evaluated g l i stack top name → 0 < top → top ≤ maxNodes
         → {members clipped ones : ℕ} → members ≡ needed (x .kind) → clipped ≡ min members (maxNodes - top) → ones ≡ isAtom (x .kind)

@@ -1,9 +1,8 @@
 -- a row that passes is searched by its rule, which is packed first
 use borrow.Author.Needs.{needs}
 use mathlib.Core.Path.{_≡_, refl, sym, ap, _∙_}
-use native.Mathlib.Omega.{arith}
 use Rattle.judge.specs.{Row.rowTested, FirstFault.upperCounts, FirstFault.firstFault, FirstFault.Laws.searched-found, FirstFault.Laws.searched-refused}
-use Rattle.judge.specs.{Row.Tally.Laws.seeing-none, declared.row.Tested.the-variants.Passed, declared.verdict.Searched.the-variants.Found}
+use Rattle.judge.specs.{declared.row.Tested.the-variants.Passed, declared.verdict.Searched.the-variants.Found}
 use Rattle.judge.specs.Row.Code.{readable-within, Passes, tested, packed-passes, searchable}
 use Rattle.judge.proofs.first_fault.first_fault.Statement.{statement}
 use Rattle.judge.proofs.first_fault.first_fault.Tie as tie
@@ -15,8 +14,8 @@ entry c = c .before .before
 abbrev passed : tie.After-pack → tie.After-enum-told
 passed c = c .before .before
 
-abbrev packed : tie.After-seen → tie.After-pack
-packed c = c .before .before
+abbrev packed : tie.After-words2 → tie.After-pack
+packed c = c .before
 
 test : (c : tie.After-enum-told)
     → let t = c .before .before in rowTested (entry t .args .rule) (entry t .args .row .now) ≡ Passed (c .enum-told .given .0 .0)
@@ -26,20 +25,20 @@ passes : (c : tie.After-enum-told) → let t = c .before .before in Passes (entr
 passes c = tested _ _ (test c)
 
 pack-requires : tie.Need-pack-requires
-pack-requires c κs = (readable-within _ (passes (c .before) .good) .0, refl)
+pack-requires c κs = (readable-within _ (passes (c .before) .good) .0, (refl, refl))
 
 search-row-requires : tie.Need-search-row-requires
 search-row-requires c κs =
     let k = packed c in
     let s = entry (passed k .before .before) in
     searchable (k .pack .last .1 .0) (s .args .rule .len) (passed k .enum-told .given .0 .0) (s .args .row .now)
-    (packed-passes (passes (passed k)) _ (k .pack .ensures)) (seeing-none 65 (omega arith))
+    (packed-passes (passes (passed k)) _ (k .pack .ensures))
 
 returns : tie.Need-returns
 returns c =
     let k = packed (c .before) in
     let s = entry (passed k .before .before) in
-    ap Found (c .search-row .ensures .fault-is ∙ ap (λ l. firstFault (upperCounts l) (s .args .row .now)) (k .pack .ensures .held))
+    ap Found (c .search-row .ensures .0 .fault-is ∙ ap (λ l. firstFault (upperCounts l) (s .args .row .now)) (k .pack .ensures .held))
     ∙ searched-found (s .args .rule) (s .args .row .now) (test (passed k))
 
 returns-2 : tie.Need-returns-2

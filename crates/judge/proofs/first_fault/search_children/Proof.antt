@@ -1,14 +1,13 @@
 -- The reply to what was read.
 use mathlib.Core.Path.{refl, sym, ap}
-use native.Mathlib.Omega.{arith}
 use borrow.Author.Needs.{needs}
-use Rattle.judge.specs.{Row.Tally.Laws.seeing-none, FirstFault.childrenFault, FirstFault.searchedOf}
+use Rattle.judge.specs.FirstFault.{childrenFault, searchedOf}
 use Rattle.judge.specs.Reply.Read.{read-both, read-fault, reply-model, reply-children, row-searched, fault-searched}
 use Rattle.judge.proofs.first_fault.search_children.Statement.{statement}
 use Rattle.judge.proofs.first_fault.search_children.Tie as tie
 
 read-children-requires : tie.Need-read-children-requires
-read-children-requires c κs = (refl, seeing-none 65 (omega arith))
+read-children-requires c κs = (refl, refl)
 
 returns : tie.Need-returns
 returns c = row-searched (read-both (c .before .before .read-children .ensures) (c .enum-told .given .1))

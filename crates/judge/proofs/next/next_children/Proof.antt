@@ -1,24 +1,23 @@
 -- The reply to what was read.
 use mathlib.Core.Path.{refl}
-use native.Mathlib.Omega.{arith}
 use borrow.Author.Needs.{needs}
-use Rattle.judge.specs.{Row.Tally.Laws.seeing-none, Next.childrenNext}
+use Rattle.judge.specs.Next.{childrenNext}
 use Rattle.judge.specs.Reply.Read.{read-both, read-fault, reply-model, reply-children, row-listed, fault-listed}
 use Rattle.judge.proofs.next.next_children.Statement.{statement}
 use Rattle.judge.proofs.next.next_children.Tie as tie
 
 -- places: the start, where the texts were read, and where both were
 abbrev start : tie.After-read-children → tie.Start
-start c = c .before .before .before .before .before .before
+start c = c .before .before .before .before .before
 
 abbrev read : tie.After-known-told → tie.After-read-children
 read c = c .before .before .before
 
-abbrev known : tie.After-seen2 → tie.After-known-told
-known c = c .before .before
+abbrev known : tie.After-words2 → tie.After-known-told
+known c = c .before
 
 read-children-requires : tie.Need-read-children-requires
-read-children-requires c κs = (refl, seeing-none 65 (omega arith))
+read-children-requires c κs = (refl, refl)
 
 root-next-requires : tie.Need-root-next-requires
 root-next-requires c κs =

@@ -1,10 +1,10 @@
 -- A readable rule is within the limits; the first pass finds a fault, and no name may come, or its tally tells the names, and they are listed.
-use mathlib.Core.List.{List, map}
+use mathlib.Core.{Path._≡_, List.List, List.map}
 use Prim.Native.Nat.{_≤_}
 use native.Mathlib.Omega.{arith}
 use lib.ListN.{take}
 use Rattle.model.specs.declared.rule.Node.{Node}
-use Rattle.judge.specs.{Packed.nodeIn, Row.Tally.Laws.seeing-none, Row.Tally.Laws.fault-told, Row.Code.atoms-within, Row.Code.searchable}
+use Rattle.judge.specs.{Packed.nodeIn, Packed.seenIn, Packed.Laws.same-nodes, Row.Tally.Laws.fault-told, Row.Code.atoms-within, Row.Code.searchable}
 use Rattle.judge.specs.Next.Code.{next-stopped, next-tallied, hands-no-names}
 use borrow.Author.Needs.{needs}
 use Rattle.judge.proofs.next.next_on.Statement.{statement}
@@ -26,13 +26,20 @@ told c = c .before .before
 few : (s : tie.Start) → s .args .names ≤ 64
 few s = atoms-within (nodes s) (s .pre .1 .0 .0) (s .pre .1 .0 .1)
 
+-- the search leaves the nodes as they were
+same : (c : tie.After-search-row) → map nodeIn (take (entry c .args .len) (c .search-row .last .0)) ≡ nodes (entry c)
+same c = same-nodes _ _ (c .search-row .ensures .1) _ (entry c .pre .0 .0)
+
 search-row-requires : tie.Need-search-row-requires
 search-row-requires c κs =
     let s = c .before .before .before in
-    searchable (s .args .words .now) (s .args .len) (s .args .names) (s .args .children .now) (s .pre) (seeing-none 65 (omega arith))
+    searchable (s .args .words .now) (s .args .len) (s .args .names) (s .args .children .now) (s .pre)
 
 root-next-requires : tie.Need-root-next-requires
-root-next-requires c κs = let s = entry (sound (c .before)) in (s .pre .0, (s .pre .1 .0 .1, few s))
+root-next-requires c κs =
+    let f = sound (c .before) in
+    let s = entry f in
+    ((s .pre .0 .0, omega (arith, s .pre .0 .1, f .search-row .ensures .1 .1)), (rw (same f) (s .pre .1 .0 .1), few s))
 
 list-names-requires : tie.Need-list-names-requires
 list-names-requires c κs = few (entry (sound (told (c .before))))
@@ -43,7 +50,7 @@ returns c =
     let s = entry f in
     hands-no-names (s .args .row .now)
     (next-stopped (nodes s) (s .pre .1 .0 .0) (s .args .children .now) (s .pre .1 .0 .1) (s .pre .1 .1 .1)
-    (fault-told (f .search-row .ensures) (c .enum-told .given .1)))
+    (fault-told (f .search-row .ensures .0) (c .enum-told .given .1)))
 
 returns-2 : tie.Need-returns-2
 returns-2 c =
@@ -54,8 +61,9 @@ returns-2 c =
     let e = told b .enum-told2 .given .1 in
     rw (
       b .root-next .ensures,
-      next-tallied (nodes s) (s .pre .1 .0 .0) (s .args .children .now) (s .pre .1 .0 .1) (s .pre .1 .1 .1) (fault-told (f .ensures) e)
-          (f .last .1 .1 .1 .0) (f .ensures .tallied e),
+      same (sound (told b)),
+      next-tallied (nodes s) (s .pre .1 .0 .0) (s .args .children .now) (s .pre .1 .0 .1) (s .pre .1 .1 .1) (fault-told (f .ensures .0) e)
+          (seenIn (f .last .0)) (f .ensures .0 .tallied e),
     )
     at (n .list-names .ensures)
 

@@ -3,9 +3,9 @@ use borrow.Author.Needs.{needs}
 use native.Mathlib.Omega.{arith}
 use mathlib.Core.{Path._≡_, Path.refl, Path.ap, List.List, List.map}
 use Prim.Native.Nat.{ℕ, _-_, _≤_, _+_}
-use lib.ListN.{take, drop, getD}
+use lib.{ListN.take, ListN.drop, ListN.getD, Seq.getD-drop}
 use Rattle.model.specs.{declared.rule.Node.Node, Model.isAtom}
-use Rattle.judge.specs.{declared.tally.Seen.Seen, declared.ahead.Ahead.Ahead, Packed.nodeIn, Packed.kind-node}
+use Rattle.judge.specs.{declared.tally.Seen.Seen, declared.ahead.Ahead.Ahead, Packed.nodeIn, Packed.seenIn, Packed.kind-node}
 use Rattle.judge.specs.Reading.Buffer.{Stores, holds-own}
 use Rattle.judge.specs.{Row.Tally.seenOf, Next.Ahead.emptyAhead, Next.Ahead.aheadBy, Next.Ahead.partAhead, Next.Ahead.Laws.ahead-parts}
 use Rattle.judge.specs.Row.Stack.{part-none, part-turn, name-turn, Evaluated, pass-none, pass-turn, pass-top, pass-empty}
@@ -17,26 +17,27 @@ abbrev nodes : List ℕ → ℕ → List Node
 nodes words n = map nodeIn (take n words)
 
 abbrev Inv-loop2 : tie.InvT-loop2
-Inv-loop2 words len names children seen stack top name i word kind end x₀ at₀ x at =
-    (top ≤ at) × (at ≤ end) × (x ≡ partAhead children kind name (seenOf children (getD seen name 0)) (take (at - top) (drop top stack)))
+Inv-loop2 words len names children stack top name i word kind end x₀ at₀ x at =
+    (top ≤ at) × (at ≤ end) × (x ≡ partAhead children kind name (seenOf children (getD (seenIn words) name 0)) (take (at - top) (drop top stack)))
 
 abbrev μ-loop2 : tie.MeasureT-loop2
-μ-loop2 words len names children seen stack top name i word kind end x₀ at₀ x at = end - at
+μ-loop2 words len names children stack top name i word kind end x₀ at₀ x at = end - at
 
 abbrev Inv-loop : tie.InvT-loop
-Inv-loop words len names children seen stack₀ top₀ name₀ i₀ stack top name i =
+Inv-loop words len names children stack₀ top₀ name₀ i₀ stack top name i =
     (i ≤ len) × (i ≤ top) × (top ≤ 128) × (name ≤ 64)
-    × Evaluated (aheadBy children (λ k. seenOf children (getD seen k 0))) (nodes words len) i stack top name
+    × Evaluated (aheadBy children (λ k. seenOf children (getD (seenIn words) k 0))) (nodes words len) i stack top name
 
 abbrev μ-loop : tie.MeasureT-loop
-μ-loop words len names children seen stack₀ top₀ name₀ i₀ stack top name i = i
+μ-loop words len names children stack₀ top₀ name₀ i₀ stack top name i = i
 
 -- at the start: the nodes held, and what is seen of each name
-held : (c : tie.Start Inv-loop2 μ-loop2 Inv-loop μ-loop) → Stores nodeIn 128 (c .args .words .now) (c .args .len) (nodes (c .args .words .now) (c .args .len))
+held : (c : tie.Start Inv-loop2 μ-loop2 Inv-loop μ-loop)
+    → let words = c .args .words .now in Stores nodeIn 128 (seenIn words) words (c .args .len) (nodes words (c .args .len))
 held c = holds-own (c .pre .0 .1) (c .pre .0 .0)
 
 abbrev seenAt : tie.Start Inv-loop2 μ-loop2 Inv-loop μ-loop → ℕ → Seen
-seenAt c k = seenOf (c .args .children) (getD (c .args .seen .now) k 0)
+seenAt c k = seenOf (c .args .children) (getD (seenIn (c .args .words .now)) k 0)
 
 -- the node of a turn, that turn, and the start
 abbrev node : tie.After-seen-of Inv-loop2 μ-loop2 Inv-loop μ-loop → tie.After-kind-in Inv-loop2 μ-loop2 Inv-loop μ-loop
@@ -63,7 +64,7 @@ begin-ahead-requires c κs = (named (node c), turn (node c) .loop .inv .3)
 loop2-holds : tie.Need-loop2-holds Inv-loop2 μ-loop2 Inv-loop μ-loop
 loop2-holds c =
     let l = turn (node (c .before)) in
-    let b = rw (c .before .seen-of .ensures) at (c .begin-ahead .ensures) in
+    let b = rw (c .before .seen-of .ensures, ← getD-drop 128 (start l .args .words .now) (l .loop .name) 0) at (c .begin-ahead .ensures) in
     (search needs, omega arith, part-none (ahead-parts _ (seenAt (start l))) (l .loop .stack) (l .loop .top) b)
 
 loop2-again : tie.Need-loop2-again Inv-loop2 μ-loop2 Inv-loop μ-loop
@@ -122,6 +123,7 @@ root-next-spec =
     (λ c κs. search needs)
     (λ c. search needs)
     (λ c κs. search needs)
+    (λ c. search needs)
     (λ c. search needs)
     (λ c. search needs)
     (λ c. search needs)

@@ -1,20 +1,19 @@
 -- Whatever was read of the children, the outcome is that of the model text.
 use mathlib.Core.Path.{_≡_, refl, sym, ap, _∙_}
-use native.Mathlib.Omega.{arith}
 use borrow.Author.Needs.{needs}
-use Rattle.judge.specs.{declared.reply.ChildrenRead.ChildrenRead, Row.Tally.Laws.seeing-none, Reading.reading}
+use Rattle.judge.specs.{declared.reply.ChildrenRead.ChildrenRead, Reading.reading}
 use Rattle.judge.specs.Reply.Read.{outcomeOf, outcome-told}
 use Rattle.judge.proofs.reading.model_outcome.Statement.{statement}
 use Rattle.judge.proofs.reading.model_outcome.Tie as tie
 
 abbrev start : tie.After-read-children → tie.Start
-start r = r .before .before .before .before .before
+start r = r .before .before .before .before
 
 told : (r : tie.After-read-children) {x : ChildrenRead} → r .read-children .result ≡ x → outcomeOf x ≡ reading (start r .args .text .now) .outcome
 told r e = sym (ap outcomeOf e) ∙ outcome-told (r .read-children .ensures)
 
 read-children-requires : tie.Need-read-children-requires
-read-children-requires c κs = (refl, seeing-none 65 (omega arith))
+read-children-requires c κs = (refl, refl)
 
 returns : tie.Need-returns
 returns c = told (c .before .before) (c .enum-told .given .1)

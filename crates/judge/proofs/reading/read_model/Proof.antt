@@ -1,6 +1,7 @@
 -- By the reading of the whole text into arrays.
 use mathlib.Core.Path.{_∙_}
 use Rattle.judge.specs.Reading.Whole.{Whole, whole-past, refused-is, reading-is}
+use native.Mathlib.Omega.{arith}
 use borrow.Author.Needs.{needs}
 use Rattle.judge.proofs.reading.read_model.Statement.{statement}
 use Rattle.judge.proofs.reading.read_model.Tie as tie
@@ -15,7 +16,7 @@ whole : (c : tie.After-past)
 whole c = whole-past (c .before .before .read-whole .ensures) (c .past .given .1)
 
 unpack-requires : tie.Need-unpack-requires
-unpack-requires c κs = let w = whole (c .before .before) in (w .nodes .few, w .nodes .whole)
+unpack-requires c κs = let w = whole (c .before .before) in (w .nodes .few, omega (arith, w .nodes .whole))
 
 names-of-requires : tie.Need-names-of-requires
 names-of-requires c κs = let w = whole (c .before .before .before .before) in (w .tabled .few, w .named .held .whole)

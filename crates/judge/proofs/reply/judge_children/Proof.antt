@@ -1,8 +1,7 @@
 -- The reply to what was read.
 use mathlib.Core.Path.{refl, sym, ap}
-use native.Mathlib.Omega.{arith}
 use borrow.Author.Needs.{needs}
-use Rattle.judge.specs.{Row.Tally.Laws.seeing-none, Reply.childrenReply, Reply.judgedOf}
+use Rattle.judge.specs.Reply.{childrenReply, judgedOf}
 use Rattle.judge.specs.Reply.Read.{read-both, read-fault, reply-model, reply-children, row-judged, fault-judged}
 use Rattle.judge.proofs.reply.judge_children.Statement.{statement}
 use Rattle.judge.proofs.reply.judge_children.Tie as tie
@@ -11,11 +10,11 @@ use Rattle.judge.proofs.reply.judge_children.Tie as tie
 abbrev read : tie.After-known-told → tie.After-read-children
 read c = c .before .before .before
 
-abbrev known : tie.After-seen2 → tie.After-known-told
-known c = c .before .before
+abbrev known : tie.After-words2 → tie.After-known-told
+known c = c .before
 
 read-children-requires : tie.Need-read-children-requires
-read-children-requires c κs = (refl, seeing-none 65 (omega arith))
+read-children-requires c κs = (refl, refl)
 
 verdict-by-requires : tie.Need-verdict-by-requires
 verdict-by-requires c κs =

@@ -1,11 +1,12 @@
 -- Child behind child: those passed are names and not at fault, and they are seen.
-use mathlib.Core.{Path._≡_, Path.sym, Path.ap, Path._∙_, Bool.true, List.List, List.[]}
+use mathlib.Core.{Path._≡_, Path.refl, Path.sym, Path.ap, Path._∙_, Bool.true, List.List, List.[]}
 use Prim.Native.Nat.{_+_, _-_, _≤_}
 use native.Mathlib.Omega.{arith}
 use lib.ListN.{length, take, drop, getD}
 use borrow.Author.{Needs.needs, Tests.ltb-true, Tests.ltb-false}
 use Rattle.fields.specs.Bytes.{Text, isInitial}
 use Rattle.model.specs.{declared.rule.Upper.Upper, Syntax.numberIn}
+use Rattle.judge.specs.Packed.{seenIn, SameNodes, Laws.seen-at, Laws.seen-set, Laws.same-set}
 use Rattle.judge.specs.{Named.rowOf, Reading.Laws.last-number, Reply.childrenIn}
 use Rattle.judge.specs.Reply.Children.{ChildrenPassed, row-whole, no-row}
 use Rattle.judge.specs.Reading.Table.{keyOf, partsIn, lastIn}
@@ -16,12 +17,12 @@ use Rattle.judge.proofs.reply.tally_children.Statement.{statement}
 use Rattle.judge.proofs.reply.tally_children.Tie as tie
 
 abbrev Inv-loop : tie.InvT-loop
-Inv-loop model names n heads children seen₀ count₀ at₀ seen count at =
-    ChildrenPassed children count at
-    × ((us : List Upper) → Seeing us [] seen₀ → RowPassed us (rowOf (partsIn model names n) (childrenIn children)) count seen)
+Inv-loop model names n heads children words₀ count₀ at₀ words count at =
+    ChildrenPassed children count at × SameNodes words₀ words
+    × ((us : List Upper) → Seeing us [] (seenIn words₀) → RowPassed us (rowOf (partsIn model names n) (childrenIn children)) count (seenIn words))
 
 abbrev μ-loop : tie.MeasureT-loop
-μ-loop model names n heads children seen₀ count₀ at₀ seen count at = length children + 1 - at
+μ-loop model names n heads children words₀ count₀ at₀ words count at = length children + 1 - at
 
 -- places: the start, the loop's head, and where the child is known to be a name and looked up
 abbrev entry : tie.At-loop Inv-loop μ-loop → tie.Start Inv-loop μ-loop
@@ -31,7 +32,7 @@ abbrev turn : tie.After-is-child Inv-loop μ-loop → tie.In-loop Inv-loop μ-lo
 turn c = c .before .before .before .before
 
 abbrev known : tie.After-look-up Inv-loop μ-loop → tie.Then2 Inv-loop μ-loop
-known c = c .before .before .before
+known c = c .before .before
 
 abbrev start : tie.Then2 Inv-loop μ-loop → tie.Start Inv-loop μ-loop
 start c = entry (turn (c .before) .before)
@@ -63,11 +64,11 @@ few : (c : tie.In-loop Inv-loop μ-loop) → c .before .loop .count ≤ 32768
 few c = omega (arith, c .before .loop .inv .0 .apart, c .loop-test .taken, entry (c .before) .pre .1 .1)
 
 -- one further child may have the name
-free : (c : tie.Else3 Inv-loop μ-loop) → let f = found (c .before) in oneLeft ≤ getD (head f .loop .seen) (f .look-up .result) 0
+free : (c : tie.Else3 Inv-loop μ-loop) → let f = found (c .before) in oneLeft ≤ getD (head f .loop .words) (128 + f .look-up .result) 0
 free c = ltb-false _ _ (sym (c .before .is-full .ensures) ∙ c .if3 .left)
 
 loop-holds : tie.Need-loop-holds Inv-loop μ-loop
-loop-holds c = let s = c .before .before in (walk-starts (s .args .children .now) (s .pre .1 .0), λ us t. row-starts _ t)
+loop-holds c = let s = c .before .before in (walk-starts (s .args .children .now) (s .pre .1 .0), (refl, refl), λ us t. row-starts _ t)
 
 -- a name begins there
 initial : (c : tie.Then1 Inv-loop μ-loop)
@@ -78,11 +79,12 @@ name-begins-requires : tie.Need-name-begins-requires Inv-loop μ-loop
 name-begins-requires c κs = search needs
 
 returns : tie.Need-returns Inv-loop μ-loop
-returns c us _ =
+returns c =
     let t = c .before .before in
     let h = t .before in
     let x = entry h .args .children .now in
-    no-row (walk-stops x (h .loop .inv .0) (t .loop-test .taken) (child-unnamed x (h .loop .at) (sym (c .before .name-begins .ensures) ∙ c .if1 .left)))
+    let unnamed = child-unnamed x (h .loop .at) (sym (c .before .name-begins .ensures) ∙ c .if1 .left) in
+    (λ us _. no-row (walk-stops x (h .loop .inv .0) (t .loop-test .taken) unnamed), h .loop .inv .1)
 
 name-end-requires : tie.Need-name-end-requires Inv-loop μ-loop
 name-end-requires c κs = initial c
@@ -91,32 +93,33 @@ is-child-requires : tie.Need-is-child-requires Inv-loop μ-loop
 is-child-requires c κs = (initial (c .before), c .name-end .ensures)
 
 returns-2 : tie.Need-returns-2 Inv-loop μ-loop
-returns-2 c us _ =
+returns-2 c =
     let t = turn (c .before) in
     let h = t .before in
-    no-row (walk-stops (entry h .args .children .now) (h .loop .inv .0) (t .loop-test .taken) (sym (c .before .is-child .ensures) ∙ c .if2 .left))
-
-slot-of-requires : tie.Need-slot-of-requires Inv-loop μ-loop
-slot-of-requires c κs = search needs
+    let unnamed = sym (c .before .is-child .ensures) ∙ c .if2 .left in
+    (λ us _. no-row (walk-stops (entry h .args .children .now) (h .loop .inv .0) (t .loop-test .taken) unnamed), h .loop .inv .1)
 
 sub-look-up : tie.Need-sub-look-up Inv-loop μ-loop
-sub-look-up c = omega (arith, met (c .before) .bounds)
+sub-look-up c = omega (arith, met c .bounds)
 
 part-look-up-start : tie.Need-part-look-up-start Inv-loop μ-loop
-part-look-up-start c = omega (arith, met (c .before) .bounds)
+part-look-up-start c = omega (arith, met c .bounds)
 
 part-look-up-end : tie.Need-part-look-up-end Inv-loop μ-loop
-part-look-up-end c = met (c .before) .bounds .1
+part-look-up-end c = met c .bounds .1
 
 look-up-requires : tie.Need-look-up-requires Inv-loop μ-loop
 look-up-requires c κs =
-    let t = c .before .before in
+    let t = c .before in
     let m = met t in
     let key = t .before .before .name-end .ensures .key-is ∙ ap keyOf (sym (m .part-is ∙ m .name-is)) in
-    (start t .pre .0 .0, (key, c .before .slot-of .ensures .0, c .before .slot-of .ensures .1))
+    (start t .pre .0 .0, key)
 
 cast-number : tie.Need-cast-number Inv-loop μ-loop
 cast-number c = search needs
+
+add-word : tie.Need-add-word Inv-loop μ-loop
+add-word c = omega (arith, c .look-up .ensures .1)
 
 mul-word : tie.Need-mul-word Inv-loop μ-loop
 mul-word c = omega (arith, c .look-up .ensures .1)
@@ -133,18 +136,20 @@ stopped-requires c κs =
     (met t .bounds .1, start t .pre .1 .1, omega (arith, few (turn (t .before))))
 
 returns-3 : tie.Need-returns-3 Inv-loop μ-loop
-returns-3 c us t =
+returns-3 c =
     let u = c .before .before in
     let f = found u in
     let k = known f in
     let s = start k in
     let p = head f .loop .inv in
-    let h = turn (k .before) .loop-test .taken in
-    rw (c .stopped .ensures)
-    (walk-faulty (s .args .children .now) (p .0) h (met k) us (texts s) _
-    (row-stops (p .1 us t) (walk-inside (s .args .children .now) (p .0) h (met k) (texts s)) (omega (arith, few (turn (k .before))))
-    (walk-number (s .args .children .now) (p .0) h (met k) (texts s) (number-is f)) (f .look-up .ensures .1)
-    (ltb-true _ _ (sym (u .is-full .ensures) ∙ c .before .if3 .taken))))
+    let h = turn (k .before) .loop-test .taken in (
+      λ us t. rw (c .stopped .ensures)
+          (walk-faulty (s .args .children .now) (p .0) h (met k) us (texts s) _
+          (row-stops (p .2 us t) (walk-inside (s .args .children .now) (p .0) h (met k) (texts s)) (omega (arith, few (turn (k .before))))
+          (walk-number (s .args .children .now) (p .0) h (met k) (texts s) (number-is f)) (f .look-up .ensures .1)
+          (rw (seen-at (head f .loop .words) (f .look-up .result)) (ltb-true _ _ (sym (u .is-full .ensures) ∙ c .before .if3 .taken))))),
+      p .1,
+    )
 
 cast-noted : tie.Need-cast-noted Inv-loop μ-loop
 cast-noted c = omega (arith, few (turn (known (found (c .before)) .before)))
@@ -152,11 +157,14 @@ cast-noted c = omega (arith, few (turn (known (found (c .before)) .before)))
 noted-requires : tie.Need-noted-requires Inv-loop μ-loop
 noted-requires c κs = free c
 
-mul-seen : tie.Need-mul-seen Inv-loop μ-loop
-mul-seen c = omega (arith, found (c .before .before) .look-up .ensures .1)
+add-words : tie.Need-add-words Inv-loop μ-loop
+add-words c = omega (arith, found (c .before .before) .look-up .ensures .1)
 
-element-write-seen : tie.Need-element-write-seen Inv-loop μ-loop
-element-write-seen c = omega (arith, found (c .before .before) .look-up .ensures .1)
+mul-words : tie.Need-mul-words Inv-loop μ-loop
+mul-words c = omega (arith, found (c .before .before) .look-up .ensures .1)
+
+element-write-words : tie.Need-element-write-words Inv-loop μ-loop
+element-write-words c = omega (arith, found (c .before .before) .look-up .ensures .1)
 
 add-count : tie.Need-add-count Inv-loop μ-loop
 add-count c = omega (arith, few (turn (known (found (c .before .before)) .before)))
@@ -173,23 +181,31 @@ loop-again c =
     let k = known f in
     let s = start k in
     let p = head f .loop .inv in
-    let h = turn (k .before) .loop-test .taken in (
+    let h = turn (k .before) .loop-test .taken in
+    let w = head f .loop .words in
+    let e = seen-at w (f .look-up .result) in (
       walk-goes (s .args .children .now) (p .0) h (met k),
-      λ us t. row-goes (p .1 us t) (walk-inside (s .args .children .now) (p .0) h (met k) (texts s)) (omega (arith, few (turn (k .before))))
-          (walk-number (s .args .children .now) (p .0) h (met k) (texts s) (number-is f)) (f .look-up .ensures .1) (free (c .before)) (c .noted .ensures),
+      same-set (s .args .words .now) w (p .1) (f .look-up .result) (c .noted .result),
+      λ us t. rw (seen-set w (f .look-up .result) (c .noted .result))
+          (row-goes (p .2 us t) (walk-inside (s .args .children .now) (p .0) h (met k) (texts s)) (omega (arith, few (turn (k .before))))
+          (walk-number (s .args .children .now) (p .0) h (met k) (texts s) (number-is f)) (f .look-up .ensures .1)
+          (rw e (free (c .before))) (rw e (c .noted .ensures))),
     )
 
 returns-4 : tie.Need-returns-4 Inv-loop μ-loop
-returns-4 c us t =
+returns-4 c =
     let h = c .before .before in
     let s = entry h in
     let p = h .loop .inv in
     let n = walk-all (s .args .children .now) (p .0) (c .before .loop-test .left) (texts s) in
-    row-whole (walk-few (s .args .children .now) (p .0) (c .before .loop-test .left) (c .if4 .taken))
-    (row-ends (p .1 us t) (omega (arith, n)) (omega (arith, n, c .if4 .taken)))
+    let all = walk-few (s .args .children .now) (p .0) (c .before .loop-test .left) (c .if4 .taken) in
+    (λ us t. row-whole all (row-ends (p .2 us t) (omega (arith, n)) (omega (arith, n, c .if4 .taken))), p .1)
 
 returns-5 : tie.Need-returns-5 Inv-loop μ-loop
-returns-5 c us t = let h = c .before .before in no-row (walk-many (entry h .args .children .now) (h .loop .inv .0) (c .before .loop-test .left) (c .if4 .left))
+returns-5 c =
+    let h = c .before .before in
+    let many = walk-many (entry h .args .children .now) (h .loop .inv .0) (c .before .loop-test .left) (c .if4 .left) in
+    (λ us t. no-row many, h .loop .inv .1)
 
 pub tally-children-spec : {M : Type 1} → statement M
 tally-children-spec =
@@ -203,12 +219,12 @@ tally-children-spec =
     name-end-requires
     is-child-requires
     returns-2
-    slot-of-requires
     sub-look-up
     part-look-up-start
     part-look-up-end
     look-up-requires
     cast-number
+    add-word
     mul-word
     element-copy-out-word
     is-full-requires
@@ -216,8 +232,9 @@ tally-children-spec =
     returns-3
     cast-noted
     noted-requires
-    mul-seen
-    element-write-seen
+    add-words
+    mul-words
+    element-write-words
     add-count
     add-at
     loop-less

@@ -10,54 +10,44 @@ use Rattle.judge.proofs.table.look_up.Statement.{statement}
 use Rattle.judge.proofs.table.look_up.Tie as tie
 
 -- places: the start, and where the latest name is tried
-abbrev start : tie.After-k → tie.Start
+abbrev start : tie.After-slot-of → tie.Start
 start c = c .before .before .before
 
-abbrev tried : tie.Then1 → tie.After-k
-tried c = c .before .before
+abbrev tried : tie.Then1 → tie.After-slot-of
+tried c = c .before .before .before
 
-begun : (s : tie.Start)
-    → Entered (partsIn (s .args .text .now) (s .args .names .now) (s .args .n)) (s .args .name .now) (getD (s .args .heads .now) (s .args .slot) 0)
-begun s = slot-starts (s .pre .0) (s .pre .1)
+begun : (c : tie.After-slot-of)
+    → let a = start c .args in Entered (partsIn (a .text .now) (a .names .now) (a .n)) (a .name .now) (getD (a .heads .now) (c .slot-of .result) 0)
+begun c = let s = start c in slot-starts (s .pre .0) (s .pre .1, c .slot-of .ensures .0, c .slot-of .ensures .1)
 
-few : (s : tie.Start) → getD (s .args .heads .now) (s .args .slot) 0 ≤ maxAtoms
-few s = walk-fits (s .pre .0) (begun s)
-
-element-copy-out-k : tie.Need-element-copy-out-k
-element-copy-out-k c = search needs
-
-cast-k : tie.Need-cast-k
-cast-k c = omega (arith, few (start c))
-
-told-by-key-requires : tie.Need-told-by-key-requires
-told-by-key-requires c κs = few (start c)
-
-cast-result : tie.Need-cast-result
-cast-result c = omega (arith, few (start (tried c)))
+few : (c : tie.After-slot-of) → getD (start c .args .heads .now) (c .slot-of .result) 0 ≤ maxAtoms
+few c = walk-fits (start c .pre .0) (begun c)
 
 returns : tie.Need-returns
 returns c =
-    let t = tried c .before in
-    let s = start (tried c) in (
-      told-ends (s .pre .0) (begun s) (c .before .told-by-key .ensures (c .if1 .taken)) (s .pre .1 .0)
-          (λ i. omega (arith, t .before .shared-slice-known .given i)) (λ i. omega (arith, t .shared-slice-known2 .given i)),
-      few s,
+    let t = tried c in
+    let k = t .before in
+    let s = start t in (
+      told-ends (s .pre .0) (begun t) (c .before .told-by-key .ensures (c .if1 .taken)) (s .pre .1)
+          (λ i. omega (arith, k .before .shared-slice-known .given i)) (λ i. omega (arith, k .shared-slice-known2 .given i)),
+      few t,
     )
 
 find-requires : tie.Need-find-requires
-find-requires c κs = search needs
-
-returns-2 : tie.Need-returns-2
-returns-2 c = search needs
+find-requires c κs =
+    let t = c .before .before .before in
+    let s = start t in
+    (s .pre .0, (s .pre .1, t .slot-of .ensures .0, t .slot-of .ensures .1))
 
 pub look-up-spec : {M : Type 1} → statement M
 look-up-spec =
     tie.close
     (tie.spec
-    element-copy-out-k
-    cast-k
-    told-by-key-requires
-    cast-result
+    (λ c κs. search needs)
+    (λ c. c .slot-of .ensures .1)
+    (λ c. omega (arith, few (c .before)))
+    (λ c κs. few (c .before))
+    (λ c. omega (arith, few (tried c)))
     returns
     find-requires
-    returns-2)
+    (λ c. search needs))
