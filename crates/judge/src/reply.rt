@@ -144,8 +144,8 @@ pub(crate) enum ChildrenRead {
     ChildrenRefused(CueFault),
 }
 
-// Reads the model text into the words of its nodes, and what is seen of each name in the children, a field each, into the other array, which holds
-// zeros; or gives the model text's refusal with its place, or the children's. No bytes are no children.
+// Reads the model text into the numbers of its nodes and puts behind them, where zeros stand, what is seen of each name in the children, a field each; or
+// gives the model text's refusal with its place, or the children's. No bytes are no children.
 pub(crate) fn read_children(model: &[u8], children: &[u8], words: &mut [u64; WORDS]) -> ChildrenRead
     requires { ⌜ Fresh (now words) ⌝ }
     ensures { λ r. ⌜ TextsRead (now (model .entry)) (now (children .entry)) (now (words .exit)) (seenIn (now (words .exit))) r ⌝ }

@@ -22,7 +22,7 @@ pub(crate) struct Seen {
     pub(crate) behind: u16,
 }
 
-// What is seen of a name stands in an array as one number, of four times 16 bits: how many further children may have the name, how many have it,
+// What is seen of a name stands behind the nodes as one number, of four times 16 bits: how many further children may have the name, how many have it,
 // the first place, and one past the last. A name that was not seen stands behind no place.
 const LEFT: u64 = 281474976710656;
 
@@ -53,7 +53,8 @@ fn limited(kind: Kind, word: u64) -> u64
     }
 }
 
-// The upper count of each name goes into the array, by the name's number. At first it holds zeros, and place 0 stays so: no foreign child is allowed.
+// The upper count of each name goes behind the nodes, by the name's number. Zeros stand there at first, and the first of them stays: no foreign child is
+// allowed.
 pub(crate) fn limit_names(words: &mut [u64; WORDS], len: usize)
     requires { ⌜ (len ≤ maxNodes) × (maxNodes ≤ length (now words)) ⌝ }
     requires { ⌜ (atomsIn (map nodeIn (take len (now words))) ≤ maxAtoms) × Seeing [] [] (seenIn (now words)) ⌝ }
@@ -112,7 +113,7 @@ pub(crate) fn noted(word: u64, i: u16) -> u64
     word - LEFT - behind + COUNT + first + (i as u64) + 1
 }
 
-// What is seen of each name goes into the array, which holds the upper counts of the names, up to the first child that is foreign or one too many of
+// What is seen of each name goes behind the nodes, where the upper counts of the names stand, up to the first child that is foreign or one too many of
 // its name.
 fn tally_row(row: &[u16], words: &mut [u64; WORDS]) -> FirstFault
     requires { ⌜ (length (now row) ≤ maxRow) × (upto maxAtoms (now row) ≡ true) ⌝ }
@@ -132,7 +133,7 @@ fn tally_row(row: &[u16], words: &mut [u64; WORDS]) -> FirstFault
     FirstFault::Nothing
 }
 
-// The first pass over a row, by the first len nodes. The array holds zeros at first.
+// The first pass over a row, by the first len nodes. Zeros stand behind the nodes at first.
 pub(crate) fn search_row(words: &mut [u64; WORDS], len: usize, row: &[u16]) -> FirstFault
     requires { ⌜ (len ≤ maxNodes) × (maxNodes ≤ length (now words)) ⌝ }
     requires { ⌜ (atomsIn (map nodeIn (take len (now words))) ≤ maxAtoms) × Seeing [] [] (seenIn (now words)) ⌝ }
