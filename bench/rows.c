@@ -12,6 +12,7 @@ enum {
     MANY_LONG = 1985, /* children of the longest name: more have no room in a children text */
     OPEN = 64,        /* brackets at once */
     DEPTH = 16,       /* groups around a name, after flattening */
+    NESTED = 32,      /* groups that flattening joins */
 };
 
 static const char ANY[] = "[0..*]", ONCE[] = "";
@@ -250,8 +251,7 @@ static void smallest(struct row *row)
     put(&row->children, "a");
 }
 
-/* As many brackets as may be open at once: shows what a bracket takes to read, and in the walk that
-   counts the depth, which is for models with over 16 brackets open. */
+/* As many brackets as may be open at once: shows what a bracket takes to read. */
 static void name_in_brackets(struct row *row)
 {
     put_times(&row->model, "(", OPEN);
@@ -261,8 +261,7 @@ static void name_in_brackets(struct row *row)
 }
 
 /* Sequence and choice in turn, as deep as a model may be, and around each group one more bracket or
-   two, as an exporter writes them: 40 are open at once. Shows the same walk where groups stay; the
-   children go down to the innermost one. */
+   two, as an exporter writes them: 40 are open at once. The children go down to the innermost. */
 static void wrapped_groups(struct row *row)
 {
     size_t open = 0;
@@ -278,6 +277,19 @@ static void wrapped_groups(struct row *row)
     put(&row->model, WORDS.name[DEPTH]);
     put_times(&row->model, ")", open);
     add_child(row, WORDS.name[DEPTH]);
+}
+
+/* Each with a name and the next one in it: they are one sequence. Shows the walk that counts the
+   depth, which is for models with over 16 groups of two members or more, one inside the other. */
+static void nested_sequences(struct row *row)
+{
+    for (int i = 0; i <= NESTED; i++) {
+        put(&row->model, i < NESTED ? "(" : "");
+        put(&row->model, WORDS.name[i]);
+        put(&row->model, i < NESTED ? "," : "");
+        add_child(row, WORDS.name[i]);
+    }
+    put_times(&row->model, ")", NESTED);
 }
 
 static void numbers(struct row *row) { disorder(row, numbered("name", 2), MANY); }
@@ -343,6 +355,7 @@ static const struct {
     {"model a, child a", 0, smallest},
     {"64 brackets round one name", 0, name_in_brackets},
     {"16 groups inside 40 brackets", 0, wrapped_groups},
+    {"32 sequences, one inside the other", 0, nested_sequences},
     {"name01 to name64, 4,096 children", 0, numbers},
     {"name01 to name64, foreign at the first", 2, numbers_foreign_at_first},
     {"name01 to name64, second one too many", 2, numbers_second_too_many},

@@ -11,7 +11,7 @@ struct row {
 };
 
 /* The last rows have names of one slot, or of one key. */
-enum { ROWS = 26, FIRST_OF_ONE_SLOT = 24, MOST_NAMES = 64 };
+enum { ROWS = 27, FIRST_OF_ONE_SLOT = 25, MOST_NAMES = 64 };
 
 /* Row i, from 0. */
 void make_row(struct row *row, int i);
