@@ -3,6 +3,7 @@
 mod ahead;
 mod attribute;
 mod cursor;
+mod depth;
 pub mod fault;
 pub mod first_fault;
 mod lexeme;

@@ -3,9 +3,10 @@
 pub mod Laws
 use mathlib.Core.Bool.{Bool, true, false, cond, not, _&&_, _||_}
 use mathlib.Core.List.{List, [], _∷_}
-use Prim.Native.Nat.{ℕ, _+_, _-_, max, min}
-use lib.{Dec.ltb, ListN.getD}
-use Rattle.model.specs.{declared.rule.Sign.Sign, declared.rule.Sign.the-variants.None, declared.rule.Mark.Mark, declared.rule.Kind.Kind}
+use Prim.Native.Nat.{ℕ, _+_, _-_, _/_, _%_, max, min}
+use lib.{Dec.ltb, Dec.eqb, ListN.getD}
+use Rattle.model.specs.{declared.rule.Sign.Sign, declared.rule.Mark.Mark, declared.rule.Kind.Kind}
+use Rattle.model.specs.declared.rule.Sign.the-variants.{None, Sequence, Choice, Interleaving}
 use Rattle.model.specs.{declared.rule.Rule.Rule, declared.depth.Flat.Flat, Rule.used, Flatten.sameSign, Flatten.droppedMark, Model.Algebra, Model.eval}
 use Rattle.model.specs.declared.rule.Kind.the-variants.{Atom, Group}
 use Rattle.model.specs.Tree.{isPlain}
@@ -62,9 +63,19 @@ abbrev pub flatPart : Kind → Bool → Flat → Flat
 flatPart (Atom lo hi) b x = atomFlat
 flatPart (Group s n) b x = closedBy s b x
 
+abbrev pub flatNode : Kind → Mark → List Flat → Flat
+flatNode κ m l = overBy m (flatPart κ (someEmpty l) (gatheredBy (signIn κ) l))
+
 abbrev pub flatBy : Algebra Flat
 flatBy = record { onAtom = λ k lo hi. atomFlat; onGroup = λ k s l. groupBy s l; onMark = overBy }
 
 -- no more than one over the limit of brackets
 abbrev pub ruleDepth : Rule → ℕ
 ruleDepth r = getD (eval flatBy (used r) 0) 0 nilFlat .depth
+
+-- what is kept of a tree, in one number, so that a stack of them can be lent
+abbrev pub signNumbered : ℕ → Sign
+signNumbered n = cond (eqb n 0) None (cond (eqb n 1) Sequence (cond (eqb n 2) Choice Interleaving))
+
+unfoldable pub flatIn : ℕ → Flat
+flatIn n = record { sign = signNumbered (n % 4); marked = eqb (n / 4 % 2) 1; empty = eqb (n / 8 % 2) 1; depth = n / 16 % 256 }

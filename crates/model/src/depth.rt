@@ -1,7 +1,8 @@
 // The depth of a rule: the most groups around an atom, after flattening. One pass over the nodes finds it.
 
-ghost use mathlib.Core.Path.{_≡_};
-ghost use Rattle.model.specs.Depth.{nilFlat, mergesBy, bringsBy, besideBy, overBy, closedBy, signIn, flatPart, ruleDepth};
+ghost use mathlib.Core.{Path._≡_, Bool.cond, List.map};
+ghost use Rattle.model.specs.Depth.{nilFlat, mergesBy, bringsBy, besideBy, overBy, closedBy, signIn, flatPart, flatNode, ruleDepth};
+ghost use Rattle.model.specs.Depth.{signNumbered, flatIn};
 ghost use Rattle.model.specs.Flatten.{signNumber, sameSign};
 use crate::check::larger;
 use crate::check::members_of;
@@ -16,11 +17,11 @@ use fields::limits::lesser;
 
 // What is kept of a flattened tree: the sign between its members, whether it has a mark, whether it is `()`, and the most groups around an atom of it,
 // itself among them.
-pub(crate) struct Flat {
-    pub(crate) sign: Sign,
-    pub(crate) marked: bool,
-    pub(crate) empty: bool,
-    pub(crate) depth: u8,
+pub struct Flat {
+    pub sign: Sign,
+    pub marked: bool,
+    pub empty: bool,
+    pub depth: u8,
 }
 
 fn nil() -> Flat
@@ -133,12 +134,78 @@ fn part(kind: Kind, dropped: bool, x: Flat) -> Flat
     }
 }
 
+fn numbered_sign(number: u16) -> Sign
+    ensures { λ r. ⌜ r ≡ signNumbered number ⌝ }
+{
+    if number == 0 {
+        return Sign::None;
+    }
+    if number == 1 {
+        return Sign::Sequence;
+    }
+    if number == 2 {
+        return Sign::Choice;
+    }
+    Sign::Interleaving
+}
+
+fn flat_in(number: u16) -> Flat
+    ensures { λ r. ⌜ r ≡ flatIn number ⌝ }
+{
+    Flat {
+        sign: numbered_sign(number % 4),
+        marked: number / 4 % 2 == 1,
+        empty: number / 8 % 2 == 1,
+        depth: (number / 16 % 256) as u8,
+    }
+}
+
+fn only_if(test: bool, n: u16) -> u16
+    ensures { λ r. ⌜ r ≡ cond test n 0 ⌝ }
+{
+    if test { n } else { 0 }
+}
+
+fn flat_number(x: Flat) -> u16
+    ensures { λ r. ⌜ flatIn r ≡ x ⌝ }
+{
+    let sign = x.sign;
+    let number = sign_number(sign);
+    let marked = only_if(x.marked, 4);
+    let empty = only_if(x.empty, 8);
+    (x.depth as u16) * 16 + (number as u16) + marked + empty
+}
+
+// What is kept of a node, in one number, by what is kept of its members, the last of which is looked at first.
+pub fn flat_node(kind: Kind, mark: Mark, members: &[u16]) -> u16
+    ensures { λ r. ⌜ flatIn r ≡ flatNode kind mark (map flatIn (now (members .entry))) ⌝ }
+{
+    let sign = sign_of(kind);
+    let mut x = nil();
+    let mut dropped = false;
+    let mut at = members.len();
+    while 0 < at {
+        at -= 1;
+        let y = flat_in(members[at]);
+        dropped = y.empty | dropped;
+        x = beside(sign, y, x);
+    }
+    flat_number(over(mark, part(kind, dropped, x)))
+}
+
+pub fn flat_depth(number: u16) -> u8
+    ensures { λ r. ⌜ r ≡ flatIn number .depth ⌝ }
+{
+    let x = flat_in(number);
+    x.depth
+}
+
 // The depth, no more than one over the limit of brackets. Nodes from the last to the first: what is kept of the trees that are read stands on a stack that
-// grows down, and a group takes its members from it, the last first.
+// grows down, and a group takes its members from it.
 pub fn depth(rule: Rule) -> u8
     ensures { λ r. ⌜ r ≡ ruleDepth rule ⌝ }
 {
-    let mut stack = [nil(); MAX_NODES];
+    let mut stack = [0u16; MAX_NODES];
     let mut top = MAX_NODES;
     let mut i = lesser(rule.len, MAX_NODES);
     while 0 < i {
@@ -146,23 +213,13 @@ pub fn depth(rule: Rule) -> u8
         let node = rule.nodes[i];
         let kind = node.kind;
         let mark = node.mark;
-        let sign = sign_of(kind);
         let end = lesser(members_of(kind), MAX_NODES - top) + top;
-        let mut x = nil();
-        let mut dropped = false;
-        let mut at = end;
-        while top < at {
-            at -= 1;
-            let y = stack[at];
-            dropped = y.empty | dropped;
-            x = beside(sign, y, x);
-        }
+        let flat = flat_node(kind, mark, &stack[top..end]);
         top = end - 1;
-        stack[top] = over(mark, part(kind, dropped, x));
+        stack[top] = flat;
     }
     if top < MAX_NODES {
-        let root = stack[top];
-        return root.depth;
+        return flat_depth(stack[top]);
     }
     0
 }

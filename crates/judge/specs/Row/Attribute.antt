@@ -4,6 +4,7 @@ use mathlib.Core.{Path._≡_, Path.refl, Bool.Bool, Bool.true, Bool.false, Bool.
 use Prim.Native.Nat.{ℕ, zero, suc, _+_, _*_, _/_, _%_, _≤_, _<_, min, max}
 use native.Mathlib.Omega.{arith}
 use lib.{Dec.leb, Dec.ltb, Dec.eqb, ListN.length}
+use Rattle.fields.specs.Tests.{bit-under, bit-is}
 use Rattle.model.specs.{declared.rule.Upper.Upper, declared.rule.Sign.Sign, declared.rule.Mark.Mark, Word.Word, Word.only, Word.count, Word.touched}
 use Rattle.model.specs.declared.rule.Mark.the-variants.{Plain, Optional, Nonempty}
 use Rattle.model.specs.Word.Span.{firstPlace, lastBehind, first-untouched, behind-untouched, touched-behind, ordered-span, first-either, behind-either}
@@ -26,21 +27,12 @@ attributeIn w =
 abbrev pub attributeWord : Attribute → ℕ
 attributeWord x = x .first + x .behind * 65536 + cond (x .done) doneBit 0 + cond (x .alive) aliveBit 0
 
--- a bit by its test
-pub cond-under : (b : Bool) (n : ℕ) → cond b n 0 ≤ n
-cond-under true n = omega arith
-cond-under false n = omega arith
-
-bit-is : (b : Bool) (n : ℕ) → (cond b n 0 ≡ cond b 1 0 * n) × (eqb (cond b 1 0) 1 ≡ b)
-bit-is true n = (omega arith, refl)
-bit-is false n = (omega arith, refl)
-
 pub unpack-attribute : (x : Attribute) → x .first < 65536 → x .behind < 65536 → attributeIn (attributeWord x) ≡ x
 unfolding attributeIn
 unpack-attribute x h k =
     let d = bit-is (x .done) doneBit in
     let a = bit-is (x .alive) aliveBit in
-    let p = parts (cond (x .done) 1 0) (cond (x .alive) 1 0) (cond-under (x .done) 1) (cond-under (x .alive) 1) in
+    let p = parts (cond (x .done) 1 0) (cond (x .alive) 1 0) (bit-under (x .done) 1) (bit-under (x .alive) 1) in
     rw (d .0, a .0, p .0, p .1, p .2, p .3, d .1, a .1)
   where
     parts : (d a : ℕ) → d ≤ 1 → a ≤ 1 → let w = x .first + x .behind * 65536 + d * doneBit + a * aliveBit in

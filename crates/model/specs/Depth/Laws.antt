@@ -2,15 +2,15 @@
 use mathlib.Core.{Path._≡_, Path.refl, Path.ap, Path.ap₂, Path.sym, Path._∙_, Path.subst, Logic.⊎-elim, Logic.inl, Logic.inr}
 use mathlib.Core.Bool.{Bool, true, false, cond, not, _&&_, _||_, and-false, or-true, and-eq-true-iff}
 use mathlib.Core.List.{List, [], _∷_, map}
-use Prim.Native.Nat.{ℕ, suc, _+_, _-_, _≤_, _<_, max, min}
+use Prim.Native.Nat.{ℕ, suc, _+_, _-_, _*_, _/_, _%_, _≤_, _<_, max, min}
 use native.Mathlib.Omega.{arith}
-use lib.{Dec.ltb, ListN.getD, ListN.take, ListN.drop, ListN.set, ListN.length, Seq.slice-empty}
+use lib.{Dec.ltb, Dec.eqb, ListN.getD, ListN.take, ListN.drop, ListN.set, ListN.length, ListN.drop-of-length-le}
 use borrow.Author.Tests.{lt-ltb, ltb-true, eq-eqb}
-use Rattle.fields.specs.{Tests.by-test, Stack.slice-back, Stack.slice-is, Limits.maxNesting, Limits.maxNodes}
+use Rattle.fields.specs.{Tests.by-test, Tests.bit-under, Tests.bit-is, Stack.drop-back, Limits.maxNesting, Limits.maxNodes}
 use Rattle.model.specs.{declared.rule.Sign.Sign, declared.rule.Mark.Mark, declared.rule.Kind.Kind, declared.rule.Node.Node as RuleNode}
-use Rattle.model.specs.{declared.depth.Flat.Flat, Rule.ruleOf, Model.Walk.Walked, Model.Walk.walked-turn}
+use Rattle.model.specs.{declared.depth.Flat.Flat, Rule.ruleOf, Model.Walk.Walked, Model.Walk.packed-turn}
 use Rattle.model.specs.declared.rule.Kind.the-variants.{Atom, Group}
-use Rattle.model.specs.declared.rule.Sign.the-variants.{None}
+use Rattle.model.specs.declared.rule.Sign.the-variants.{None, Sequence, Choice, Interleaving}
 use Rattle.model.specs.declared.rule.Mark.the-variants.{Plain}
 use Rattle.model.specs.Tree.{Node, leaf, group, marked, Members, none, _▹_, size, atoms, isPlain}
 use Rattle.model.specs.Flatten.{signNumber, sameSign, _⧺_, isNil, someNil, merges, membersOf, gathered, grouped, over, droppedMark}
@@ -22,7 +22,7 @@ use Rattle.model.specs.{Syntax.Syntax, Model.countsOf, Model.modelOf, Fl
 use Rattle.model.specs.Flatten.Depth.{deepest, deepestOf, deepest-append, deepest-first, group-deepest}
 use Rattle.model.specs.{Rule.Laws.rule-eval, Model.Counts, Model.Model, Model.fold, Model.foldNode, Model.foldAll, Model.needed, Model.evalStep}
 use Rattle.model.specs.Depth.{nilFlat, mergesBy, bringsBy, besideBy, gatheredBy, someEmpty, overBy, groupBy, signIn, flatPart, flatBy}
-use Rattle.model.specs.Depth.{ruleDepth}
+use Rattle.model.specs.Depth.{ruleDepth, flatNode, signNumbered, flatIn}
 
 -- what is kept of a tree
 abbrev markIn : Model → Mark
@@ -163,40 +163,58 @@ merges-deep s x e =
     let h = and-eq-true-iff (sameSign s (x .sign)) (not (x .marked) && ltb 0 (x .depth)) .0 e in
     ltb-true 0 (x .depth) (and-eq-true-iff (not (x .marked)) (ltb 0 (x .depth)) .0 (h .1) .1)
 
--- The loops. Of the members that stand on the stack from place `at` to `end`: what they make, and whether a `()` was dropped.
-module _ (s : Sign) (stack : List Flat) (end : ℕ) where
+-- The numbers in which this is kept.
+numbered-sign : (s : Sign) → signNumbered (signNumber s) ≡ s
+numbered-sign None = refl
+numbered-sign Sequence = refl
+numbered-sign Choice = refl
+numbered-sign Interleaving = refl
+
+pub few-signs : (s : Sign) → signNumber s < 4
+few-signs None = omega arith
+few-signs Sequence = omega arith
+few-signs Choice = omega arith
+few-signs Interleaving = omega arith
+
+abbrev pub flatNumber : Flat → ℕ
+flatNumber x = x .depth * 16 + signNumber (x .sign) + cond (x .marked) 4 0 + cond (x .empty) 8 0
+
+pub flat-number : (x : Flat) → x .depth < 256 → flatIn (flatNumber x) ≡ x
+unfolding flatIn
+flat-number x h =
+    let m = bit-is (x .marked) 4 in
+    let e = bit-is (x .empty) 8 in
+    let p = parts (signNumber (x .sign)) (cond (x .marked) 1 0) (cond (x .empty) 1 0) (few-signs (x .sign)) (bit-under (x .marked) 1) (bit-under (x .empty) 1) in
+    rw (m .0, e .0, p .0, p .1, p .2, p .3, m .1, e .1, numbered-sign (x .sign))
+  where
+    parts : (s m e : ℕ) → s < 4 → m ≤ 1 → e ≤ 1 → let n = x .depth * 16 + s + m * 4 + e * 8 in
+        (n % 4 ≡ s) × (n / 4 % 2 ≡ m) × (n / 8 % 2 ≡ e) × (n / 16 % 256 ≡ x .depth)
+    parts s m e i j k = (omega arith, omega arith, omega arith, omega arith)
+
+-- The loops. Of the members l from place `at` on: what they make, and whether a `()` was dropped.
+module _ (s : Sign) (l : List Flat) where
   pub record MembersMade (at : ℕ) (b : Bool) (x : Flat) : Type 0 where
-    pub made : x ≡ gatheredBy s (drop at (take end stack))
-    pub drops : b ≡ someEmpty (drop at (take end stack))
+    pub made : x ≡ gatheredBy s (drop at l)
+    pub drops : b ≡ someEmpty (drop at l)
 
-  pub join-none : MembersMade end false nilFlat
-  join-none = let e = slice-empty end stack in record { made = rw e; drops = rw e }
+  pub join-none : (at : ℕ) → length l ≤ at → MembersMade at false nilFlat
+  join-none at h = let e = drop-of-length-le l {i = at} h in record { made = rw e; drops = rw e }
 
-  pub join-turn : (at : ℕ) (d : Flat) {b : Bool} {x r : Flat} → 0 < at → at ≤ end → at ≤ length stack → r ≡ besideBy s (getD stack (at - 1) d) x
-      → MembersMade at b x → MembersMade (at - 1) (getD stack (at - 1) d .empty || b) r
-  join-turn at d p h k e j = record {
-    made = rw (slice-back stack end at d p h k, ← j .made) e;
-    drops = rw (slice-back stack end at d p h k, ← j .drops);
-  }
+  pub join-turn : (at : ℕ) (d : Flat) {b : Bool} {x y r : Flat} → 0 < at → at ≤ length l → y ≡ getD l (at - 1) d → r ≡ besideBy s y x
+      → MembersMade at b x → MembersMade (at - 1) (y .empty || b) r
+  join-turn at d p h q e j = record { made = rw (drop-back l at d p h, ← j .made, ← q) e; drops = rw (drop-back l at d p h, ← j .drops, ← q) }
 
--- a node, by its members
-abbrev nodeBy : Kind → Mark → List Flat → Flat
-nodeBy κ m l = overBy m (flatPart κ (someEmpty l) (gatheredBy (signIn κ) l))
-
-node-step : (κ : Kind) (m : Mark) (k : ℕ) (rest : List Flat) → nodeBy κ m (take (needed κ) rest) ∷ drop (needed κ) rest ≡ evalStep flatBy κ m k rest
+-- a node, as the pass takes it from the stack
+pub node-step : (κ : Kind) (m : Mark) (k : ℕ) (rest : List Flat)
+    → flatNode κ m (take (needed κ) rest) ∷ drop (needed κ) rest ≡ evalStep flatBy κ m k rest
 node-step (Atom lo hi) m k rest = refl
 node-step (Group s n) m k rest = refl
 
 -- a turn, with what its calls gave
-pub depth-turn : (nodes : List RuleNode) (len i : ℕ) (d : RuleNode) {stack : List Flat} {top members clipped at : ℕ} {s : Sign} {b : Bool} {x y z : Flat}
+pub depth-turn : (nodes : List RuleNode) (len i : ℕ) (d : RuleNode) (stack : List ℕ) (y : ℕ) {top members clipped : ℕ}
     → 0 < i → i ≤ len → i ≤ length nodes → 0 < top → top ≤ maxNodes → members ≡ needed (getD nodes (i - 1) d .kind)
-    → clipped ≡ min members (maxNodes - top) → s ≡ signIn (getD nodes (i - 1) d .kind) → MembersMade s stack (clipped + top) at b x → at ≡ top
-    → y ≡ flatPart (getD nodes (i - 1) d .kind) b x → z ≡ overBy (getD nodes (i - 1) d .mark) y
-    → Walked flatBy (drop i (take len nodes)) stack top
-    → Walked flatBy (drop (i - 1) (take len nodes)) (set stack (clipped + top - 1) z) (clipped + top - 1)
-depth-turn nodes len i d {stack = stack} {top = top} {clipped = clipped} {at = at} a b c p h m n f j e g q t =
-    let node = getD nodes (i - 1) d in
-    let l : drop at (take (clipped + top) stack) ≡ take (clipped + top - top) (drop top stack) =
-    ap (λ k. drop k (take (clipped + top) stack)) e ∙ slice-is top (clipped + top) stack in
-    walked-turn nodeBy node-step nodes len i d a b c p h m n
-    (q ∙ ap (overBy (node .mark)) (g ∙ ap₂ (flatPart (node .kind)) (j .drops ∙ ap someEmpty l) (j .made ∙ ap₂ gatheredBy f l))) t
+    → clipped ≡ min members (maxNodes - top)
+    → flatIn y ≡ flatNode (getD nodes (i - 1) d .kind) (getD nodes (i - 1) d .mark) (map flatIn (take (clipped + top - top) (drop top stack)))
+    → Walked flatBy (drop i (take len nodes)) (map flatIn stack) top
+    → Walked flatBy (drop (i - 1) (take len nodes)) (map flatIn (set stack (clipped + top - 1) y)) (clipped + top - 1)
+depth-turn = packed-turn flatNode node-step flatIn

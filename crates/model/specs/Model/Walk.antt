@@ -1,13 +1,13 @@
 -- A pass over a rule's nodes, from the last to the first, with a stack that grows down in an array: it computes what an algebra gives that looks at no
 -- numbers of atoms (`Model.eval`).
-use mathlib.Core.{Path._≡_, Path.ap, Path.sym, Path._∙_, List.List, List.[], List._∷_}
+use mathlib.Core.{Path._≡_, Path.ap, Path.sym, Path._∙_, List.List, List.[], List._∷_, List.map}
 use Prim.Native.Nat.{ℕ, _+_, _-_, _≤_, _<_, min}
 use native.Mathlib.Omega.{arith}
 use lib.Seq.{drop-cons}
 use lib.ListN.{length, take, drop, set, getD, length-set, length-drop, drop-of-length-le}
 use Rattle.model.specs.{declared.rule.Mark.Mark, declared.rule.Kind.Kind, declared.rule.Node.Node as RuleNode, Model.Eval.length-eval}
 use Rattle.model.specs.Model.{Algebra, after, needed, treesIn, evalStep, eval}
-use Rattle.fields.specs.{Limits.maxNodes, Stack.slice-back, Stack.first-entries, Stack.replaced}
+use Rattle.fields.specs.{Limits.maxNodes, Stack.slice-back, Stack.first-entries, Stack.replaced, Stack.map-take, Stack.map-drop, Stack.map-set}
 
 -- of the nodes l: what their trees give stands on the stack
 pub record Walked {A : Type 0} (g : Algebra A) (l : List RuleNode) (stack : List A) (top : ℕ) : Type 0 where
@@ -54,3 +54,14 @@ module _ {A : Type 0} {g : Algebra A} where
         → Walked g (drop (i - 1) (take len nodes)) (set stack (clipped + top - 1) y) (clipped + top - 1)
     walked-turn nodes len i d {clipped = clipped} {y = y} a b c p h m n j t =
         rw (slice-back nodes len i d a b c) (walked-node t (clipped + _) y p h (rw (n, m)) j)
+
+    -- the same of a stack of numbers, by what they hold
+    pub packed-turn : (f : ℕ → A) (nodes : List RuleNode) (len i : ℕ) (d : RuleNode) (stack : List ℕ) (y : ℕ) {top members clipped : ℕ}
+        → 0 < i → i ≤ len → i ≤ length nodes → 0 < top → top ≤ maxNodes → members ≡ needed (getD nodes (i - 1) d .kind)
+        → clipped ≡ min members (maxNodes - top)
+        → f y ≡ part (getD nodes (i - 1) d .kind) (getD nodes (i - 1) d .mark) (map f (take (clipped + top - top) (drop top stack)))
+        → Walked g (drop i (take len nodes)) (map f stack) top
+        → Walked g (drop (i - 1) (take len nodes)) (map f (set stack (clipped + top - 1) y)) (clipped + top - 1)
+    packed-turn f nodes len i d stack y {top} {clipped = clipped} a b c p h m n j t =
+        rw (map-set f stack (clipped + top - 1) y)
+        (walked-turn nodes len i d a b c p h m n (rw (← map-drop f top stack, ← map-take f (clipped + top - top) (drop top stack)) j) t)

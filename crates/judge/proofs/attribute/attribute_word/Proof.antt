@@ -1,7 +1,8 @@
 -- The number whose parts are read back.
 use Prim.Native.Nat.{_≤_}
 use borrow.Author.Needs.{needs}
-use Rattle.judge.specs.Row.Attribute.{doneBit, aliveBit, cond-under, unpack-attribute}
+use Rattle.fields.specs.Tests.{bit-under}
+use Rattle.judge.specs.Row.Attribute.{doneBit, aliveBit, unpack-attribute}
 use Rattle.judge.proofs.attribute.attribute_word.Statement.{statement}
 use Rattle.judge.proofs.attribute.attribute_word.Tie as tie
 
@@ -9,10 +10,10 @@ abbrev start : tie.After-struct-known2 → tie.Start
 start c = c .before .before .before .before
 
 done-under : (c : tie.After-struct-known2) → c .before .before .before .only-if .result ≤ doneBit
-done-under c = rw (c .before .before .before .only-if .ensures) (cond-under (start c .args .x .done) doneBit)
+done-under c = rw (c .before .before .before .only-if .ensures) (bit-under (start c .args .x .done) doneBit)
 
 alive-under : (c : tie.After-struct-known2) → c .before .before .only-if2 .result ≤ aliveBit
-alive-under c = rw (c .before .before .only-if2 .ensures) (cond-under (start c .args .x .alive) aliveBit)
+alive-under c = rw (c .before .before .only-if2 .ensures) (bit-under (start c .args .x .alive) aliveBit)
 
 add-result-2 : tie.Need-add-result-2
 add-result-2 c = search (needs, done-under c)
