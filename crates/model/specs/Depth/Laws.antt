@@ -184,7 +184,8 @@ unfolding flatIn
 flat-number x h =
     let m = bit-is (x .marked) 4 in
     let e = bit-is (x .empty) 8 in
-    let p = parts (signNumber (x .sign)) (cond (x .marked) 1 0) (cond (x .empty) 1 0) (few-signs (x .sign)) (bit-under (x .marked) 1) (bit-under (x .empty) 1) in
+    let p = parts (signNumber (x .sign)) (cond (x .marked) 1 0) (cond (x .empty) 1 0)
+    (few-signs (x .sign)) (bit-under (x .marked) 1) (bit-under (x .empty) 1) in
     rw (m .0, e .0, p .0, p .1, p .2, p .3, m .1, e .1, numbered-sign (x .sign))
   where
     parts : (s m e : ℕ) → s < 4 → m ≤ 1 → e ≤ 1 → let n = x .depth * 16 + s + m * 4 + e * 8 in

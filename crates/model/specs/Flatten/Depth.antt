@@ -136,31 +136,24 @@ module _ {A : Type 0} where
     all-inside none = omega arith
     all-inside (t ▹ ts) = omega (arith, no-higher t, all-inside ts)
 
-  -- nor is it higher than its brackets are nested
+  -- nor is it higher than its brackets are nested, and each of these groups has a bracket and a node
   mutual
-    node-nested : (n : Node A) → nodeHeight n ≤ nodeNesting n
-    node-nested (leaf a) = omega arith
-    node-nested (group s ts) = omega (arith, members-nested ts)
+    node-groups : (n : Node A) → (nodeHeight n ≤ nodeNesting n) × (nodeHeight n ≤ nodeWeight 1 1 n)
+    node-groups (leaf a) = (omega arith, omega arith)
+    node-groups (group s ts) = let h = members-groups ts in (omega (arith, h .0), omega (arith, h .1))
 
-    tree-nested : (t : Tree A) → height t ≤ nesting t
-    tree-nested (marked m n) = node-nested n
+    tree-groups : (t : Tree A) → (height t ≤ nesting t) × (height t ≤ nodes t)
+    tree-groups (marked m n) = node-groups n
 
-    members-nested : (ts : Members A) → membersHeight ts ≤ membersNesting ts
-    members-nested none = omega arith
-    members-nested (t ▹ ts) = omega (arith, tree-nested t, members-nested ts)
+    members-groups : (ts : Members A) → (membersHeight ts ≤ membersNesting ts) × (membersHeight ts ≤ membersWeight 1 1 ts)
+    members-groups none = (omega arith, omega arith)
+    members-groups (t ▹ ts) =
+        let h = tree-groups t in
+        let k = members-groups ts in
+        (omega (arith, h .0, k .0), omega (arith, h .1, k .1))
 
   pub no-deeper : (t : Tree A) → depth t ≤ nesting t
-  no-deeper t = omega (arith, no-higher t, tree-nested t)
+  no-deeper t = omega (arith, no-higher t, tree-groups t .0)
 
-  -- and it has a node for each of these groups
-  mutual
-    node-groups : (n : Node A) → nodeHeight n ≤ nodeWeight 1 1 n
-    node-groups (leaf a) = omega arith
-    node-groups (group s ts) = omega (arith, members-groups ts)
-
-    pub height-nodes : (t : Tree A) → height t ≤ nodes t
-    height-nodes (marked m n) = node-groups n
-
-    members-groups : (ts : Members A) → membersHeight ts ≤ membersWeight 1 1 ts
-    members-groups none = omega arith
-    members-groups (t ▹ ts) = omega (arith, height-nodes t, members-groups ts)
+  pub height-nodes : (t : Tree A) → height t ≤ nodes t
+  height-nodes t = tree-groups t .1
