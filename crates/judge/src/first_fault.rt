@@ -22,7 +22,7 @@ pub fn first_fault(rule: Rule, row: &[u16]) -> Searched
         Tested::Passed(_) => {
             let mut words = [0u64; WORDS];
             pack(rule, &mut words);
-            Searched::Found(search_row(&mut words, rule.len, row))
+            Searched::Found(search_row(row, &mut words))
         }
         Tested::Refused(f) => Searched::Refused(f),
     }

@@ -5,8 +5,8 @@ ghost use lib.ListN.{length, take, drop, getD};
 ghost use Prim.Native.Nat.{_≤_};
 ghost use Rattle.fields.specs.Limits.{maxAtoms, maxNodes, maxRow};
 ghost use Rattle.model.specs.{Word.keep, Model.atomsIn, Rule.names, Rule.ruleType, Check.readable};
-ghost use Rattle.judge.specs.Packed.{nodeIn, ruleIn, seenIn, unseen};
-ghost use Rattle.judge.specs.{Row.upto, Row.Tally.seenOf};
+ghost use Rattle.judge.specs.Packed.{nodeIn, ruleIn, seenIn};
+ghost use Rattle.judge.specs.{Row.upto, Row.Tally.limitsIn, Row.Tally.seenOf};
 ghost use Rattle.judge.specs.Next.{numbersTo, nextNames, fitted, nextJudged, childrenNext, HandsNext, HandsChildrenNext, Set.inSet};
 ghost use Rattle.judge.specs.Next.Ahead.{rootAhead};
 use crate::ahead::begin_ahead;
@@ -122,14 +122,14 @@ fn next_on(
     children: &[u16],
     row: &mut [u16],
 ) -> Next
-    requires { ⌜ (len ≤ maxNodes) × (maxNodes ≤ length (now words)) × (seenIn (now words) ≡ unseen) ⌝ }
+    requires { ⌜ (len ≤ maxNodes) × (maxNodes ≤ length (now words)) × (seenIn (now words) ≡ limitsIn (map nodeIn (take len (now words)))) ⌝ }
     requires { ⌜ (readable (ruleIn (now words) len) ≡ true) × (names ≡ atomsIn (map nodeIn (take len (now words)))) ⌝ }
     requires { ⌜ (length (now children) ≤ maxRow) × (upto names (now children) ≡ true) ⌝ }
     ensures { λ r. ⌜ HandsNext
         (fitted (length (now (row .entry))) (nextNames (ruleType (ruleIn (now (words .entry)) len)) names (now (children .entry))))
         r (now (row .entry)) (now (row .exit)) ⌝ }
 {
-    match search_row(words, len, children) {
+    match search_row(children, words) {
         FirstFault::At(_) => Next::Names(0),
         FirstFault::Nothing => {
             let set = root_next(words, len, names, children.len() as u16);

@@ -4,10 +4,12 @@ ghost use mathlib.Core.{Path._≡_, List.[], List._∷_};
 ghost use Prim.Native.Nat.{_≤_};
 ghost use lib.{Dec.T, ListN.length};
 ghost use Rattle.model.specs.declared.rule.Kind.the-variants.{Atom, Group};
-ghost use Rattle.model.specs.Rule.{used, unused, ruleWith};
-ghost use Rattle.fields.specs.Limits.{maxNodes};
-ghost use Rattle.judge.specs.Reading.Buffer.{Stores};
-ghost use Rattle.judge.specs.Packed.{packedWord, nodeIn, ruleIn, unseen, Fresh, plainNode, markedNode, isSign, signBy, kindBy};
+ghost use Rattle.model.specs.Rule.{used, unused, names, ruleWith};
+ghost use Rattle.fields.specs.Limits.{maxAtoms, maxNodes};
+ghost use Rattle.judge.specs.{Reading.Buffer.Stores, Row.Tally.limitsIn};
+ghost use Rattle.judge.specs.Packed.{packedWord, nodeIn, ruleIn, Fresh, plainNode, markedNode, isSign, signBy, kindBy};
+use crate::tally::limited;
+use model::check::atoms_of;
 use model::mark::MARK_PLACE;
 use model::mark::mark_number;
 use model::mark::numbered_mark;
@@ -145,16 +147,21 @@ fn packed_node(node: Node) -> u64
     packed_marked(packed_kind(kind), mark)
 }
 
-// The nodes of a rule. Places from len on stay as they were.
+// The nodes of a rule, and behind them the upper count of each name, by its number. Zeros stand there at first, and the first of them stays: no foreign
+// child is allowed.
 pub(crate) fn pack(rule: Rule, words: &mut [u64; WORDS])
-    requires { ⌜ (rule .len ≤ maxNodes) × Fresh (now words) ⌝ }
-    ensures { λ r. ⌜ Stores nodeIn maxNodes unseen (now (words .exit)) (rule .len) (used rule) ⌝ }
+    requires { ⌜ (rule .len ≤ maxNodes) × (names rule ≤ maxAtoms) × Fresh (now words) ⌝ }
+    ensures { λ r. ⌜ Stores nodeIn maxNodes (limitsIn (used rule)) (now (words .exit)) (rule .len) (used rule) ⌝ }
 {
     let len = rule.len;
+    let mut name: usize = 0;
     let mut i: usize = 0;
     while i < len {
         let node = rule.nodes[i];
+        let kind = node.kind;
         words[i] = packed_node(node);
+        name += atoms_of(kind);
+        words[MAX_NODES + name] = limited(kind, words[MAX_NODES + name]);
         i += 1;
     }
 }

@@ -3,7 +3,7 @@
 ghost use mathlib.Core.{Path._≡_, Bool.true, Bool.cond, List.[], List.List};
 ghost use Prim.Native.Nat.{_+_, _≤_, _<_};
 ghost use lib.{Dec.ltb, ListN.length, ListN.getD};
-ghost use Rattle.fields.specs.{Bytes.isInitial, Limits.maxFile, Limits.maxNodes, Limits.maxRow, Children.shortName};
+ghost use Rattle.fields.specs.{Bytes.isInitial, Limits.maxFile, Limits.maxRow, Children.shortName};
 ghost use Rattle.fields.specs.declared.fault.CueFault.the-variants.{ManyChildren};
 ghost use Rattle.model.specs.declared.rule.Upper.{Upper};
 ghost use Rattle.judge.specs.Packed.{seenIn, Fresh, SameNodes};
@@ -22,7 +22,6 @@ use crate::row::verdict_by;
 use crate::table::SLOTS;
 use crate::table::look_up;
 use crate::tally::is_full;
-use crate::tally::limit_names;
 use crate::tally::noted;
 use crate::verdict::ChildrenJudged;
 use fields::children::Children;
@@ -164,7 +163,6 @@ pub(crate) fn read_children(model: &[u8], children: &[u8], words: &mut [u64; WOR
                     names: past.names,
                 });
             }
-            limit_names(words, past.nodes);
             match tally_children(model, &names, past.names, &heads, children, words) {
                 ChildrenTally::Whole(n) => ChildrenRead::Both(Sizes {
                     nodes: past.nodes,

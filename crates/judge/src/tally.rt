@@ -1,16 +1,14 @@
 // What is seen of each name in a row, and whether it is too much: the first pass over the row.
 
-ghost use mathlib.Core.{Path._≡_, Bool.true, Bool.cond, List.[], List.List, List.map};
-ghost use lib.{Dec.ltb, Dec.eqb, ListN.length, ListN.take};
+ghost use mathlib.Core.{Path._≡_, Bool.true, Bool.cond, List.[], List.List};
+ghost use lib.{Dec.ltb, Dec.eqb, ListN.length};
 ghost use Prim.Native.Nat.{_*_, _≤_};
-ghost use Rattle.fields.specs.Limits.{maxAtoms, maxNodes, maxRow};
-ghost use Rattle.model.specs.{declared.rule.Upper.Upper, Model.atomsIn};
-ghost use Rattle.judge.specs.{Packed.nodeIn, Packed.seenIn, Packed.SameNodes, FirstFault.upperCounts, Row.upto};
-ghost use Rattle.judge.specs.Row.Tally.{oneLeft, limitNumber, limitedWord, seenOf, notedWord, Seeing, RowTallied};
+ghost use Rattle.fields.specs.Limits.{maxAtoms, maxRow};
+ghost use Rattle.model.specs.declared.rule.Upper.{Upper};
+ghost use Rattle.judge.specs.{Packed.seenIn, Packed.SameNodes, Row.upto};
+ghost use Rattle.judge.specs.Row.Tally.{oneLeft, limitNumber, limitWord, limitedWord, seenOf, notedWord, Seeing, RowTallied};
 use crate::packed::WORDS;
-use crate::packed::kind_in;
 use crate::verdict::FirstFault;
-use model::check::atoms_of;
 use model::rule::Kind;
 use model::rule::MAX_NODES;
 use model::rule::Upper;
@@ -40,34 +38,23 @@ fn limit_of(max: Upper) -> u16
     }
 }
 
+// What stands for a name before any child is seen: so many may have it.
+pub(crate) fn limit_word(max: Upper) -> u64
+    ensures { λ r. ⌜ r ≡ limitWord max ⌝ }
+{
+    (limit_of(max) as u64) * LEFT
+}
+
 // What stands for the last name so far, with one node more: the upper count of the node's own name, or, where it is a group, what stood there.
-fn limited(kind: Kind, word: u64) -> u64
+pub(crate) fn limited(kind: Kind, word: u64) -> u64
     ensures { λ r. ⌜ r ≡ limitedWord kind word ⌝ }
 {
     match kind {
-        Kind::Atom { min: _, max } => (limit_of(max) as u64) * LEFT,
+        Kind::Atom { min: _, max } => limit_word(max),
         Kind::Group {
             sign: _,
             members: _,
         } => word,
-    }
-}
-
-// The upper count of each name goes behind the nodes, by the name's number. Zeros stand there at first, and the first of them stays: no foreign child is
-// allowed.
-pub(crate) fn limit_names(words: &mut [u64; WORDS], len: usize)
-    requires { ⌜ (len ≤ maxNodes) × (maxNodes ≤ length (now words)) ⌝ }
-    requires { ⌜ (atomsIn (map nodeIn (take len (now words))) ≤ maxAtoms) × Seeing [] [] (seenIn (now words)) ⌝ }
-    ensures { λ r. ⌜ Seeing (upperCounts (map nodeIn (take len (now (words .entry))))) [] (seenIn (now (words .exit))) ⌝ }
-    ensures { λ r. ⌜ SameNodes (now (words .entry)) (now (words .exit)) ⌝ }
-{
-    let mut name: usize = 0;
-    let mut i: usize = 0;
-    while i < len {
-        let kind = kind_in(words[i]);
-        name += atoms_of(kind);
-        words[MAX_NODES + name] = limited(kind, words[MAX_NODES + name]);
-        i += 1;
     }
 }
 
@@ -113,9 +100,9 @@ pub(crate) fn noted(word: u64, i: u16) -> u64
     word - LEFT - behind + COUNT + first + (i as u64) + 1
 }
 
-// What is seen of each name goes behind the nodes, where the upper counts of the names stand, up to the first child that is foreign or one too many of
-// its name.
-fn tally_row(row: &[u16], words: &mut [u64; WORDS]) -> FirstFault
+// The first pass over a row. What is seen of each name goes behind the nodes, where the upper counts of the names stand, up to the first child that is
+// foreign or one too many of its name.
+pub(crate) fn search_row(row: &[u16], words: &mut [u64; WORDS]) -> FirstFault
     requires { ⌜ (length (now row) ≤ maxRow) × (upto maxAtoms (now row) ≡ true) ⌝ }
     ensures { λ r. ⌜ ((us : List Upper) → Seeing us [] (seenIn (now (words .entry))) → RowTallied us (now (row .entry)) (seenIn (now (words .exit))) r) ⌝ }
     ensures { λ r. ⌜ SameNodes (now (words .entry)) (now (words .exit)) ⌝ }
@@ -131,16 +118,4 @@ fn tally_row(row: &[u16], words: &mut [u64; WORDS]) -> FirstFault
         i += 1;
     }
     FirstFault::Nothing
-}
-
-// The first pass over a row, by the first len nodes. Zeros stand behind the nodes at first.
-pub(crate) fn search_row(words: &mut [u64; WORDS], len: usize, row: &[u16]) -> FirstFault
-    requires { ⌜ (len ≤ maxNodes) × (maxNodes ≤ length (now words)) ⌝ }
-    requires { ⌜ (atomsIn (map nodeIn (take len (now words))) ≤ maxAtoms) × Seeing [] [] (seenIn (now words)) ⌝ }
-    requires { ⌜ (length (now row) ≤ maxRow) × (upto maxAtoms (now row) ≡ true) ⌝ }
-    ensures { λ r. ⌜ RowTallied (upperCounts (map nodeIn (take len (now (words .entry))))) (now (row .entry)) (seenIn (now (words .exit))) r ⌝ }
-    ensures { λ r. ⌜ SameNodes (now (words .entry)) (now (words .exit)) ⌝ }
-{
-    limit_names(words, len);
-    tally_row(row, words)
 }

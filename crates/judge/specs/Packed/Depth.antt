@@ -1,9 +1,9 @@
 -- The depth of nodes in numbers: the pass of `model.Depth` over what the numbers hold.
-use mathlib.Core.{Path._≡_, Path.sym, Path.ap, Path.ap₂, Path._∙_, List.List, List.map}
+use mathlib.Core.{Path._≡_, Path.sym, Path.ap, Path._∙_, List.List, List.map}
 use Prim.Native.Nat.{ℕ, _+_, _-_, _≤_, _<_, min}
 use lib.ListN.{length, take, drop, set, getD, length-map, List·getD-map}
 use Rattle.fields.specs.{Limits.maxNodes, Stack.map-take}
-use Rattle.model.specs.{declared.rule.Kind.Kind, declared.rule.Mark.Mark, Rule.ruleWith, Rule.used, Rule.Laws.used-with, Model.needed, Model.eval}
+use Rattle.model.specs.{declared.rule.Kind.Kind, declared.rule.Mark.Mark, Rule.Laws.used-with, Model.needed, Model.eval}
 use Rattle.model.specs.{Model.Walk.Walked, Depth.nilFlat, Depth.flatIn, Depth.flatNode, Depth.flatBy, Depth.ruleDepth, Depth.Laws.depth-turn}
 use Rattle.judge.specs.Packed.{nodeIn, ruleIn}
 

@@ -29,8 +29,3 @@ module _ (words words′ : List ℕ) (s : SameNodes words words′) where
 
   pub same-at : (i : ℕ) → i < maxNodes → getD words′ i 0 ≡ getD words i 0
   same-at i h = sym (getD-take maxNodes words′ i 0 h) ∙ ap (λ l. getD l i 0) (s .0) ∙ getD-take maxNodes words i 0 h
-
--- one change, and another behind it
-pub same-over : {nodes nodes′ nodes″ : List ℕ} {n n′ n″ : ℕ} → (nodes′ ≡ nodes) × (n′ ≡ n) → (nodes″ ≡ nodes′) × (n″ ≡ n′)
-    → (nodes″ ≡ nodes) × (n″ ≡ n)
-same-over s t = (t .0 ∙ s .0, t .1 ∙ s .1)

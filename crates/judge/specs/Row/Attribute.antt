@@ -1,6 +1,6 @@
 -- What the second pass over a row computes of a type, from what the first has seen of each name: its span, whether its part of the row is held,
 -- and whether that can be extended. `attributeBy` is the same over a model.
-use mathlib.Core.{Path._≡_, Path.refl, Bool.Bool, Bool.true, Bool.false, Bool.cond, Bool._&&_, Bool.and-true, List.List, List.[], List._∷_, List.map}
+use mathlib.Core.{Path._≡_, Path.refl, Bool.true, Bool.false, Bool.cond, Bool._&&_, Bool.and-true, List.List, List.[], List._∷_, List.map}
 use Prim.Native.Nat.{ℕ, zero, suc, _+_, _*_, _/_, _%_, _≤_, _<_, min, max}
 use native.Mathlib.Omega.{arith}
 use lib.{Dec.leb, Dec.ltb, Dec.eqb, ListN.length}

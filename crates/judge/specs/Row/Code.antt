@@ -4,8 +4,8 @@ use Prim.Native.Nat.{ℕ, _≤_}
 use native.Mathlib.Omega.{arith}
 use borrow.Author.Tests.{leb-true}
 use lib.{Dec.leb, ListN.length, ListN.take, ListN.getD}
-use Rattle.judge.specs.{Reading.Buffer.Stores, Packed.nodeIn, Packed.ruleIn, Packed.seenIn, Packed.unseen, Row.upto, Row.rowTested, Row.judged}
-use Rattle.judge.specs.{Row.Attribute.seen, Row.Tally.seenOf, Row.Tally.Laws.seeing-none}
+use Rattle.judge.specs.{Reading.Buffer.Stores, Packed.nodeIn, Packed.ruleIn, Packed.seenIn, Row.upto, Row.rowTested, Row.judged}
+use Rattle.judge.specs.{Row.Attribute.seen, Row.Tally.seenOf, Row.Tally.limitsIn, Row.Tally.Limits.limits-seeing}
 use Rattle.judge.specs.Row.{Laws.upto-more, Tally.Seeing}
 use Rattle.judge.specs.{FirstFault.upperCounts, FirstFault.firstFault, FirstFault.Laws.first-exactly, FirstFault.Meaning.sound-rule}
 use Rattle.judge.specs.{FirstFault.Meaning.faulty-rule, Row.Attribute.CountsWithin}
@@ -61,23 +61,29 @@ pub tested : (r : Rule) (w : Word) {t : Tested} → rowTested r w ≡ t → Test
 tested r w e = rw e at (test-tells r w)
 
 -- packed, it is still the same rule
-module _ {r : Rule} {w : Word} {n : ℕ} (p : Passes r w n) (words : List ℕ) (h : Stores nodeIn maxNodes unseen words (r .len) (used r)) where
+module _ {r : Rule} {w : Word} {n : ℕ} (p : Passes r w n) (words : List ℕ) (h : Stores nodeIn maxNodes (limitsIn (used r)) words (r .len) (used r)) where
   pub packed-is : ruleIn words (r .len) ≡ r
   packed-is = rw (h .held) (sym (readable-with r (p .good)))
 
   -- what is asked where the row is judged by it
-  pub packed-passes : ((r .len ≤ maxNodes) × (maxNodes ≤ length words) × (seenIn words ≡ unseen))
+  pub packed-passes : ((r .len ≤ maxNodes) × (maxNodes ≤ length words) × (seenIn words ≡ limitsIn (map nodeIn (take (r .len) words))))
       × (((readable (ruleIn words (r .len)) ≡ true) × (n ≡ atomsIn (map nodeIn (take (r .len) words)))) × ((length w ≤ maxRow) × (upto n w ≡ true)))
-  packed-passes = ((h .few, omega (arith, h .whole), h .behind), ((rw packed-is (p .good), rw (h .held) (p .names-are)), (p .short, p .named)))
+  packed-passes = ((h .few, omega (arith, h .whole), rw (h .held) (h .behind)), ((rw packed-is (p .good), rw (h .held) (p .names-are)), (p .short, p .named)))
 
 -- what the first pass asks, of the nodes that the words hold
-pub searchable : (words : List ℕ) (len m : ℕ) (w : Word) → ((len ≤ maxNodes) × (maxNodes ≤ length words) × (seenIn words ≡ unseen))
-    × (((readable (ruleIn words len) ≡ true) × (m ≡ atomsIn (map nodeIn (take len words)))) × ((length w ≤ maxRow) × (upto m w ≡ true)))
-    → ((len ≤ maxNodes) × (maxNodes ≤ length words))
-    × (((atomsIn (map nodeIn (take len words)) ≤ maxAtoms) × Seeing [] [] (seenIn words)) × ((length w ≤ maxRow) × (upto maxAtoms w ≡ true)))
-searchable words len m w p =
-    let a = atoms-within (map nodeIn (take len words)) (p .1 .0 .0) (p .1 .0 .1) in
-    ((p .0 .0, p .0 .1), ((omega (arith, p .1 .0 .1), rw (p .0 .2) (seeing-none 65 (omega arith))), (p .1 .1 .0, upto-more m maxAtoms w a (p .1 .1 .1))))
+module _ (words : List ℕ) (len m : ℕ) (w : Word)
+    (p : ((len ≤ maxNodes) × (maxNodes ≤ length words) × (seenIn words ≡ limitsIn (map nodeIn (take len words))))
+    × (((readable (ruleIn words len) ≡ true) × (m ≡ atomsIn (map nodeIn (take len words)))) × ((length w ≤ maxRow) × (upto m w ≡ true)))) where
+  few-names : m ≤ maxAtoms
+  few-names = atoms-within (map nodeIn (take len words)) (p .1 .0 .0) (p .1 .0 .1)
+
+  pub searchable : (length w ≤ maxRow) × (upto maxAtoms w ≡ true)
+  unfolding few-names
+  searchable = (p .1 .1 .0, upto-more m maxAtoms w few-names (p .1 .1 .1))
+
+  pub counts-known : Seeing (upperCounts (map nodeIn (take len words))) [] (seenIn words)
+  unfolding few-names
+  counts-known = rw (p .0 .2) (limits-seeing (map nodeIn (take len words)) (omega (arith, few-names, p .1 .0 .1)))
 
 -- the first pass has counted each name of a readable rule
 pub names-tallied : (r : Rule) → readable r ≡ true → (w : Word) (s : List ℕ) → Tallied w s

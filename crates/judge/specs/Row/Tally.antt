@@ -5,21 +5,22 @@
 pub mod Words
 pub mod Limits
 pub mod Laws
-use mathlib.Core.{Path._≡_, List.List}
+use mathlib.Core.{Path._≡_, List.List, List._∷_, List._++_, List.map}
 use mathlib.Core.Bool.{cond}
 use Prim.Native.Nat.{ℕ, _+_, _-_, _*_, _/_, _%_, _≤_, _<_}
 use lib.Dec.{eqb}
-use lib.ListN.{length, take, getD}
+use lib.ListN.{length, take, getD, replicate}
 use Rattle.fields.specs.Limits.{maxAtoms}
 use Rattle.model.specs.declared.rule.Upper.{Upper}
 use Rattle.model.specs.declared.rule.Upper.the-variants.{Number, Unbounded}
 use Rattle.model.specs.declared.rule.Kind.{Kind}
+use Rattle.model.specs.declared.rule.Node.{Node}
 use Rattle.model.specs.declared.rule.Kind.the-variants.{Atom, Group}
 use Rattle.model.specs.Word.{Word, only, count, touched}
 use Rattle.model.specs.Word.Span.{firstPlace, lastBehind}
 use Rattle.judge.specs.{declared.tally.Seen.Seen, declared.verdict.FirstFault.FirstFault, Row.Attribute.seen}
 use Rattle.judge.specs.declared.verdict.FirstFault.the-variants.{Nothing}
-use Rattle.judge.specs.FirstFault.{allowed, isFault, firstWhere, firstFault}
+use Rattle.judge.specs.FirstFault.{upperCounts, allowed, isFault, firstWhere, firstFault}
 
 -- What is seen of a name, in one number: how many further children may have it, how many have it, its first place, and one past its last place.
 abbrev pub packedSeen : ℕ → ℕ → ℕ → ℕ → ℕ
@@ -37,9 +38,16 @@ abbrev pub limitNumber : Upper → ℕ
 limitNumber (Number n) = n
 limitNumber Unbounded = 65535
 
--- behind a node: the upper count of its name, if it is an atom, with no child seen
+abbrev pub limitWord : Upper → ℕ
+limitWord n = limitNumber n * oneLeft
+
+-- what stands behind the nodes l before any child is seen: the upper counts of their names; of a foreign name no child is allowed
+unfoldable pub limitsIn : List Node → List ℕ
+limitsIn l = 0 ∷ (map limitWord (upperCounts l) ++ replicate (maxAtoms - length (upperCounts l)) 0)
+
+-- behind a node: the upper count of its name, if it is an atom
 abbrev pub limitedWord : Kind → ℕ → ℕ
-limitedWord (Atom lo hi) w = limitNumber hi * oneLeft
+limitedWord (Atom lo hi) w = limitWord hi
 limitedWord (Group s n) w = w
 
 -- in a row of n children; a name that was not seen stands behind no place

@@ -4,7 +4,7 @@ use mathlib.Core.Bool.{Bool, true, false, cond, not, _&&_, _||_, and-false, or-t
 use mathlib.Core.List.{List, [], _∷_, map}
 use Prim.Native.Nat.{ℕ, suc, _+_, _-_, _*_, _/_, _%_, _≤_, _<_, max, min}
 use native.Mathlib.Omega.{arith}
-use lib.{Dec.ltb, Dec.eqb, ListN.getD, ListN.take, ListN.drop, ListN.set, ListN.length, ListN.drop-of-length-le}
+use lib.{Dec.ltb, ListN.getD, ListN.take, ListN.drop, ListN.set, ListN.length, ListN.drop-of-length-le}
 use borrow.Author.Tests.{lt-ltb, ltb-true, eq-eqb}
 use Rattle.fields.specs.{Tests.by-test, Tests.bit-under, Tests.bit-is, Stack.drop-back, Limits.maxNesting, Limits.maxNodes}
 use Rattle.model.specs.{declared.rule.Sign.Sign, declared.rule.Mark.Mark, declared.rule.Kind.Kind, declared.rule.Node.Node as RuleNode}
@@ -21,7 +21,7 @@ use Rattle.model.specs.Flatten.Append.{append-none, append-size, grouped
 use Rattle.model.specs.{Syntax.Syntax, Model.countsOf, Model.modelOf, Flatten.Map.depth-map}
 use Rattle.model.specs.Flatten.Depth.{deepest, deepestOf, deepest-append, deepest-first, group-deepest}
 use Rattle.model.specs.{Rule.Laws.rule-eval, Model.Counts, Model.Model, Model.fold, Model.foldNode, Model.foldAll, Model.needed, Model.evalStep}
-use Rattle.model.specs.Depth.{nilFlat, mergesBy, bringsBy, besideBy, gatheredBy, someEmpty, overBy, groupBy, signIn, flatPart, flatBy}
+use Rattle.model.specs.Depth.{nilFlat, mergesBy, bringsBy, besideBy, gatheredBy, someEmpty, overBy, groupBy, flatBy}
 use Rattle.model.specs.Depth.{ruleDepth, flatNode, signNumbered, flatIn}
 
 -- what is kept of a tree

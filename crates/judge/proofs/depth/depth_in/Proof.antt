@@ -2,7 +2,7 @@
 use mathlib.Core.{Path._≡_, Path.refl, Path.sym, Path.ap, Path._∙_, List.map}
 use Prim.Native.Nat.{_≤_}
 use native.Mathlib.Omega.{arith}
-use lib.{ListN.length, ListN.take, ListN.drop, ListN.List·getD-map, Seq.slice-empty}
+use lib.{ListN.take, ListN.drop, ListN.List·getD-map, Seq.slice-empty}
 use borrow.Author.Needs.{needs}
 use Rattle.fields.specs.Stack.{unmapped}
 use Rattle.model.specs.Depth.{nilFlat, flatIn, flatBy}

@@ -3,7 +3,7 @@ use borrow.Author.Needs.{needs}
 use mathlib.Core.Path.{_≡_, refl, sym, ap, _∙_}
 use Rattle.judge.specs.{Row.rowTested, FirstFault.upperCounts, FirstFault.firstFault, FirstFault.Laws.searched-found, FirstFault.Laws.searched-refused}
 use Rattle.judge.specs.{declared.row.Tested.the-variants.Passed, declared.verdict.Searched.the-variants.Found}
-use Rattle.judge.specs.Row.Code.{readable-within, Passes, tested, packed-passes, searchable}
+use Rattle.judge.specs.Row.Code.{readable-within, Passes, tested, packed-passes, searchable, counts-known}
 use Rattle.judge.proofs.first_fault.first_fault.Statement.{statement}
 use Rattle.judge.proofs.first_fault.first_fault.Tie as tie
 
@@ -25,7 +25,7 @@ passes : (c : tie.After-enum-told) → let t = c .before .before in Passes (entr
 passes c = tested _ _ (test c)
 
 pack-requires : tie.Need-pack-requires
-pack-requires c κs = (readable-within _ (passes (c .before) .good) .0, (refl, refl))
+pack-requires c κs = let w = readable-within _ (passes (c .before) .good) in (w .0, w .1, (refl, refl))
 
 search-row-requires : tie.Need-search-row-requires
 search-row-requires c κs =
@@ -38,7 +38,9 @@ returns : tie.Need-returns
 returns c =
     let k = packed (c .before) in
     let s = entry (passed k .before .before) in
-    ap Found (c .search-row .ensures .0 .fault-is ∙ ap (λ l. firstFault (upperCounts l) (s .args .row .now)) (k .pack .ensures .held))
+    let p = packed-passes (passes (passed k)) _ (k .pack .ensures) in
+    let u = counts-known (k .pack .last .1 .0) (s .args .rule .len) (passed k .enum-told .given .0 .0) (s .args .row .now) p in
+    ap Found (c .search-row .ensures .0 _ u .fault-is ∙ ap (λ l. firstFault (upperCounts l) (s .args .row .now)) (k .pack .ensures .held))
     ∙ searched-found (s .args .rule) (s .args .row .now) (test (passed k))
 
 returns-2 : tie.Need-returns-2

@@ -17,7 +17,7 @@ passes : (c : tie.After-names) → let s = entry (c .before .before) in Passes (
 passes c = tested _ _ (sym (c .before .before .test-row .ensures) ∙ c .names .given .1)
 
 pack-requires : tie.Need-pack-requires
-pack-requires c κs = (readable-within _ (passes (c .before .before) .good) .0, (refl, refl))
+pack-requires c κs = let w = readable-within _ (passes (c .before .before) .good) in (w .0, w .1, (refl, refl))
 
 next-on-requires : tie.Need-next-on-requires
 next-on-requires c κs = let k = c .before .before in packed-passes (passes (passed k)) _ (k .pack .ensures)

@@ -5,6 +5,7 @@ use native.Mathlib.Omega.{arith}
 use lib.ListN.{take}
 use Rattle.model.specs.declared.rule.Node.{Node}
 use Rattle.judge.specs.{Packed.nodeIn, Packed.seenIn, Packed.Laws.same-nodes, Row.Tally.Laws.fault-told, Row.Code.atoms-within, Row.Code.searchable}
+use Rattle.judge.specs.{FirstFault.upperCounts, Row.Tally.RowTallied, Row.Code.counts-known}
 use Rattle.judge.specs.Next.Code.{next-stopped, next-tallied, hands-no-names}
 use borrow.Author.Needs.{needs}
 use Rattle.judge.proofs.next.next_on.Statement.{statement}
@@ -26,8 +27,15 @@ told c = c .before .before
 few : (s : tie.Start) → s .args .names ≤ 64
 few s = atoms-within (nodes s) (s .pre .1 .0 .0) (s .pre .1 .0 .1)
 
+-- what the search tells, by the upper counts
+tallied : (c : tie.After-search-row)
+    → RowTallied (upperCounts (nodes (entry c))) (entry c .args .children .now) (seenIn (c .search-row .last .1 .0)) (c .search-row .result)
+tallied c =
+    let s = entry c in
+    c .search-row .ensures .0 _ (counts-known (s .args .words .now) (s .args .len) (s .args .names) (s .args .children .now) (s .pre))
+
 -- the search leaves the nodes as they were
-same : (c : tie.After-search-row) → map nodeIn (take (entry c .args .len) (c .search-row .last .0)) ≡ nodes (entry c)
+same : (c : tie.After-search-row) → map nodeIn (take (entry c .args .len) (c .search-row .last .1 .0)) ≡ nodes (entry c)
 same c = same-nodes _ _ (c .search-row .ensures .1) _ (entry c .pre .0 .0)
 
 search-row-requires : tie.Need-search-row-requires
@@ -50,7 +58,7 @@ returns c =
     let s = entry f in
     hands-no-names (s .args .row .now)
     (next-stopped (nodes s) (s .pre .1 .0 .0) (s .args .children .now) (s .pre .1 .0 .1) (s .pre .1 .1 .1)
-    (fault-told (f .search-row .ensures .0) (c .enum-told .given .1)))
+    (fault-told (tallied f) (c .enum-told .given .1)))
 
 returns-2 : tie.Need-returns-2
 returns-2 c =
@@ -62,8 +70,8 @@ returns-2 c =
     rw (
       b .root-next .ensures,
       same (sound (told b)),
-      next-tallied (nodes s) (s .pre .1 .0 .0) (s .args .children .now) (s .pre .1 .0 .1) (s .pre .1 .1 .1) (fault-told (f .ensures .0) e)
-          (seenIn (f .last .0)) (f .ensures .0 .tallied e),
+      next-tallied (nodes s) (s .pre .1 .0 .0) (s .args .children .now) (s .pre .1 .0 .1) (s .pre .1 .1 .1) (fault-told (tallied (sound (told b))) e)
+          (seenIn (f .last .1 .0)) (tallied (sound (told b)) .tallied e),
     )
     at (n .list-names .ensures)
 

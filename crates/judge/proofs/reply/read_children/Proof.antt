@@ -1,26 +1,23 @@
 -- The model text first, then the size of the children text, then its children, by the upper counts of the model.
-use mathlib.Core.{Path.refl, List.[]}
+use mathlib.Core.{Path.refl, List.[], List.map}
+use lib.ListN.{take}
 use native.Mathlib.Omega.{arith}
 use borrow.Author.Needs.{needs}
-use Rattle.judge.specs.Reading.Whole.{Whole, whole-past, whole-fault, whole-apart, whole-count}
-use Rattle.judge.specs.{Packed.seenIn, Packed.Laws.same-over, Row.Tally.Seeing, Row.Tally.Laws.seeing-none, Reply.Children.Laws.walk-none}
+use Rattle.judge.specs.Reading.Whole.{Whole, whole-past, whole-fault, whole-apart, whole-limited}
+use Rattle.judge.specs.{Packed.nodeIn, Packed.seenIn, FirstFault.upperCounts, Row.Tally.Seeing, Reply.Children.Laws.walk-none}
 use Rattle.judge.specs.Reply.Read.{model-refused, children-fit, long-refused, bad-refused, stopped-read, texts-read}
 use Rattle.judge.proofs.reply.read_children.Statement.{statement}
 use Rattle.judge.proofs.reply.read_children.Tie as tie
 
--- places: the start, where the model text was read, where the children text is not too long, where the upper counts are known, and where the children
--- were read
+-- places: the start, where the model text was read, where there are children, and where they were read
 abbrev start : tie.After-read-whole → tie.Start
 start c = c .before .before .before .before .before .before
 
 abbrev read : tie.After-known-told → tie.After-read-whole
 read c = c .before .before .before
 
-abbrev sized : tie.After-limit-names → tie.Else1
-sized c = c .before .before .before
-
-abbrev limited : tie.After-tally-children → tie.After-limit-names
-limited c = c .before .before .before .before
+abbrev some : tie.After-tally-children → tie.Else2
+some c = c .before .before .before .before
 
 abbrev counted : tie.After-known-told2 → tie.After-tally-children
 counted c = c .before .before .before
@@ -34,9 +31,10 @@ whole c = whole-past (read c .read-whole .ensures) (c .before .past .given .1)
 read-whole-requires : tie.Need-read-whole-requires
 read-whole-requires c κs = let n = c .before .before in (n .before .before .before .pre, refl, refl)
 
--- nothing is seen before the children
-unseen-yet : (c : tie.After-known-told) → Seeing [] [] (seenIn (read c .read-whole .last .1 .0))
-unseen-yet c = rw (whole c .nodes .behind) (seeing-none 65 (omega arith))
+-- before the children the upper counts are known
+limited : (c : tie.After-known-told)
+    → let words = read c .read-whole .last .1 .0 in Seeing (upperCounts (map nodeIn (take (c .before .past .given .0 .0 .nodes) words))) [] (seenIn words)
+limited c = whole-limited (whole c)
 
 returns : tie.Need-returns
 returns c = long-refused (whole (c .before)) _ _ _ (c .if1 .taken)
@@ -46,49 +44,37 @@ returns-2 c =
     let e = c .before in
     let k = e .before in
     let children = start (read k) .args .children .now in
-    texts-read (whole k) children (e .if1 .left) _ (refl, refl) (walk-none children _ _ (c .if2 .taken) (unseen-yet k)) refl
-
-limit-names-requires : tie.Need-limit-names-requires
-limit-names-requires c κs =
-    let k = c .before .before .before in
-    let w = whole k in
-    ((w .nodes .few, omega (arith, w .nodes .whole)), (omega (arith, whole-count w, w .tabled .few), unseen-yet k))
+    texts-read (whole k) children (e .if1 .left) _ (refl, refl) (walk-none children _ (c .if2 .taken) (limited k)) refl
 
 tally-children-requires : tie.Need-tally-children-requires
 tally-children-requires c κs =
-    let l = c .before .before .before in
-    let e = sized l in
-    let w = whole (e .before) in
-    ((w .tabled, whole-apart w), (omega (arith, l .before .before .if2 .left), e .if1 .left))
+    let s = c .before .before .before in
+    let w = whole (s .before .before) in
+    ((w .tabled, whole-apart w), (omega (arith, s .if2 .left), s .before .if1 .left))
 
-cast-t28 : tie.Need-cast-t28
-cast-t28 c =
-    let t = counted c in
-    omega (arith, children-fit (t .tally-children .ensures .0 _ (limited t .limit-names .ensures .0)) (c .before .n .given .1))
+cast-t26 : tie.Need-cast-t26
+cast-t26 c = let t = counted c in omega (arith, children-fit (t .tally-children .ensures .0 _ (limited (some t .before .before))) (c .before .n .given .1))
 
 returns-3 : tie.Need-returns-3
 returns-3 c =
     let t = counted c in
-    let l = limited t in
-    let e = sized l in
-    texts-read (whole (e .before)) _ (e .if1 .left) _ (same-over (l .limit-names .ensures .1) (t .tally-children .ensures .1))
-    (t .tally-children .ensures .0 _ (l .limit-names .ensures .0)) (c .before .n .given .1)
+    let e = some t .before in
+    texts-read (whole (e .before)) _ (e .if1 .left) _ (t .tally-children .ensures .1)
+    (t .tally-children .ensures .0 _ (limited (e .before))) (c .before .n .given .1)
 
 returns-4 : tie.Need-returns-4
 returns-4 c =
     let t = c .before .before .before in
-    let l = limited t in
-    let e = sized l in
-    stopped-read (whole (e .before)) _ (e .if1 .left) _ (same-over (l .limit-names .ensures .1) (t .tally-children .ensures .1))
-    (t .tally-children .ensures .0 _ (l .limit-names .ensures .0)) (c .before .p .given .1)
+    let e = some t .before in
+    stopped-read (whole (e .before)) _ (e .if1 .left) _ (t .tally-children .ensures .1)
+    (t .tally-children .ensures .0 _ (limited (e .before))) (c .before .p .given .1)
 
 returns-5 : tie.Need-returns-5
 returns-5 c =
     let t = c .before .before .before in
-    let l = limited t in
-    let e = sized l in
-    bad-refused (whole (e .before)) _ (e .if1 .left) _ (same-over (l .limit-names .ensures .1) (t .tally-children .ensures .1))
-    (t .tally-children .ensures .0 _ (l .limit-names .ensures .0)) (c .before .f .given .1)
+    let e = some t .before in
+    bad-refused (whole (e .before)) _ (e .if1 .left) _ (t .tally-children .ensures .1)
+    (t .tally-children .ensures .0 _ (limited (e .before))) (c .before .f .given .1)
 
 returns-6 : tie.Need-returns-6
 returns-6 c =
@@ -103,10 +89,9 @@ read-children-spec =
     (λ c. search needs)
     returns
     returns-2
-    limit-names-requires
     tally-children-requires
     (λ c. search needs)
-    cast-t28
+    cast-t26
     (λ c. search needs)
     (λ c. search needs)
     (λ c. search needs)

@@ -1,31 +1,21 @@
 -- The children of a row, one by one: none that is passed is at fault, and they are seen.
 use mathlib.Core.{Path._≡_, Path.refl, Path.sym, Path._∙_, List.List, List.[], List._∷_, List._++_}
 use mathlib.Core.Bool.{cond, true≢false}
-use Prim.Native.Nat.{ℕ, zero, suc, _+_, _-_, _≤_, _<_}
+use Prim.Native.Nat.{ℕ, suc, _+_, _-_, _≤_, _<_}
 use native.Mathlib.{Numerals.add-one, Omega.arith}
 use lib.Dec.{ltb}
-use lib.ListN.{length, take, getD, set, replicate, getD-replicate, length-replicate, length-set}
+use lib.ListN.{length, take, getD, set, length-set}
 use lib.Seq.{getD-set-same, getD-set-other, take-suc, take-all, length-take-le}
 use borrow.Author.Tests.{lt-ltb, le-ltb}
 use Rattle.fields.specs.{Limits.maxAtoms, Tests.by-test}
 use Rattle.model.specs.declared.rule.Upper.{Upper}
-use Rattle.model.specs.Word.{Word, only, keep, touched}
+use Rattle.model.specs.Word.{Word, only}
 use Rattle.model.specs.Word.Laws.{only-is, only-self}
-use Rattle.model.specs.Word.Span.{lastBehind}
 use Rattle.judge.specs.declared.verdict.FirstFault.{FirstFault}
 use Rattle.judge.specs.declared.verdict.FirstFault.the-variants.{At, Nothing}
 use Rattle.judge.specs.FirstFault.{isFault, firstWhere, firstFault, Laws.count-with}
-use Rattle.judge.specs.Row.Tally.{oneLeft, notedWord, seenWord, Seeing, RowTallied, RowPassed}
+use Rattle.judge.specs.Row.Tally.{oneLeft, notedWord, Seeing, RowTallied, RowPassed}
 use Rattle.judge.specs.Row.Tally.Words.{seen-whole, full-is, seen-more, seen-other}
-
-pub seeing-none : (size : ℕ) → maxAtoms < size → Seeing [] [] (replicate size 0)
-unfolding seenWord keep touched lastBehind
-seeing-none size g =
-    record { room = rw length-replicate g; word-is = λ k h. getD-replicate size k 0 0 (omega arith) ∙ none k }
-  where
-    none : (k : ℕ) → 0 ≡ seenWord [] [] k
-    none zero = refl
-    none (suc k) = refl
 
 module _ {us : List Upper} {w : Word} {s : List ℕ} (t : Seeing us w s) where
   -- a child more
@@ -44,9 +34,9 @@ pub fault-told : {us : List Upper} {w : Word} {s : List ℕ} {r a : FirstFault} 
 fault-told t e = sym (t .fault-is) ∙ e
 
 -- in a row of no children there is none
-pub none-told : (us : List Upper) {s : List ℕ} → Seeing [] [] s → RowTallied us [] s Nothing
+pub none-told : {us : List Upper} {s : List ℕ} → Seeing us [] s → RowTallied us [] s Nothing
 unfolding firstFault
-none-told us t = record { fault-is = refl; tallied = λ _ k n. rw (t .word-is k n) (seen-whole [] [] k (omega arith)) }
+none-told {us} t = record { fault-is = refl; tallied = λ _ k n. rw (t .word-is k n) (seen-whole us [] k (omega arith)) }
 
 -- where a child is at fault, nothing is told
 pub row-told : {us : List Upper} {w : Word} {i : ℕ} {s : List ℕ} → firstFault us w ≡ At i → RowTallied us w s (At i)

@@ -1,42 +1,21 @@
 -- The upper counts of nodes, put into the numbers of their names.
-use mathlib.Core.{Path._≡_, Path.refl, Path.ap, Path._∙_, List.List, List.[], List._∷_, List._++_, List.append-nil}
-use Prim.Native.Nat.{ℕ, zero, suc, _+_, _-_, _*_, _≤_, _<_}
+use mathlib.Core.{Path._≡_, Path.refl, Path.sym, Path.ap, Path._∙_, List.List, List.[], List._∷_, List._++_, List.map, List.map-append, List.append-assoc}
+use mathlib.Core.{List.append-nil}
+use Prim.Native.Nat.{ℕ, zero, suc, _+_, _-_, _≤_, _<_}
 use native.Mathlib.{Numerals.add-one, Omega.arith}
-use lib.Dec.{eqb}
-use lib.ListN.{length, take, drop, take-append-drop, getD, set, length-set}
-use lib.Seq.{getD-at, set-getD, getD-set-same, getD-set-other, take-suc}
-use borrow.Author.Tests.{eqb-true, eqb-false}
-use Rattle.fields.specs.{Limits.maxAtoms, Tests.by-test}
+use lib.ListN.{length, take, drop, take-append-drop, getD, set, replicate, length-replicate, length-append, length-map}
+use lib.Seq.{set-at, set-getD, take-suc}
+use Rattle.fields.specs.Limits.{maxAtoms, maxNodes}
 use Rattle.model.specs.declared.rule.Upper.{Upper}
+use Rattle.model.specs.{declared.rule.Sign.Sign, declared.rule.Mark.Mark}
 use Rattle.model.specs.declared.rule.Upper.the-variants.{Number}
 use Rattle.model.specs.{declared.rule.Kind.Kind, declared.rule.Node.Node, Model.isAtom, Model.atomsIn, Model.Eval.atoms-append}
 use Rattle.model.specs.Model.Eval.{atoms-next}
 use Rattle.model.specs.declared.rule.Kind.the-variants.{Atom, Group}
 use Rattle.judge.specs.FirstFault.{withUpper, upperCounts, allowed}
-use Rattle.judge.specs.Row.Tally.{oneLeft, limitNumber, limitedWord, Seeing}
+use Rattle.judge.specs.{Packed.nodeIn, Packed.Laws.seen-at, Reading.Buffer.Stores, Reading.Buffer.holds-more, Reading.Buffer.holds-rest}
+use Rattle.judge.specs.Row.Tally.{limitWord, limitsIn, limitedWord, Seeing}
 use Rattle.judge.specs.Row.Tally.Words.{seen-none}
-
-other-limit : (us : List Upper) (n : Upper) (j : ℕ) → ¬ (j ≡ length us) → getD (us ++ (n ∷ [])) j (Number 0) ≡ getD us j (Number 0)
-other-limit [] n zero h = absurd (h refl)
-other-limit [] n (suc j) h = refl
-other-limit (x ∷ us) n zero h = refl
-other-limit (x ∷ us) n (suc j) h = other-limit us n j (λ e. h (ap suc e))
-
-pub seeing-limit : {us : List Upper} {s : List ℕ} → Seeing us [] s → (n : Upper) {v : ℕ} → length us < maxAtoms → v ≡ limitNumber n * oneLeft
-    → Seeing (us ++ (n ∷ [])) [] (set s (length us + 1) v)
-seeing-limit {us} {s} t n {v} h d =
-    rw add-one (record { room = rw length-set (t .room); word-is = λ k i. rw (seen-none (us ++ (n ∷ [])) k) (word k i) })
-  where
-    old : (k : ℕ) → ¬ (k ≡ suc (length us)) → allowed (us ++ (n ∷ [])) k ≡ allowed us k
-    old zero q = refl
-    old (suc j) q = other-limit us n j (λ e. q (ap suc e))
-
-    word : (k : ℕ) → k ≤ maxAtoms → getD (set s (suc (length us)) v) k 0 ≡ limitNumber (allowed (us ++ (n ∷ [])) k) * oneLeft
-    word k i =
-        let j = suc (length us) in
-        by-test (eqb k j)
-        (λ e. rw (eqb-true k j e, getD-set-same s j v 0 (omega (arith, t .room)), getD-at us n [] (Number 0) (length us) refl) d)
-        (λ e. let q = eqb-false k j e in rw (getD-set-other s j k v 0 q, old k q) (t .word-is k i ∙ seen-none us k))
 
 -- the upper counts of nodes, one node more
 with-append : (κ : Kind) (us vs : List Upper) → withUpper κ (us ++ vs) ≡ withUpper κ us ++ vs
@@ -47,6 +26,11 @@ upper-append : (l r : List Node) → upperCounts (l ++ r) ≡ upperCounts l ++ u
 upper-append [] r = refl
 upper-append (x ∷ l) r = rw (upper-append l r) (with-append (x .kind) (upperCounts l) (upperCounts r))
 
+-- one node in the place of another
+pub upper-middle : (u v : List Node) (a d : Node) → withUpper (a .kind) (upperCounts v) ≡ withUpper (d .kind) (upperCounts v)
+    → upperCounts (u ++ (a ∷ v)) ≡ upperCounts (u ++ (d ∷ v))
+upper-middle u v a d e = upper-append u (a ∷ v) ∙ ap (λ us. upperCounts u ++ us) e ∙ sym (upper-append u (d ∷ v))
+
 with-length : (κ : Kind) (us : List Upper) → length (withUpper κ us) ≡ isAtom κ + length us
 with-length (Atom lo hi) us = omega arith
 with-length (Group s n) us = omega arith
@@ -55,24 +39,84 @@ upper-length : (l : List Node) → length (upperCounts l) ≡ atomsIn l
 upper-length [] = refl
 upper-length (x ∷ l) = with-length (x .kind) (upperCounts l) ∙ rw (upper-length l)
 
-node-limited : (κ : Kind) {us : List Upper} {s : List ℕ} {v : ℕ} → Seeing us [] s → length us + isAtom κ ≤ maxAtoms
-    → v ≡ limitedWord κ (getD s (length us + isAtom κ) 0) → Seeing (us ++ withUpper κ []) [] (set s (length us + isAtom κ) v)
-node-limited (Atom lo hi) t h e = seeing-limit t hi (omega arith) e
-node-limited (Group g n) {us} {s} t h e = rw (append-nil us, e, set-getD s (length us + 0) 0) t
+-- What stands behind nodes: of none; of one more; and of some with the same upper counts.
+limit-more : (us : List Upper) (n : Upper) (k : ℕ) → length us ≡ k → k < maxAtoms
+    → set (map limitWord us ++ replicate (maxAtoms - length us) 0) k (limitWord n)
+    ≡ map limitWord (us ++ (n ∷ [])) ++ replicate (maxAtoms - length (us ++ (n ∷ []))) 0
+limit-more us n k q h =
+    let d : maxAtoms - length us ≡ suc (maxAtoms - suc (length us)) = omega arith in
+    let e : length (us ++ (n ∷ [])) ≡ suc (length us) = length-append us (n ∷ []) ∙ add-one (length us) in
+    let zeros : List ℕ = replicate (maxAtoms - suc (length us)) 0 in
+    rw (d, e, map-append)
+    (set-at (map limitWord us) 0 zeros (limitWord n) k (length-map us limitWord ∙ q) ∙ sym (append-assoc (map limitWord us) (limitWord n ∷ []) zeros))
+
+limit-at : (us : List Upper) (m j : ℕ) → getD (map limitWord us ++ replicate m 0) j 0 ≡ limitWord (getD us j (Number 0))
+limit-at [] zero j = refl
+limit-at [] (suc m) zero = refl
+limit-at [] (suc m) (suc j) = limit-at [] m j
+limit-at (u ∷ us) m zero = refl
+limit-at (u ∷ us) m (suc j) = limit-at us m j
+
+pub limits-none : limitsIn [] ≡ replicate (maxAtoms + 1) 0
+unfolding limitsIn
+limits-none = refl
+
+module _ (l : List Node) where
+  pub limits-same : (m : List Node) → upperCounts l ≡ upperCounts m → limitsIn l ≡ limitsIn m
+  unfolding limitsIn
+  limits-same m e = rw e
+
+  -- a group has no name
+  pub limits-group : (s : Sign) (n : ℕ) (m : Mark) → limitsIn (l ++ (record { kind = Group s n; mark = m } ∷ [])) ≡ limitsIn l
+  unfolding limitsIn
+  limits-group s n m = rw (upper-append l (record { kind = Group s n; mark = m } ∷ []), append-nil)
+
+  pub limits-atom : (lo : ℕ) (hi : Upper) (m : Mark) → atomsIn l < maxAtoms
+      → set (limitsIn l) (atomsIn l + 1) (limitWord hi) ≡ limitsIn (l ++ (record { kind = Atom lo hi; mark = m } ∷ []))
+  unfolding limitsIn
+  limits-atom lo hi m h =
+      rw (add-one, upper-append l (record { kind = Atom lo hi; mark = m } ∷ []))
+      (ap (λ r. 0 ∷ r) (limit-more (upperCounts l) hi (atomsIn l) (upper-length l) h))
+
+  pub limits-seeing : atomsIn l ≤ maxAtoms → Seeing (upperCounts l) [] (limitsIn l)
+  unfolding limitsIn
+  limits-seeing h =
+      let us = upperCounts l in
+      let zeros : List ℕ = replicate (maxAtoms - length us) 0 in
+      let z = length-replicate {A = ℕ} (maxAtoms - length us) 0 in
+      record {
+        room = omega (arith, length-append (map limitWord us) zeros, length-map us limitWord, z, upper-length l);
+        word-is = λ k i. word k ∙ sym (seen-none us k);
+      }
+    where
+      word : (k : ℕ) → getD (0 ∷ (map limitWord (upperCounts l) ++ replicate (maxAtoms - length (upperCounts l)) 0)) k 0 ≡ limitWord (allowed (upperCounts l) k)
+      word zero = refl
+      word (suc j) = limit-at (upperCounts l) (maxAtoms - length (upperCounts l)) j
 
 -- the first i of the nodes l, and one more
 pub atoms-take : (l : List Node) (i : ℕ) → atomsIn (take i l) ≤ atomsIn l
 atoms-take l i = omega (arith, atoms-append (take i l) (drop i l), ap atomsIn (take-append-drop i l))
 
-pub limits-turn : (l : List Node) {i : ℕ} {x : Node} (d : Node) {s : List ℕ} {name one v : ℕ} → i < length l → atomsIn l ≤ maxAtoms → x ≡ getD l i d
-    → name ≡ atomsIn (take i l) → one ≡ isAtom (x .kind) → v ≡ limitedWord (x .kind) (getD s (name + one) 0) → Seeing (upperCounts (take i l)) [] s
-    → (name + one ≡ atomsIn (take (i + 1) l)) × Seeing (upperCounts (take (i + 1) l)) [] (set s (name + one) v)
-limits-turn l {i} {x} d {s} {name} {one} {v} h b e n o w t =
-    let us = upperCounts (take i l) in
-    let q : name + one ≡ length us + isAtom (x .kind) = omega (arith, upper-length (take i l)) in
+-- by what the node's kind is
+limits-more : (l : List Node) (κ : Kind) (m : Mark) → atomsIn l + isAtom κ ≤ maxAtoms
+    → let k = atomsIn l + isAtom κ in set (limitsIn l) k (limitedWord κ (getD (limitsIn l) k 0)) ≡ limitsIn (l ++ (record { kind = κ; mark = m } ∷ []))
+limits-more l (Atom lo hi) m h = limits-atom l lo hi m (omega arith)
+limits-more l (Group s n) m h = set-getD (limitsIn l) (atomsIn l + 0) 0 ∙ sym (limits-group l s n m)
+
+-- a turn of the loop over the nodes l, with what its calls gave
+pub limits-turn : (l : List Node) {i : ℕ} {x : Node} (d : Node) {words : List ℕ} {name one : ℕ} (w : ℕ) {v : ℕ}
+    → i < maxNodes → i < length l → atomsIn l ≤ maxAtoms → x ≡ getD l i d → nodeIn w ≡ x
+    → name ≡ atomsIn (take i l) → one ≡ isAtom (x .kind) → v ≡ limitedWord (x .kind) (getD (set words i w) (maxNodes + (name + one)) 0)
+    → Stores nodeIn maxNodes (limitsIn (take i l)) words i (take i l)
+    → (name + one ≡ atomsIn (take (i + 1) l))
+    × Stores nodeIn maxNodes (limitsIn (take (i + 1) l)) (set (set words i w) (maxNodes + (name + one)) v) (i + 1) (take (i + 1) l)
+limits-turn l {i} {x} d {words} {name} {one} w {v} f h b e q n o g t =
     let m : atomsIn (take (i + 1) l) ≡ isAtom (x .kind) + atomsIn (take i l) = rw e (atoms-next l i d h) in
-    let u : upperCounts (take (i + 1) l) ≡ us ++ withUpper (x .kind) [] =
-    rw (add-one, take-suc l i d h, ← e) (upper-append (take i l) (x ∷ [])) in (
-      omega arith,
-      rw (u, q) (node-limited (x .kind) t (omega (arith, atoms-take l (i + 1))) (rw q at w)),
-    )
+    let u : take (i + 1) l ≡ take i l ++ (x ∷ []) = rw (add-one, e) (take-suc l i d h) in
+    let k : name + one ≡ atomsIn (take i l) + isAtom (x .kind) = omega arith in
+    let s = holds-more t w f q in
+    let r : v ≡ limitedWord (x .kind) (getD (limitsIn (take i l)) (name + one) 0) =
+    g ∙ ap (limitedWord (x .kind)) (sym (seen-at (set words i w) (name + one)) ∙ ap (λ z. getD z (name + one) 0) (s .behind)) in
+    let c : set (limitsIn (take i l)) (name + one) v ≡ limitsIn (take i l ++ (x ∷ [])) =
+    rw (r, k) (limits-more (take i l) (x .kind) (x .mark) (omega (arith, m, atoms-take l (i + 1)))) in
+    (omega arith, rw (u, ← c) (holds-rest s (name + one) v))

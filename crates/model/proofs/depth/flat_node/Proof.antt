@@ -1,8 +1,8 @@
 -- MembersMade holds of the members from place `at` on
-use mathlib.Core.{Path._≡_, Path.refl, Path.sym, Path.ap, Path.ap₂, Path._∙_, List.map}
+use mathlib.Core.{Path._≡_, Path.sym, Path.ap, Path.ap₂, Path._∙_, List.map}
 use Prim.Native.Nat.{_-_, _≤_}
 use native.Mathlib.Omega.{arith}
-use lib.ListN.{length, getD, length-map, List·getD-map}
+use lib.ListN.{length, length-map, List·getD-map}
 use borrow.Author.Needs.{needs}
 use Rattle.model.specs.Depth.{flatIn, overBy, flatPart, Laws.MembersMade, Laws.join-none, Laws.join-turn}
 use Rattle.model.proofs.depth.flat_node.Statement.{statement}
