@@ -8,7 +8,6 @@ ghost use Rattle.judge.specs.Packed.{nodeIn};
 ghost use Rattle.judge.specs.Next.{Set.single, Ahead.firstOpen, Ahead.secondOpen, Ahead.pairAhead, Ahead.partAhead, Ahead.grownAhead, Ahead.markedAhead};
 use crate::attribute::Attribute;
 use crate::attribute::begin;
-use crate::attribute::blank;
 use crate::attribute::marked_in;
 use crate::attribute::only_if;
 use crate::attribute::pair;
@@ -21,15 +20,6 @@ use model::rule::Upper;
 pub(crate) struct Ahead {
     pub(crate) part: Attribute,
     pub(crate) next: u64,
-}
-
-pub(crate) fn blank_ahead() -> Ahead
-    ensures { λ r. ⌜ r .next ≡ 0 ⌝ }
-{
-    Ahead {
-        part: blank(),
-        next: 0,
-    }
 }
 
 fn single(name: usize) -> u64

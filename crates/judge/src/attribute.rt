@@ -21,18 +21,6 @@ pub(crate) struct Attribute {
     pub(crate) alive: bool,
 }
 
-// What fills a stack at first: zeros are made fastest, and no place is read before it is written.
-pub(crate) fn blank() -> Attribute
-    ensures { λ r. ⌜ r .behind ≡ 0 ⌝ }
-{
-    Attribute {
-        first: 0,
-        behind: 0,
-        done: false,
-        alive: false,
-    }
-}
-
 pub(crate) fn only_if(test: bool, n: u64) -> u64
     ensures { λ r. ⌜ r ≡ cond test n 0 ⌝ }
 {

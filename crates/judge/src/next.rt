@@ -9,10 +9,12 @@ ghost use Rattle.judge.specs.Packed.{nodeIn, ruleIn, seenIn};
 ghost use Rattle.judge.specs.{Row.upto, Row.Tally.limitsIn, Row.Tally.seenOf};
 ghost use Rattle.judge.specs.Next.{numbersTo, nextNames, fitted, nextJudged, childrenNext, HandsNext, HandsChildrenNext, Set.inSet};
 ghost use Rattle.judge.specs.Next.Ahead.{rootAhead};
+use crate::ahead::Ahead;
 use crate::ahead::begin_ahead;
-use crate::ahead::blank_ahead;
 use crate::ahead::grown_ahead;
 use crate::ahead::marked_ahead;
+use crate::attribute::attribute_in;
+use crate::attribute::attribute_word;
 use crate::fault::JudgeFault;
 use crate::packed::WORDS;
 use crate::packed::kind_in;
@@ -32,13 +34,14 @@ use model::check::members_of;
 use model::rule::MAX_NODES;
 use model::rule::Rule;
 
-// The pass of row::root, with what is ahead of each node: of the first one, the names that may come next behind a row in which no child is at fault.
-fn root_next(words: &[u64; WORDS], len: usize, names: usize, children: u16) -> u64
+// The pass of row::root, with the sets of names that may come next beside the attributes: of the first node, the names that may come next behind a row in
+// which no child is at fault.
+fn root_next(words: &mut [u64; WORDS], len: usize, names: usize, children: u16) -> u64
     requires { ⌜ (len ≤ maxNodes) × (maxNodes ≤ length (now words)) ⌝ }
     requires { ⌜ (names ≡ atomsIn (map nodeIn (take len (now words)))) × (names ≤ maxAtoms) ⌝ }
     ensures { λ r. ⌜ r ≡ rootAhead (ruleIn (now (words .entry)) len) children (λ k. seenOf children (getD (seenIn (now (words .entry))) k 0)) .next ⌝ }
 {
-    let mut stack = [blank_ahead(); MAX_NODES];
+    let mut sets = [0u64; MAX_NODES];
     let mut top = MAX_NODES;
     let mut name = names;
     let mut i = len;
@@ -51,20 +54,22 @@ fn root_next(words: &[u64; WORDS], len: usize, names: usize, children: u16) -> u
         let mut x = begin_ahead(children, kind, here, name);
         let mut at = top;
         while at < end {
-            let y = stack[at];
+            let part = attribute_in(words[at]);
+            let y = Ahead {
+                part: part,
+                next: sets[at],
+            };
             x = grown_ahead(kind, at == top, x, y);
             at += 1;
         }
         name -= atoms_of(kind);
         top = end - 1;
-        stack[top] = marked_ahead(children, word, x);
+        let whole = marked_ahead(children, word, x);
+        let part = whole.part;
+        words[top] = attribute_word(part);
+        sets[top] = whole.next;
     }
-    if top < MAX_NODES {
-        let root = stack[top];
-        root.next
-    } else {
-        0
-    }
+    if top < MAX_NODES { sets[top] } else { 0 }
 }
 
 // How many of the first n names are in the set.
@@ -163,7 +168,7 @@ pub fn next_children(model: &[u8], children: &[u8], row: &mut [u16]) -> Children
     match read_children(model, children, &mut words) {
         ChildrenRead::Both(read) => {
             let names = read.names;
-            let set = root_next(&words, read.nodes, names, read.children);
+            let set = root_next(&mut words, read.nodes, names, read.children);
             ChildrenNext::Next(list_names(set, names, row))
         }
         ChildrenRead::Faulty(_) => ChildrenNext::Next(Next::Names(0)),

@@ -5,13 +5,13 @@ use Prim.Native.Nat.{ℕ, suc, _+_, _-_, _≤_, _<_, min}
 use native.Mathlib.{Nat.add-comm, Decide.decLt, Omega.arith}
 use lib.Dec.{eqb}
 use lib.ListN.{length, take, drop, getD, set, length-set, length-drop, drop-of-length-le}
-use lib.Seq.{take-suc, drop-cons, take-all, getD-drop, length-take-le}
+use lib.Seq.{drop-set-lt, getD-set-other, take-suc, drop-cons, take-all, getD-drop, length-take-le}
 use borrow.Author.Tests.{eq-eqb, ne-eqb}
 use Rattle.model.specs.{declared.rule.Upper.Upper, declared.rule.Sign.Sign, declared.rule.Mark.Mark, declared.rule.Kind.Kind, declared.rule.Node.Node}
 use Rattle.model.specs.{Rule.ruleWith, Rule.used, Rule.Laws.used-with, Model.Eval.after-is, Model.Eval.atoms-next}
 use Rattle.model.specs.declared.rule.Kind.the-variants.{Atom, Group}
 use Rattle.model.specs.Model.{Algebra, after, needed, evalStep, eval, atomsIn, isAtom}
-use Rattle.judge.specs.{Packed.nodeIn, Reading.Buffer.Stores, Reading.Buffer.holds-count, Reading.Buffer.holds-at}
+use Rattle.judge.specs.{Packed.nodeIn, Packed.seenIn, Reading.Buffer.Stores, Reading.Buffer.holds-count, Reading.Buffer.holds-at}
 use Rattle.fields.specs.{Limits.maxNodes, Stack.drop-back, Stack.first-entries, Stack.replaced}
 
 -- An algebra member by member: `part` is what it gives for an atom, by its number, or for a group, by some first of its members; `grown` joins a member
@@ -32,6 +32,18 @@ pub record Evaluated {A : Type 0} (g : Algebra A) (l : List Node) (i : ℕ) (sta
   pub long : length stack ≡ maxNodes
   pub name-is : name ≡ atomsIn (take i l)
   pub stack-is : drop top stack ≡ eval g (drop i l) (name + 1)
+
+-- A stack may stand in the places of nodes that were read: those before node i, and what is seen, then stand as at the start.
+pub record Standing (words₀ words : List ℕ) (i : ℕ) : Type 0 where
+  pub seen-same : seenIn words ≡ seenIn words₀
+  pub node-same : (k : ℕ) → k < i → getD words k 0 ≡ getD words₀ k 0
+
+pub standing-turn : {words₀ words : List ℕ} {i : ℕ} → Standing words₀ words i → (place w : ℕ) → i - 1 ≤ place → place < maxNodes
+    → Standing words₀ (set words place w) (i - 1)
+standing-turn {words = words} s place w a b = record {
+  seen-same = drop-set-lt maxNodes words place w b ∙ s .seen-same;
+  node-same = λ k h. getD-set-other words place k w 0 (λ e. omega arith) ∙ s .node-same k (omega arith);
+}
 
 -- the nodes l are held as numbers
 module _ {rest words : List ℕ} {len : ℕ} {l : List Node} (h : Stores nodeIn maxNodes rest words len l) where
