@@ -129,14 +129,14 @@ sub-name c = omega (arith, c .atoms-of .ensures .0, named (node (c .before .befo
 
 loop-again : tie.Need-loop-again Inv-loop2 μ-loop2 Inv-loop μ-loop
 loop-again c =
-    let m = c .before .before .before .before .before in
+    let whole = c .before .before in
+    let m = whole .before .before .before in
     let s = m .before .before .before .before in
     let k = node (m .before .before) in
     let l = turn k in
     let v = l .loop .inv in
     let u = m .loop2 in
     let place = s .lesser .result + l .loop .top - 1 in
-    let whole = c .before .before in
     let z : u .at ≡ s .lesser .result + l .loop .top = omega arith in (
       omega arith,
       omega arith,
@@ -145,15 +145,16 @@ loop-again c =
       standing-turn (v .4) place _ (omega arith) (omega arith),
       rw (stack-set (l .loop .words) (l .loop .sets) place (c .attribute-word .result) _ (omega arith) (c .attribute-word .ensures) refl)
           (pass-turn (ahead-parts _ (seenAt (start l))) (held (start l)) (k .before .before .loop-test .taken) (v .0) (read-is k) (v .5)
-          (omega arith) (v .2) (s .before .members-of .ensures) (s .lesser .ensures) (whole .before .atoms-of .ensures .0) (rw (z, v .4 .seen-same) at (u .inv .2))
-          (whole .marked-ahead .ensures)),
+          (omega arith) (v .2) (s .before .members-of .ensures) (s .lesser .ensures) (whole .before .atoms-of .ensures .0)
+          (rw (z, v .4 .seen-same) at (u .inv .2)) (whole .marked-ahead .ensures)),
     )
 
 returns : tie.Need-returns Inv-loop2 μ-loop2 Inv-loop μ-loop
 returns c =
     let l = c .before .before .loop in
     let next : Ahead → ℕ = λ x. x .next in
-    ap next (sym (stack-at (l .words) (l .sets) (l .top) blank (l .inv .5 .long) (omega arith)) ∙ pass-top (l .inv .5) (omega arith) blank (emptyAhead _) (omega arith))
+    ap next
+    (sym (stack-at (l .words) (l .sets) (l .top) blank (l .inv .5 .long) (omega arith)) ∙ pass-top (l .inv .5) (omega arith) blank (emptyAhead _) (omega arith))
 
 returns-2 : tie.Need-returns-2 Inv-loop2 μ-loop2 Inv-loop μ-loop
 returns-2 c = ap (λ (x : Ahead). x .next) (pass-empty (c .before .before .loop .inv .5) (omega arith) (emptyAhead _) (omega arith))
