@@ -1,4 +1,4 @@
-// The depth of the nodes that were read.
+// The depth of the nodes that were read, for 14.
 
 ghost use mathlib.Core.Path.{_≡_};
 ghost use lib.ListN.{length};

@@ -149,6 +149,7 @@ fn numbered_sign(number: u16) -> Sign
     Sign::Interleaving
 }
 
+// The same in one number, so that a stack of them can be lent in parts: two bits for the sign, one for each test, and the depth above them.
 fn flat_in(number: u16) -> Flat
     ensures { λ r. ⌜ r ≡ flatIn number ⌝ }
 {
@@ -176,7 +177,7 @@ fn flat_number(x: Flat) -> u16
     (x.depth as u16) * 16 + (number as u16) + marked + empty
 }
 
-// What is kept of a node, in one number, by what is kept of its members, the last of which is looked at first.
+// What is kept of a node, by what is kept of its members, each in one number. For a rule and for the nodes of a text alike.
 pub fn flat_node(kind: Kind, mark: Mark, members: &[u16]) -> u16
     ensures { λ r. ⌜ flatIn r ≡ flatNode kind mark (map flatIn (now (members .entry))) ⌝ }
 {
@@ -193,6 +194,7 @@ pub fn flat_node(kind: Kind, mark: Mark, members: &[u16]) -> u16
     flat_number(over(mark, part(kind, dropped, x)))
 }
 
+// The depth that such a number has.
 pub fn flat_depth(number: u16) -> u8
     ensures { λ r. ⌜ r ≡ flatIn number .depth ⌝ }
 {

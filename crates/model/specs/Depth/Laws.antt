@@ -206,10 +206,10 @@ module _ (s : Sign) (l : List Flat) where
   join-turn at d p h q e j = record { made = rw (drop-back l at d p h, ← j .made, ← q) e; drops = rw (drop-back l at d p h, ← j .drops, ← q) }
 
 -- a node, as the pass takes it from the stack
-pub node-step : (κ : Kind) (m : Mark) (k : ℕ) (rest : List Flat)
+pub flat-step : (κ : Kind) (m : Mark) (k : ℕ) (rest : List Flat)
     → flatNode κ m (take (needed κ) rest) ∷ drop (needed κ) rest ≡ evalStep flatBy κ m k rest
-node-step (Atom lo hi) m k rest = refl
-node-step (Group s n) m k rest = refl
+flat-step (Atom lo hi) m k rest = refl
+flat-step (Group s n) m k rest = refl
 
 -- a turn, with what its calls gave
 pub depth-turn : (nodes : List RuleNode) (len i : ℕ) (d : RuleNode) (stack : List ℕ) (y : ℕ) {top members clipped : ℕ}
@@ -218,4 +218,4 @@ pub depth-turn : (nodes : List RuleNode) (len i : ℕ) (d : RuleNode) (stack : L
     → flatIn y ≡ flatNode (getD nodes (i - 1) d .kind) (getD nodes (i - 1) d .mark) (map flatIn (take (clipped + top - top) (drop top stack)))
     → Walked flatBy (drop i (take len nodes)) (map flatIn stack) top
     → Walked flatBy (drop (i - 1) (take len nodes)) (map flatIn (set stack (clipped + top - 1) y)) (clipped + top - 1)
-depth-turn = packed-turn flatNode node-step flatIn
+depth-turn = packed-turn flatNode flat-step flatIn
