@@ -3,11 +3,11 @@
 pub mod Laws
 use mathlib.Core.Bool.{Bool, true, false, cond, not, _&&_, _||_}
 use mathlib.Core.List.{List, [], _∷_}
-use Prim.Native.Nat.{ℕ, _+_, _-_, _/_, _%_, max, min}
+use Prim.Native.Nat.{ℕ, _+_, _-_, _*_, _/_, _%_, max, min}
 use lib.{Dec.ltb, Dec.eqb, ListN.getD}
 use Rattle.model.specs.{declared.rule.Sign.Sign, declared.rule.Mark.Mark, declared.rule.Kind.Kind}
 use Rattle.model.specs.declared.rule.Sign.the-variants.{None, Sequence, Choice, Interleaving}
-use Rattle.model.specs.{declared.rule.Rule.Rule, declared.depth.Flat.Flat, Rule.used, Flatten.sameSign, Flatten.droppedMark, Model.Algebra, Model.eval}
+use Rattle.model.specs.{declared.rule.Rule.Rule, declared.depth.Flat.Flat, Rule.used, Flatten.signNumber, Flatten.sameSign, Flatten.droppedMark, Model.Algebra, Model.eval}
 use Rattle.model.specs.declared.rule.Kind.the-variants.{Atom, Group}
 use Rattle.model.specs.Tree.{isPlain}
 use Rattle.fields.specs.Limits.{maxNesting}
@@ -76,6 +76,9 @@ ruleDepth r = getD (eval flatBy (used r) 0) 0 nilFlat .depth
 -- what is kept of a tree, in one number, so that a stack of them can be lent
 abbrev pub signNumbered : ℕ → Sign
 signNumbered n = cond (eqb n 0) None (cond (eqb n 1) Sequence (cond (eqb n 2) Choice Interleaving))
+
+abbrev pub flatNumber : Flat → ℕ
+flatNumber x = x .depth * 16 + signNumber (x .sign) + cond (x .marked) 4 0 + cond (x .empty) 8 0
 
 unfoldable pub flatIn : ℕ → Flat
 flatIn n = record { sign = signNumbered (n % 4); marked = eqb (n / 4 % 2) 1; empty = eqb (n / 8 % 2) 1; depth = n / 16 % 256 }

@@ -2,7 +2,7 @@
 
 ghost use mathlib.Core.{Path._≡_, Bool.cond, List.map};
 ghost use Rattle.model.specs.Depth.{nilFlat, mergesBy, bringsBy, besideBy, overBy, closedBy, signIn, flatPart, flatNode, ruleDepth};
-ghost use Rattle.model.specs.Depth.{signNumbered, flatIn};
+ghost use Rattle.model.specs.Depth.{signNumbered, flatNumber, flatIn};
 ghost use Rattle.model.specs.Flatten.{signNumber, sameSign};
 use crate::check::larger;
 use crate::check::members_of;
@@ -168,7 +168,7 @@ fn only_if(test: bool, n: u16) -> u16
 }
 
 fn flat_number(x: Flat) -> u16
-    ensures { λ r. ⌜ flatIn r ≡ x ⌝ }
+    ensures { λ r. ⌜ r ≡ flatNumber x ⌝ }
 {
     let sign = x.sign;
     let number = sign_number(sign);
@@ -179,7 +179,7 @@ fn flat_number(x: Flat) -> u16
 
 // What is kept of a node, by what is kept of its members, each in one number. For a rule and for the nodes of a text alike.
 pub fn flat_node(kind: Kind, mark: Mark, members: &[u16]) -> u16
-    ensures { λ r. ⌜ flatIn r ≡ flatNode kind mark (map flatIn (now (members .entry))) ⌝ }
+    ensures { λ r. ⌜ r ≡ flatNumber (flatNode kind mark (map flatIn (now (members .entry)))) ⌝ }
 {
     let sign = sign_of(kind);
     let mut x = nil();

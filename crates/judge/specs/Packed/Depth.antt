@@ -4,14 +4,14 @@ use Prim.Native.Nat.{ℕ, _+_, _-_, _≤_, _<_, min}
 use lib.ListN.{length, take, drop, set, getD, length-map, List·getD-map}
 use Rattle.fields.specs.{Limits.maxNodes, Stack.map-take}
 use Rattle.model.specs.{declared.rule.Kind.Kind, declared.rule.Mark.Mark, Rule.Laws.used-with, Model.needed, Model.eval}
-use Rattle.model.specs.{Model.Walk.Walked, Depth.nilFlat, Depth.flatIn, Depth.flatNode, Depth.flatBy, Depth.ruleDepth, Depth.Laws.depth-turn}
+use Rattle.model.specs.{Model.Walk.Walked, Depth.nilFlat, Depth.flatNumber, Depth.flatIn, Depth.flatNode, Depth.flatBy, Depth.ruleDepth, Depth.Laws.depth-turn}
 use Rattle.judge.specs.Packed.{nodeIn, ruleIn}
 
 -- a turn, with what its calls gave
 pub turn-in : (words : List ℕ) (len i : ℕ) (stack : List ℕ) (y : ℕ) {top members clipped : ℕ} {κ : Kind} {m : Mark}
     → 0 < i → i ≤ len → i ≤ length words → 0 < top → top ≤ maxNodes
     → κ ≡ nodeIn (getD words (i - 1) 0) .kind → m ≡ nodeIn (getD words (i - 1) 0) .mark → members ≡ needed κ → clipped ≡ min members (maxNodes - top)
-    → flatIn y ≡ flatNode κ m (map flatIn (take (clipped + top - top) (drop top stack)))
+    → y ≡ flatNumber (flatNode κ m (map flatIn (take (clipped + top - top) (drop top stack))))
     → Walked flatBy (drop i (take len (map nodeIn words))) (map flatIn stack) top
     → Walked flatBy (drop (i - 1) (take len (map nodeIn words))) (map flatIn (set stack (clipped + top - 1) y)) (clipped + top - 1)
 turn-in words len i stack y {top} {clipped = clipped} a b c p h k l m n f t =

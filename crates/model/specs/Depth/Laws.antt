@@ -22,7 +22,7 @@ use Rattle.model.specs.{Syntax.Syntax, Model.countsOf, Model.modelOf, Fl
 use Rattle.model.specs.Flatten.Depth.{deepest, deepestOf, deepest-append, deepest-first, group-deepest}
 use Rattle.model.specs.{Rule.Laws.rule-eval, Model.Counts, Model.Model, Model.fold, Model.foldNode, Model.foldAll, Model.needed, Model.evalStep}
 use Rattle.model.specs.Depth.{nilFlat, mergesBy, bringsBy, besideBy, gatheredBy, someEmpty, overBy, groupBy, flatBy}
-use Rattle.model.specs.Depth.{ruleDepth, flatNode, signNumbered, flatIn}
+use Rattle.model.specs.Depth.{ruleDepth, flatNode, signNumbered, flatNumber, flatIn}
 
 -- what is kept of a tree
 abbrev markIn : Model → Mark
@@ -176,10 +176,7 @@ few-signs Sequence = omega arith
 few-signs Choice = omega arith
 few-signs Interleaving = omega arith
 
-abbrev pub flatNumber : Flat → ℕ
-flatNumber x = x .depth * 16 + signNumber (x .sign) + cond (x .marked) 4 0 + cond (x .empty) 8 0
-
-pub flat-number : (x : Flat) → x .depth < 256 → flatIn (flatNumber x) ≡ x
+flat-number : (x : Flat) → x .depth < 256 → flatIn (flatNumber x) ≡ x
 unfolding flatIn
 flat-number x h =
     let m = bit-is (x .marked) 4 in
@@ -191,6 +188,21 @@ flat-number x h =
     parts : (s m e : ℕ) → s < 4 → m ≤ 1 → e ≤ 1 → let n = x .depth * 16 + s + m * 4 + e * 8 in
         (n % 4 ≡ s) × (n / 4 % 2 ≡ m) × (n / 8 % 2 ≡ e) × (n / 16 % 256 ≡ x .depth)
     parts s m e i j k = (omega arith, omega arith, omega arith, omega arith)
+
+-- what is kept of a node goes into a number, since no depth is over the limit of brackets that was not in a number before
+gathered-small : (s : Sign) (l : List ℕ) → gatheredBy s (map flatIn l) .depth < 256
+unfolding flatIn
+gathered-small s [] = omega arith
+gathered-small s (n ∷ l) =
+    by-test (flatIn n .empty) (λ e. rw e (gathered-small s l))
+    (λ e. by-test (gatheredBy s (map flatIn l) .empty) (λ f. rw (e, f) (omega arith)) (λ f. rw (e, f) (omega arith)))
+
+node-small : (κ : Kind) (m : Mark) (l : List ℕ) → flatNode κ m (map flatIn l) .depth < 256
+node-small (Atom lo hi) m l = omega arith
+node-small (Group s n) m l = gathered-small s l
+
+pub flat-kept : (κ : Kind) (m : Mark) (l : List ℕ) → flatIn (flatNumber (flatNode κ m (map flatIn l))) ≡ flatNode κ m (map flatIn l)
+flat-kept κ m l = flat-number (flatNode κ m (map flatIn l)) (node-small κ m l)
 
 -- The loops. Of the members l from place `at` on: what they make, and whether a `()` was dropped.
 module _ (s : Sign) (l : List Flat) where
@@ -215,7 +227,10 @@ flat-step (Group s n) m k rest = refl
 pub depth-turn : (nodes : List RuleNode) (len i : ℕ) (d : RuleNode) (stack : List ℕ) (y : ℕ) {top members clipped : ℕ}
     → 0 < i → i ≤ len → i ≤ length nodes → 0 < top → top ≤ maxNodes → members ≡ needed (getD nodes (i - 1) d .kind)
     → clipped ≡ min members (maxNodes - top)
-    → flatIn y ≡ flatNode (getD nodes (i - 1) d .kind) (getD nodes (i - 1) d .mark) (map flatIn (take (clipped + top - top) (drop top stack)))
+    → y ≡ flatNumber (flatNode (getD nodes (i - 1) d .kind) (getD nodes (i - 1) d .mark) (map flatIn (take (clipped + top - top) (drop top stack))))
     → Walked flatBy (drop i (take len nodes)) (map flatIn stack) top
     → Walked flatBy (drop (i - 1) (take len nodes)) (map flatIn (set stack (clipped + top - 1) y)) (clipped + top - 1)
-depth-turn = packed-turn flatNode flat-step flatIn
+depth-turn nodes len i d stack y {top} {clipped = clipped} a b c p h m n e =
+    let x = getD nodes (i - 1) d in
+    packed-turn flatNode flat-step flatIn nodes len i d stack y a b c p h m n
+    (ap flatIn e ∙ flat-kept (x .kind) (x .mark) (take (clipped + top - top) (drop top stack)))

@@ -40,10 +40,10 @@ upper-length [] = refl
 upper-length (x ∷ l) = with-length (x .kind) (upperCounts l) ∙ rw (upper-length l)
 
 -- What stands behind nodes: of none; of one more; and of some with the same upper counts.
-limit-more : (us : List Upper) (n : Upper) (k : ℕ) → length us ≡ k → k < maxAtoms
+limit-put : (us : List Upper) (n : Upper) (k : ℕ) → length us ≡ k → k < maxAtoms
     → set (map limitWord us ++ replicate (maxAtoms - length us) 0) k (limitWord n)
     ≡ map limitWord (us ++ (n ∷ [])) ++ replicate (maxAtoms - length (us ++ (n ∷ []))) 0
-limit-more us n k q h =
+limit-put us n k q h =
     let d : maxAtoms - length us ≡ suc (maxAtoms - suc (length us)) = omega arith in
     let e : length (us ++ (n ∷ [])) ≡ suc (length us) = length-append us (n ∷ []) ∙ add-one (length us) in
     let zeros : List ℕ = replicate (maxAtoms - suc (length us)) 0 in
@@ -76,7 +76,7 @@ module _ (l : List Node) where
   unfolding limitsIn
   limits-atom lo hi m h =
       rw (add-one, upper-append l (record { kind = Atom lo hi; mark = m } ∷ []))
-      (ap (λ r. 0 ∷ r) (limit-more (upperCounts l) hi (atomsIn l) (upper-length l) h))
+      (ap (λ r. 0 ∷ r) (limit-put (upperCounts l) hi (atomsIn l) (upper-length l) h))
 
   pub limits-seeing : atomsIn l ≤ maxAtoms → Seeing (upperCounts l) [] (limitsIn l)
   unfolding limitsIn

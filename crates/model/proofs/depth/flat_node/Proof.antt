@@ -4,7 +4,7 @@ use Prim.Native.Nat.{_-_, _≤_}
 use native.Mathlib.Omega.{arith}
 use lib.ListN.{length, length-map, List·getD-map}
 use borrow.Author.Needs.{needs}
-use Rattle.model.specs.Depth.{flatIn, overBy, flatPart, Laws.MembersMade, Laws.join-none, Laws.join-turn}
+use Rattle.model.specs.Depth.{flatNumber, flatIn, overBy, flatPart, Laws.MembersMade, Laws.join-none, Laws.join-turn}
 use Rattle.model.proofs.depth.flat_node.Statement.{statement}
 use Rattle.model.proofs.depth.flat_node.Tie as tie
 
@@ -42,8 +42,8 @@ returns c =
     let z : v .loop .at ≡ 0 = omega arith in
     let j = rw z at (v .loop .inv .1) in
     c .flat-number .ensures
-    ∙ o .over .ensures
-    ∙ ap (overBy (k .mark)) (p .part .ensures ∙ ap₂ (flatPart (k .kind)) (j .drops) (j .made ∙ rw (v .before .before .sign-of .ensures)))
+    ∙ ap flatNumber
+    (o .over .ensures ∙ ap (overBy (k .mark)) (p .part .ensures ∙ ap₂ (flatPart (k .kind)) (j .drops) (j .made ∙ rw (v .before .before .sign-of .ensures))))
 
 pub flat-node-spec : {M : Type 1} → statement M
 flat-node-spec =

@@ -1,8 +1,8 @@
--- The number whose parts are read back.
+-- The sum of its parts.
 use Prim.Native.Nat.{_≤_, _<_}
 use borrow.Author.Needs.{needs}
 use Rattle.fields.specs.Tests.{bit-under}
-use Rattle.model.specs.Depth.Laws.{few-signs, flat-number}
+use Rattle.model.specs.Depth.Laws.{few-signs}
 use Rattle.model.proofs.depth.flat_number.Statement.{statement}
 use Rattle.model.proofs.depth.flat_number.Tie as tie
 
@@ -28,8 +28,7 @@ add-result-3 c = let b = c .before in search (needs, sign-under b, marked-under 
 returns : tie.Need-returns
 returns c =
     let b = c .before in
-    let x = start b .args .x in
-    rw (b .before .before .sign-number .ensures, b .before .only-if .ensures, b .only-if2 .ensures) (flat-number x (search needs))
+    rw (b .before .before .sign-number .ensures, b .before .only-if .ensures, b .only-if2 .ensures)
 
 pub flat-number-spec : {M : Type 1} → statement M
 flat-number-spec =
