@@ -7,7 +7,8 @@ use Prim.Native.Nat.{ℕ, _+_, _-_, _*_, _/_, _%_, max, min}
 use lib.{Dec.ltb, Dec.eqb, ListN.getD}
 use Rattle.model.specs.{declared.rule.Sign.Sign, declared.rule.Mark.Mark, declared.rule.Kind.Kind}
 use Rattle.model.specs.declared.rule.Sign.the-variants.{None, Sequence, Choice, Interleaving}
-use Rattle.model.specs.{declared.rule.Rule.Rule, declared.depth.Flat.Flat, Rule.used, Flatten.signNumber, Flatten.sameSign, Flatten.droppedMark, Model.Algebra, Model.eval}
+use Rattle.model.specs.{declared.rule.Rule.Rule, declared.depth.Flat.Flat, Rule.used, Model.Algebra, Model.eval}
+use Rattle.model.specs.Flatten.{signNumber, sameSign, droppedMark}
 use Rattle.model.specs.declared.rule.Kind.the-variants.{Atom, Group}
 use Rattle.model.specs.Tree.{isPlain}
 use Rattle.fields.specs.Limits.{maxNesting}
