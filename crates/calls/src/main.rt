@@ -1,5 +1,6 @@
 // Plays lists of calls on sessions. A line for each call has the call, its answer, the places of the row that it was lent for names, if it was, and those
 // of the trail; the file stdout has what the book of documents 01 and 02 says.
+#![tactic(auto)]
 
 use judge::fault::judge_number;
 use judge::reading::read_model;

@@ -6,7 +6,7 @@ ghost use Rattle.canonical.specs.Canonical.{write_number};
 use model::fault::{ModelFault, model_number};
 
 // The model text's own refusal, or the text is longer than the buffer.
-#[derive(Drop)]
+#[derive(Clone, Copy)]
 pub enum WriteFault {
     Model(ModelFault),
     LongText,

@@ -12,7 +12,7 @@ pub(crate) const ATOM: u8 = 1;
 pub(crate) const NO_SIGN: u8 = 0;
 
 // `sign` is the byte of a group's sign, or ATOM; `size` is the number of nodes; the smallest name begins at `least`.
-#[derive(Drop)]
+#[derive(Clone, Copy)]
 pub(crate) struct Head {
     pub(crate) sign: u8,
     pub(crate) mark: Mark,

@@ -1,4 +1,5 @@
 // One way to write a model: document 02, W4.
+#![tactic(auto)]
 
 mod atom;
 pub mod fault;

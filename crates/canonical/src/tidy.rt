@@ -17,7 +17,7 @@ use model::rule::{MAX_NODES, Mark};
 
 // A tidied tree: what a head holds of it, with NO_SIGN for `()`; whether it holds the empty row without its mark; from where on the stack holds its
 // members, the last first; and where the text goes on behind it.
-#[derive(Drop)]
+#[derive(Clone, Copy)]
 pub(crate) struct Tidied {
     pub(crate) sign: u8,
     pub(crate) mark: Mark,
@@ -31,7 +31,7 @@ pub(crate) struct Tidied {
 
 // The members that a group has so far: the last of them; whether some held the empty row; how many they are, whether the group would hold the empty
 // row, their nodes and smallest name; and from where on the stack holds them.
-#[derive(Drop)]
+#[derive(Clone, Copy)]
 pub(crate) struct Gathered {
     pub(crate) last: Tidied,
     pub(crate) given: bool,

@@ -18,7 +18,7 @@ use judge::reading::{Outcome, model_outcome};
 use model::rule::{MAX_NODES, Mark};
 
 // The length of the text that was written, or why there is none, and the place.
-#[derive(Drop)]
+#[derive(Clone, Copy)]
 pub enum Written {
     Length(usize),
     Refused(WriteFault, usize),

@@ -13,7 +13,7 @@ use judge::reading::{Names, Outcome, number_of, read_model};
 use model::fault::{ModelFault, model_number};
 
 // A first place and a length, in the model text or in the children text; or the refusal.
-#[derive(Drop)]
+#[derive(Clone, Copy)]
 enum Located {
     InModel(usize, usize),
     InChildren(usize, usize),

@@ -1,4 +1,5 @@
 // The files that programs read. Their bytes are not known beforehand, so all that is promised is where they stand.
+#![tactic(auto)]
 
 ghost use Rattle.io.specs.Counts.{IsPrefixLen};
 
@@ -8,7 +9,7 @@ use fields::limits::MAX_FILE;
 pub const NO_FILE: u32 = 60;
 
 // `whole`: read to its end, or longer than MAX_FILE.
-#[derive(Drop)]
+#[derive(Clone, Copy)]
 pub struct FileRead {
     pub whole: bool,
     pub length: usize,

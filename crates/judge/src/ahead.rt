@@ -12,7 +12,7 @@ use crate::tally::Seen;
 use model::rule::{Kind, Sign, Upper};
 
 // Of a node: its attribute, and the set of its names that may come next. Name k is the digit 2^(k-1) of a set.
-#[derive(Drop)]
+#[derive(Clone, Copy)]
 pub(crate) struct Ahead {
     pub(crate) part: Attribute,
     pub(crate) next: u64,

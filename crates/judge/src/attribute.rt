@@ -13,7 +13,7 @@ use model::rule::{Kind, Mark, Sign};
 
 // Of a node: the first place of its names or the row's length, one past their last place or 0, whether the part of the row that they make is in
 // the node's model, and whether it can be made longer to be in it.
-#[derive(Drop)]
+#[derive(Clone, Copy)]
 pub(crate) struct Attribute {
     pub(crate) first: u16,
     pub(crate) behind: u16,

@@ -8,7 +8,7 @@ ghost use Rattle.judge.specs.Reading.Cursor.{cursor_in, fault_numbered, got_in, 
 use model::fault::{ModelFault, model_number};
 
 // The place, how many nodes and names were begun, and, behind a member, how many groups of two members or more are one inside the other in it.
-#[derive(Drop)]
+#[derive(Clone, Copy)]
 pub(crate) struct Cursor {
     pub(crate) at: usize,
     pub(crate) nodes: usize,
@@ -16,7 +16,7 @@ pub(crate) struct Cursor {
     pub(crate) height: u8,
 }
 
-#[derive(Drop)]
+#[derive(Clone, Copy)]
 pub(crate) enum Got {
     Past(Cursor),
     Fault(ModelFault, usize),

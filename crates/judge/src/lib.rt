@@ -1,4 +1,5 @@
 // The judge: model texts, and what they say of rows.
+#![tactic(auto)]
 
 mod ahead;
 mod attribute;

@@ -17,27 +17,27 @@ use model::fault::ModelFault;
 use model::rule::{MAX_ATOMS, MAX_NODES, NameNumber, Rule};
 
 // Where a name stands in the text.
-#[derive(Drop)]
+#[derive(Clone, Copy)]
 pub struct NamePlace {
     pub start: u16,
     pub len: u16,
 }
 
 // The names of a model, in the order written. Places from len on hold zeros.
-#[derive(Drop)]
+#[derive(Clone, Copy)]
 pub struct Names {
     pub places: [NamePlace; MAX_ATOMS],
     pub len: usize,
 }
 
-#[derive(Drop)]
+#[derive(Clone, Copy)]
 pub enum Outcome {
     Read,
     Refused(ModelFault, usize),
 }
 
 // A refused reading has the rule of `()` and no names.
-#[derive(Drop)]
+#[derive(Clone, Copy)]
 pub struct Reading {
     pub outcome: Outcome,
     pub rule: Rule,

@@ -45,7 +45,7 @@ fn is_child(children: &[u8], at: usize, read: NameEnd) -> bool
 }
 
 // How many children there are, or the place of the first that is foreign or one too many of its name, or what is wrong with the children.
-#[derive(Drop)]
+#[derive(Clone, Copy)]
 pub(crate) enum ChildrenTally {
     Whole(usize),
     Faulty(usize),
@@ -124,7 +124,7 @@ fn tally_children(
 
 // What was read: how many nodes and names the model has, and how many children there are. The two counts of the reader stand apart: side by side they
 // are copied as one, which waits until both have been stored.
-#[derive(Drop)]
+#[derive(Clone, Copy)]
 pub(crate) struct Sizes {
     pub(crate) nodes: usize,
     pub(crate) children: u16,
@@ -132,7 +132,7 @@ pub(crate) struct Sizes {
 }
 
 // Of a row with a child at fault, its place is all that is read.
-#[derive(Drop)]
+#[derive(Clone, Copy)]
 pub(crate) enum ChildrenRead {
     Both(Sizes),
     Faulty(usize),

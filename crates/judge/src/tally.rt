@@ -13,7 +13,7 @@ use crate::verdict::FirstFault;
 use model::rule::{Kind, MAX_NODES, Upper};
 
 // How often a name stands in the row, its first place or the row's length, and one past its last place or 0.
-#[derive(Drop)]
+#[derive(Clone, Copy)]
 pub(crate) struct Seen {
     pub(crate) count: u16,
     pub(crate) first: u16,

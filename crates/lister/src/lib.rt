@@ -1,4 +1,5 @@
 // The listing of a cue list by a sheet.
+#![tactic(auto)]
 
 mod line;
 pub mod listing;

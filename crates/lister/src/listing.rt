@@ -24,7 +24,7 @@ use sheet::sheet::{Sheet, SheetFault, SheetOutcome, read_sheet};
 
 // How long the listing is that was written; or what is wrong with the sheet or with the cue list, and on which line; or that the listing is longer
 // than the buffer (`listed_number` in specs/Listed.antt).
-#[derive(Drop)]
+#[derive(Clone, Copy)]
 pub enum Listed {
     Written(usize),
     SheetRefused(SheetFault, usize),

@@ -7,7 +7,7 @@ use judge::verdict::ChildrenJudged;
 use model::verdict::Verdict;
 
 // The verdict on its row, or that the sheet lacks its kind.
-#[derive(Drop)]
+#[derive(Clone, Copy)]
 pub(crate) enum Said {
     Complete,
     Open,

@@ -1,4 +1,5 @@
 // Prints the listing of cues.txt by sheet.txt, both in the folder that it is run in, or the one line of a refusal.
+#![tactic(auto)]
 
 use fields::limits::MAX_FILE;
 use files::{NO_FILE, read_file};

@@ -12,7 +12,7 @@ use fields::limits::lesser;
 
 // What is kept of a flattened tree: the sign between its members, whether it has a mark, whether it is `()`, and the most groups around an atom of it,
 // itself among them.
-#[derive(Drop)]
+#[derive(Clone, Copy)]
 pub struct Flat {
     pub sign: Sign,
     pub marked: bool,

@@ -1,5 +1,6 @@
 // Runs the library on texts that are refused, each refusal once, and on empty ones: a line for each, with what is tried and the answer. A listing's
 // refusal is told by its line; `child` by the part that it hands back and the number of `child_refusal`.
+#![tactic(auto)]
 
 use desk::child::{child, child_refusal};
 use lister::listing::{Listed, list};

@@ -1,5 +1,6 @@
 // Runs what document 01 gives to try and is not proved, the examples of document 001, rows with a first fault, and what `!` does: a line for each, with the
 // text or the model and the row, and the answer.
+#![tactic(auto)]
 
 ghost use Rattle.std.specs.Prelude.{◌≤◌, length};
 

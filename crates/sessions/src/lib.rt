@@ -1,3 +1,4 @@
 // Sessions: rows that grow and shrink, child by child.
+#![tactic(auto)]
 
 pub mod session;

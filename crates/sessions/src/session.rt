@@ -17,20 +17,20 @@ use model::rule::{NameNumber, Rule};
 // What a free place holds.
 pub const FREE: u16 = 65535;
 
-#[derive(Drop)]
+#[derive(Clone, Copy)]
 pub struct Session {
     pub rule: Rule,
     pub children: usize,
 }
 
-#[derive(Drop)]
+#[derive(Clone, Copy)]
 pub enum Outcome {
     Done,
     Refused(JudgeFault),
 }
 
 // The session as it then stands, and what the call was answered.
-#[derive(Drop)]
+#[derive(Clone, Copy)]
 pub struct Step {
     pub session: Session,
     pub outcome: Outcome,

@@ -1,4 +1,5 @@
 // Sheet and cue list, above the judge.
+#![tactic(auto)]
 
 pub mod cues;
 pub mod number;

@@ -14,7 +14,7 @@ pub const REFUSAL_SIZE: usize = 48;
 pub const TOO_LONG: u32 = 50;
 
 // What is refused.
-#[derive(Drop)]
+#[derive(Clone, Copy)]
 pub enum Source {
     Sheet,
     Cues,
@@ -22,7 +22,7 @@ pub enum Source {
 }
 
 // What is refused, document 01's number, and the line from 1, or 0 where there is none.
-#[derive(Drop)]
+#[derive(Clone, Copy)]
 pub struct Refusal {
     pub source: Source,
     pub number: u32,

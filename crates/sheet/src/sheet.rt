@@ -19,7 +19,7 @@ use model::rule::Rule;
 const MAX_RULES: usize = 64;
 
 // Refusals of a sheet: 20 to 25, and the model's own (`sheet_number` in specs/Sheet.antt).
-#[derive(Drop)]
+#[derive(Clone, Copy)]
 pub enum SheetFault {
     LongFile,
     Unended,
@@ -30,14 +30,14 @@ pub enum SheetFault {
     Model(ModelFault),
 }
 
-#[derive(Drop)]
+#[derive(Clone, Copy)]
 pub enum SheetOutcome {
     Read,
     Refused(SheetFault, usize),
 }
 
 // A line of the sheet: where its model stands in the sheet's text, and what it reads into.
-#[derive(Drop)]
+#[derive(Clone, Copy)]
 pub struct Entry {
     pub model: NamePlace,
     pub rule: Rule,
@@ -45,27 +45,27 @@ pub struct Entry {
 }
 
 // The kinds as places in the sheet's text, and an entry for each.
-#[derive(Drop)]
+#[derive(Clone, Copy)]
 pub struct Sheet {
     pub kinds: Names,
     pub entries: [Entry; MAX_RULES],
 }
 
 // A refused reading has no rules.
-#[derive(Drop)]
+#[derive(Clone, Copy)]
 pub struct SheetRead {
     pub outcome: SheetOutcome,
     pub sheet: Sheet,
 }
 
-#[derive(Drop)]
+#[derive(Clone, Copy)]
 enum Checked {
     Good,
     Bad(SheetFault),
 }
 
 // What a line is read into. What a bad line gives beside its fault is of no use.
-#[derive(Drop)]
+#[derive(Clone, Copy)]
 struct LineRead {
     checked: Checked,
     kind: NamePlace,

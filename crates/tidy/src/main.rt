@@ -1,4 +1,5 @@
 // Prints sheet.txt, in the folder that it is run in, with each model written in its one way, or the one line of a refusal.
+#![tactic(auto)]
 
 use fields::limits::MAX_FILE;
 use files::{NO_FILE, read_file};

@@ -12,7 +12,7 @@ use sheet::sheet::{SheetFault, SheetOutcome, read_sheet};
 
 // The length of the tidied sheet; or what is wrong with the sheet, and on which line; or that the tidied sheet is longer than the buffer (`tidied_number`
 // in specs/Tidying.antt).
-#[derive(Drop)]
+#[derive(Clone, Copy)]
 pub enum SheetTidied {
     Written(usize),
     Refused(SheetFault, usize),

@@ -2,7 +2,8 @@
 use mathlib.Core.{Path.◌≡◌, Path.refl, Path.sym, Path.◌∙◌, Bool.true, Bool.false, Bool.false≢true, Bool.true≢false, List.[], List.◌∷◌}
 use mathlib.Core.{List.◌++◌, List.append_assoc, List.append-nil}
 use Rattle.std.specs.Prelude.{ℕ, zero, suc, ◌<◌, ◌≤◌, ◌⊎◌, ◌↔◌}
-use Rattle.std.proofs.Math.Logic.{Iff·trans, Iff·symm, by_cases}
+use Rattle.std.proofs.Math.Logic.{by_cases}
+use Rattle.std.proofs.Math.Logic.Iff
 use Rattle.std.proofs.Common.{inl, inr, ⊎_elim, leb-true, leb-false, le-leb}
 use native.Mathlib.{Decide.dec_le, Omega.arith}
 use Rattle.std.proofs.lemmas.Bool.{lt-leb}
@@ -77,7 +78,7 @@ module _ (p : Names) (n : ℕ) (l : Word) (k : KeptTo p n l) where
   kept-with : p (suc n) ≡ true → KeptTo p (suc n) (l ++ (suc n ∷ []))
   kept-with e = record {
     rises = rises-more 0 l (suc n) k.rises (omega arith) (λ y a. omega (arith, ((k.exact y).0 a).1));
-    exact = λ x. Iff·trans (among-more l (suc n) x) (
+    exact = λ x. Iff.trans (among-more l (suc n) x) (
       ⊎_elim (λ a. let (h, i, j) = (k.exact x).0 a in (h, omega arith, j)) (λ d. (omega arith, omega arith, rw d e)),
       λ (h, i, j). by_cases (dec_le x n) (λ m. inl ((k.exact x).1 (h, m, j))) (λ m. inr (omega arith)),
     );
@@ -128,11 +129,11 @@ module _ (A : Ty) (g : ConflictFree A) (n : ℕ) (w : Word) where
       let k = kept (may_come A w) n in
       record {
         rises = k.rises;
-        listed = λ x. Iff·trans (k.exact x) (λ (h, i, j). (h, i, (may-tells x).0 j), λ (h, i, j). (h, i, (may-tells x).1 j));
+        listed = λ x. Iff.trans (k.exact x) (λ (h, i, j). (h, i, (may-tells x).0 j), λ (h, i, j). (h, i, (may-tells x).1 j));
       }
 
   next-once : (l r : Word) → NextNames A n w l → NextNames A n w r → l ≡ r
-  next-once l r h k = rises-once 0 l r h.rises k.rises (λ x. Iff·trans (h.listed x) (Iff·symm (k.listed x)))
+  next-once l r h k = rises-once 0 l r h.rises k.rises (λ x. Iff.trans (h.listed x) (Iff.symm (k.listed x)))
 
   pub list-exactly : (l : Word) → (next_names A n w ≡ l) ↔ NextNames A n w l
   list-exactly = exactly (NextNames A n w) next-once (next_names A n w) next-listed

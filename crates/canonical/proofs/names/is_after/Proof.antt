@@ -10,7 +10,7 @@ use Rattle.judge.specs.Reading.Lexeme.Laws.{front_out}
 use Rattle.canonical.specs.Order.{not_after}
 use Rattle.canonical.specs.Writer.Place.{behind_name, Ends.Inner, Ends.name-step, Ends.name-goes, Ends.name-over}
 use Rattle.canonical.specs.Writer.Place.Ends.{after-over, after-longer, after-differs, after_same}
-use borrow.Author.{Needs.needs, Tests.ltb-true, Tests.ltb-false}
+use borrow.Author.{Rules.rules, Tests.ltb-true, Tests.ltb-false}
 use Rattle.canonical.proofs.names.is_after.Statement.{statement}
 use Rattle.canonical.proofs.names.is_after.Tie as tie
 
@@ -57,10 +57,10 @@ shared-slice-read-c : tie.Need-shared-slice-read-c invariant-loop decreases-loop
 shared-slice-read-c c = (turn-inner c.before).inside
 
 add-d : tie.Need-overflow-add-d invariant-loop decreases-loop
-add-d c = search needs
+add-d c = search rules
 
 shared-slice-read-d : tie.Need-shared-slice-read-d invariant-loop decreases-loop
-shared-slice-read-d c = search needs
+shared-slice-read-d c = search rules
 
 returns : tie.Need-returns invariant-loop decreases-loop
 returns c =
@@ -104,8 +104,8 @@ is-after-spec =
     invariant-loop
     decreases-loop
     (λ c. omega (arith, c.before.requires.1))
-    (λ c. search needs)
-    (λ c κs. search needs)
+    (λ c. search rules)
+    (λ c κs. search rules)
     loop-holds
     add-c
     shared-slice-read-c
@@ -113,8 +113,8 @@ is-after-spec =
     shared-slice-read-d
     (λ c κs. tt)
     returns
-    (λ c. search needs)
-    (λ c. search needs)
+    (λ c. search rules)
+    (λ c. search rules)
     loop-again
-    (λ c. search needs)
+    (λ c. search rules)
     returns-2)

@@ -1,7 +1,7 @@
 -- The tests of `added_by`, in its order.
 use mathlib.Core.{Path.◌≡◌, Path.refl, Path.◌∙◌, Bool.true, Bool.false}
 use native.Mathlib.Omega.{arith}
-use borrow.Author.{Needs.needs, Tests.eq-eqb, Tests.ne_eqb}
+use borrow.Author.{Rules.rules, Tests.eq-eqb, Tests.ne_eqb}
 use Rattle.canonical.specs.Writer.Tidied.{joins_by}
 use Rattle.canonical.proofs.tidy.added.Statement.{statement}
 use Rattle.canonical.proofs.tidy.added.Tie as tie
@@ -67,19 +67,19 @@ added-spec =
     tie.close
     (tie.spec
     returns
-    (λ c κs. search needs)
-    (λ c κs. search needs)
-    (λ c κs. search needs)
-    (λ c κs. search needs)
-    (λ c. search needs)
-    (λ c. search needs)
+    (λ c κs. search rules)
+    (λ c κs. search rules)
+    (λ c κs. search rules)
+    (λ c κs. search rules)
+    (λ c. search rules)
+    (λ c. search rules)
     add-t17
     returns-2
-    (λ c. search needs)
-    (λ c κs. search needs)
-    (λ c κs. search needs)
-    (λ c. search needs)
-    (λ c. search needs)
+    (λ c. search rules)
+    (λ c κs. search rules)
+    (λ c κs. search rules)
+    (λ c. search rules)
+    (λ c. search rules)
     add-t22
     add-t23
     returns-3)

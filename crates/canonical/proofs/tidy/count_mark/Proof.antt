@@ -1,5 +1,5 @@
 -- The two tests of `zero_between`.
-use borrow.Author.{Needs.needs, Tests.eq-eqb, Tests.ne_eqb, Tests.lt-ltb, Tests.le-ltb}
+use borrow.Author.{Rules.rules, Tests.eq-eqb, Tests.ne_eqb, Tests.lt-ltb, Tests.le-ltb}
 use Rattle.canonical.proofs.tidy.count_mark.Statement.{statement}
 use Rattle.canonical.proofs.tidy.count_mark.Tie as tie
 
@@ -13,4 +13,4 @@ returns-3 : tie.Need-returns-3
 returns-3 c = rw (le-ltb _ _ c.if1.false)
 
 pub count-mark-spec : {M : Type 1} → statement M
-count-mark-spec = tie.close (tie.spec (λ c. search needs) (λ c. search needs) (λ c. search needs) returns returns-2 returns-3)
+count-mark-spec = tie.close (tie.spec (λ c. search rules) (λ c. search rules) (λ c. search rules) returns returns-2 returns-3)

@@ -1,5 +1,5 @@
 -- The tests of `grouped_by`, in its order.
-use borrow.Author.{Needs.needs, Tests.eq-eqb, Tests.ne_eqb}
+use borrow.Author.{Rules.rules, Tests.eq-eqb, Tests.ne_eqb}
 use Rattle.canonical.proofs.tidy.grouped.Statement.{statement}
 use Rattle.canonical.proofs.tidy.grouped.Tie as tie
 
@@ -18,10 +18,10 @@ pub grouped-spec : {M : Type 1} → statement M
 grouped-spec =
     tie.close
     (tie.spec
-    (λ c κs. search needs)
+    (λ c κs. search rules)
     returns
-    (λ c. search needs)
-    (λ c κs. search needs)
+    (λ c. search rules)
+    (λ c κs. search rules)
     returns-2
-    (λ c. search needs)
+    (λ c. search rules)
     returns-3)

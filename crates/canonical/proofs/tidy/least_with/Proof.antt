@@ -1,6 +1,6 @@
 -- The tests of `least_by`, in its order.
 use mathlib.Core.{Path.sym, Path.◌∙◌, Bool.Bool}
-use borrow.Author.{Needs.needs, Tests.eq-eqb, Tests.ne_eqb, Tests.not-true, Tests.not-false}
+use borrow.Author.{Rules.rules, Tests.eq-eqb, Tests.ne_eqb, Tests.not-true, Tests.not-false}
 use Rattle.model.specs.Fault.{name_from}
 use Rattle.canonical.specs.Order.{not_after}
 use Rattle.canonical.proofs.tidy.least_with.Statement.{statement}
@@ -28,4 +28,4 @@ returns-3 c =
     rw (ne_eqb _ _ (some a).if1.false, not-false (kept a) (sym a.is-after.ensures ∙ c.if2.false))
 
 pub least-with-spec : {M : Type 1} → statement M
-least-with-spec = tie.close (tie.spec returns (λ c κs. search needs) (λ c κs. search needs) returns-2 returns-3)
+least-with-spec = tie.close (tie.spec returns (λ c κs. search rules) (λ c κs. search rules) returns-2 returns-3)

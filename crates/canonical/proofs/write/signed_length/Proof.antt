@@ -9,7 +9,7 @@ use Rattle.model.specs.Syntax.{mark_text}
 use Rattle.canonical.specs.declared.head.Head.{Head}
 use Rattle.canonical.specs.Writer.{Place.kept_end, Place.Ends.kept-inside, Stack.trees_on, Stack.Skip.least_inside, Lists.head_at, Length.signed_length}
 use Rattle.canonical.specs.Writer.Length.Laws.{plain_length, words_length, mark-short, words-length, words_step, words-over}
-use borrow.Author.{Needs.needs, Tests.eq-eqb, Tests.ne_eqb}
+use borrow.Author.{Rules.rules, Tests.eq-eqb, Tests.ne_eqb}
 use Rattle.canonical.proofs.write.signed_length.Statement.{statement}
 use Rattle.canonical.proofs.write.signed_length.Tie as tie
 
@@ -78,7 +78,7 @@ own-short : (c : tie.After-mark-length invariant-loop decreases-loop) → (marke
 own-short c = omega (arith, first_short (marked c), more-is c, mark-short (head (turn (marked c).before)).mark)
 
 loop-holds : tie.Need-loop-init invariant-loop decreases-loop
-loop-holds c = (omega arith, search needs, omega arith, rw zero-add (words-length _ _ c.before.requires.heads))
+loop-holds c = (omega arith, search rules, omega arith, rw zero-add (words-length _ _ c.before.requires.heads))
 
 -- where the name begins, from its end
 known : (k : tie.After-struct-known invariant-loop decreases-loop) → k.before.unpacked.result.least ≤ length (whole (turn k))
@@ -109,18 +109,18 @@ signed-length-spec =
     invariant-loop
     decreases-loop
     loop-holds
-    (λ c. search needs)
-    (λ c. search needs)
+    (λ c. search rules)
+    (λ c. search rules)
     (λ c κs. tt)
-    (λ c. search needs)
+    (λ c. search rules)
     (λ c κs. known c.before.before)
     (λ c κs. (known c.before.before.before, c.name-end.ensures))
     sub-own
-    (λ c κs. search needs)
+    (λ c κs. search rules)
     (λ c. omega (arith, own-short c.before))
     (λ c. omega (arith, own-short c.before))
     (λ c. omega (arith, own-short c.before))
-    (λ c. search needs)
-    (λ c. search needs)
+    (λ c. search rules)
+    (λ c. search rules)
     loop-again
     returns)

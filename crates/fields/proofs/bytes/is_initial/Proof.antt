@@ -4,7 +4,7 @@ use Rattle.fields.proofs.bytes.is_initial.Statement.{statement}
 use Rattle.fields.proofs.bytes.is_initial.Tie as tie
 
 returns : tie.Need-returns
-returns c = rw c.is-letter.ensures
+returns c = rw c.is_letter-letter.ensures
 
-pub is-initial-spec : {M : Type 1} → statement M
-is-initial-spec = tie.close (tie.spec (λ c κs. search rules) returns)
+pub is_initial_spec : {M : Type 1} → statement M
+is_initial_spec = tie.close (tie.spec (λ c κs. search rules) returns)

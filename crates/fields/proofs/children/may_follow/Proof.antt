@@ -4,7 +4,7 @@ use Rattle.fields.proofs.children.may_follow.Statement.{statement}
 use Rattle.fields.proofs.children.may_follow.Tie as tie
 
 returns : tie.Need-returns
-returns c = rw (c.before.is-initial.ensures, c.is_later.ensures)
+returns c = rw (c.is_initial-initial.ensures, c.is_later-later.ensures)
 
-pub may-follow-spec : {M : Type 1} → statement M
-may-follow-spec = tie.close (tie.spec (λ c κs. search rules) (λ c κs. search rules) returns)
+pub may_follow_spec : {M : Type 1} → statement M
+may_follow_spec = tie.close (tie.spec (λ c κs. search rules) (λ c κs. search rules) returns)

@@ -9,32 +9,32 @@ use native.Mathlib.Omega.{arith}
 use Rattle.fields.proofs.split.few_times.Statement.{statement}
 use Rattle.fields.proofs.split.few_times.Tie as tie
 
-abbrev Inv : tie.invariant-loop
+abbrev Inv : tie.invariant-loop-i
 Inv text byte n₀ i₀ n i = (n ≤ i) × (i ≤ length text) × (n + times byte (drop i text) ≡ times byte text)
 
-abbrev μ : tie.decreases-loop
+abbrev μ : tie.decreases-loop-i
 μ text byte n₀ i₀ n i = length text - i
 
-abbrev text : tie.At-loop Inv μ → Text
-text l = l.before.args.text.now
+abbrev text : tie.At-loop-i Inv μ → Text
+text l = l.args.text.now
 
-loop-again : tie.Need-loop-preserved Inv μ
+loop-again : tie.Need-loop-i-preserved-then-b-byte Inv μ
 loop-again c =
     let l = c.before.before.before in
-    omega (arith, times-at l.before.args.byte (text l) l.loop.i (omega arith) c.if1.true)
+    omega (arith, times-at l.args.byte (text l) l.loop-i.i (omega arith) c.if-b-byte.true)
 
-loop-again-2 : tie.Need-loop-preserved-2 Inv μ
+loop-again-2 : tie.Need-loop-i-preserved Inv μ
 loop-again-2 c =
     let l = c.before.before.before in
-    omega (arith, times-past l.before.args.byte (text l) l.loop.i (omega arith) c.if1.false)
+    omega (arith, times-past l.args.byte (text l) l.loop-i.i (omega arith) c.if-b-byte.false)
 
 returns : tie.Need-returns Inv μ
 returns c =
     let l = c.before in
-    omega (arith, times_none l.before.args.byte (text l) l.loop.i (omega arith))
+    omega (arith, times_none l.args.byte (text l) l.loop-i.i (omega arith))
 
-pub few-times-spec : {M : Type 1} → statement M
-few-times-spec =
+pub few_times_spec : {M : Type 1} → statement M
+few_times_spec =
     tie.close
     (tie.spec
     Inv

@@ -1,7 +1,7 @@
 -- Child behind child: those passed are names and not at fault, and they are seen.
 use mathlib.Core.{Path.◌≡◌, Path.refl, Path.sym, Path.ap, Path.◌∙◌, Bool.true, List.List, List.[]}
 use Rattle.std.proofs.Common.{◌+◌, ◌-◌, ◌≤◌, length, get_or, take, drop, arith}
-use borrow.Author.{Needs.needs, Tests.ltb-true, Tests.ltb-false}
+use borrow.Author.{Rules.rules, Tests.ltb-true, Tests.ltb-false}
 use Rattle.fields.specs.Bytes.{Text, is_initial}
 use Rattle.model.specs.{declared.rule.Upper.Upper, Syntax.number_in}
 use Rattle.judge.specs.Packed.{seen_in, SameNodes, Laws.seen_at, Laws.seen-set, Laws.same_set}
@@ -74,7 +74,7 @@ initial : (c : tie.Then1 invariant-loop decreases-loop)
 initial c = sym c.before.name-begins.ensures ∙ c.if1.true
 
 name-begins-requires : tie.Need-name-begins-requires invariant-loop decreases-loop
-name-begins-requires c κs = search needs
+name-begins-requires c κs = search rules
 
 returns : tie.Need-returns invariant-loop decreases-loop
 returns c =
@@ -114,7 +114,7 @@ look-up-requires c κs =
     ((start t).requires.0.0, key)
 
 cast-number : tie.Need-overflow-cast-number invariant-loop decreases-loop
-cast-number c = search needs
+cast-number c = search rules
 
 add-word : tie.Need-overflow-add-word invariant-loop decreases-loop
 add-word c = omega (arith, c.look_up.ensures.1)
@@ -126,7 +126,7 @@ element-copy-out-word : tie.Need-element-copy-out-word invariant-loop decreases-
 element-copy-out-word c = omega (arith, c.look_up.ensures.1)
 
 is-full-requires : tie.Need-is-full-requires invariant-loop decreases-loop
-is-full-requires c κs = search needs
+is-full-requires c κs = search rules
 
 stopped-requires : tie.Need-stopped-requires invariant-loop decreases-loop
 stopped-requires c κs =

@@ -1,5 +1,5 @@
 -- each answer is the branch of `row_tested` to which the tests lead
-use borrow.Author.{Needs.needs, Tests.le-leb, Tests.lt-leb}
+use borrow.Author.{Rules.rules, Tests.le-leb, Tests.lt-leb}
 use mathlib.Core.{Path.◌≡◌, Path.sym, Path.◌∙◌, Bool.true}
 use Rattle.model.specs.Check.{readable}
 use Rattle.judge.specs.Row.{row_tested}
@@ -37,9 +37,9 @@ pub test-row-spec : {M : Type 1} → statement M
 test-row-spec =
     tie.close
     (tie.spec
-    (λ c κs. search needs)
-    (λ c κs. search needs)
-    (λ c κs. search needs)
+    (λ c κs. search rules)
+    (λ c κs. search rules)
+    (λ c κs. search rules)
     returns
     returns-2
     returns-3

@@ -2,7 +2,7 @@
 use mathlib.Core.{Path.◌≡◌, Bool.false≢true, Bool.and-eq-true_iff}
 use Rattle.std.proofs.Common.{◌+◌, ◌-◌, ◌≤◌, arith}
 use lib.{Dec.eqb, Dec.ltb, ListN.get_or}
-use borrow.Author.{Needs.needs, Tests.eqb-true, Tests.eqb-false, Tests.ltb-false}
+use borrow.Author.{Rules.rules, Tests.eqb-true, Tests.eqb-false, Tests.ltb-false}
 use Rattle.fields.specs.{Tests.neither, Limits.max_atoms}
 use Rattle.judge.proofs.table.told_by_key.Statement.{statement}
 use Rattle.judge.proofs.table.told_by_key.Tie as tie
@@ -20,22 +20,22 @@ sub-result : tie.Need-overflow-sub-result
 sub-result c = omega (arith, (bounds c).0)
 
 add-result : tie.Need-overflow-add-result
-add-result c = search needs
+add-result c = search rules
 
 mul-result : tie.Need-overflow-mul-result
-mul-result c = search needs
+mul-result c = search rules
 
 element-copy-out-result : tie.Need-element-copy-out-result
-element-copy-out-result c = search needs
+element-copy-out-result c = search rules
 
 sub-result-2 : tie.Need-overflow-sub-result-2
 sub-result-2 c = omega (arith, (bounds c.before).0)
 
 mul-result-2 : tie.Need-overflow-mul-result-2
-mul-result-2 c = search needs
+mul-result-2 c = search rules
 
 element-copy-out-result-2 : tie.Need-element-copy-out-result-2
-element-copy-out-result-2 c = search needs
+element-copy-out-result-2 c = search rules
 
 returns-2 : tie.Need-returns-2
 returns-2 c e =

@@ -1,7 +1,7 @@
 -- No child passed is at fault, and they are seen.
 use mathlib.Core.{Path.refl, Path.sym, Path.◌∙◌, List.[], List.List}
 use Rattle.std.proofs.Common.{ℕ, ◌+◌, ◌-◌, ◌≤◌, length, get_or, arith}
-use borrow.Author.{Needs.needs, Tests.ltb-true, Tests.ltb-false}
+use borrow.Author.{Rules.rules, Tests.ltb-true, Tests.ltb-false}
 use Rattle.model.specs.declared.rule.Upper.{Upper}
 use Rattle.judge.specs.Packed.{seen_in, SameNodes, Laws.seen_at, Laws.seen-set, Laws.same_set}
 use Rattle.judge.specs.Row.{Laws.upto-at, Tally.one_left, Tally.Seeing, Tally.RowPassed}
@@ -43,28 +43,28 @@ free : (c : tie.Else1 invariant-loop decreases-loop) → let i = tested c.before
 free c = ltb-false _ _ (sym c.before.is-full.ensures ∙ c.if1.false)
 
 loop-holds : tie.Need-loop-init invariant-loop decreases-loop
-loop-holds c = (search needs, (refl, refl), λ us t. row-starts _ t)
+loop-holds c = (search rules, (refl, refl), λ us t. row-starts _ t)
 
 mul-name : tie.Need-overflow-mul-name invariant-loop decreases-loop
-mul-name c = search needs
+mul-name c = search rules
 
 shared-slice-read-name : tie.Need-shared-slice-read-name invariant-loop decreases-loop
-shared-slice-read-name c = search needs
+shared-slice-read-name c = search rules
 
 cast-name : tie.Need-overflow-cast-name invariant-loop decreases-loop
 cast-name c = omega (arith, c.shared-slice-known2.given c.before.before.loop.i)
 
 add-word : tie.Need-overflow-add-word invariant-loop decreases-loop
-add-word c = let n = number c.before in search needs
+add-word c = let n = number c.before in search rules
 
 mul-word : tie.Need-overflow-mul-word invariant-loop decreases-loop
-mul-word c = let n = number c.before in search needs
+mul-word c = let n = number c.before in search rules
 
 element-copy-out-word : tie.Need-element-copy-out-word invariant-loop decreases-loop
-element-copy-out-word c = let n = number c.before in search needs
+element-copy-out-word c = let n = number c.before in search rules
 
 is-full-requires : tie.Need-is-full-requires invariant-loop decreases-loop
-is-full-requires c κs = search needs
+is-full-requires c κs = search rules
 
 returns : tie.Need-returns invariant-loop decreases-loop
 returns c =
@@ -77,25 +77,25 @@ returns c =
     )
 
 cast-noted : tie.Need-overflow-cast-noted invariant-loop decreases-loop
-cast-noted c = search needs
+cast-noted c = search rules
 
 noted-requires : tie.Need-noted-requires invariant-loop decreases-loop
 noted-requires c κs = free c
 
 add_words : tie.Need-overflow-add-words invariant-loop decreases-loop
-add_words c = let n = number (tested (kept c).before) in search needs
+add_words c = let n = number (tested (kept c).before) in search rules
 
 mul_words : tie.Need-overflow-mul-words invariant-loop decreases-loop
-mul_words c = let n = number (tested (kept c).before) in search needs
+mul_words c = let n = number (tested (kept c).before) in search rules
 
 element-write-words : tie.Need-element-write-words invariant-loop decreases-loop
-element-write-words c = let n = number (tested (kept c).before) in search needs
+element-write-words c = let n = number (tested (kept c).before) in search rules
 
 add-i : tie.Need-overflow-add-i invariant-loop decreases-loop
-add-i c = search needs
+add-i c = search rules
 
 loop-less : tie.Need-loop-smaller invariant-loop decreases-loop
-loop-less c = search needs
+loop-less c = search rules
 
 loop-again : tie.Need-loop-preserved invariant-loop decreases-loop
 loop-again c =

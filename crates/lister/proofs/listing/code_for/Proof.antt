@@ -12,7 +12,7 @@ say-requires : tie.Need-say-requires
 say-requires c κs = c.before.before.before.requires c.if1.false
 
 code-of-requires : tie.Need-code-of-requires
-code-of-requires c κs = search needs
+code-of-requires c κs = search rules
 
 returns-2 : tie.Need-returns-2
 returns-2 c = rw (ne_eqb _ _ c.before.before.if1.false) (c.code_of_lem.ensures ∙ ap code_of c.before.say.ensures)

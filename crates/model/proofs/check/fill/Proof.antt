@@ -10,59 +10,59 @@ use Rattle.model.specs.Model.Walk.{Walked, walked_none, walked-top, walked_empty
 use Rattle.model.proofs.check.fill.Statement.{statement}
 use Rattle.model.proofs.check.fill.Tie as tie
 
-abbrev invariant-loop : tie.invariant-loop
+abbrev invariant-loop : tie.invariant-loop-i
 invariant-loop rule fills₀ top₀ i₀ fills top i =
     (i ≤ min rule.len 128) × (i ≤ top) × (top ≤ 128) × Walked fill_by (drop i (take rule.len rule.nodes)) fills top
 
-abbrev decreases-loop : tie.decreases-loop
+abbrev decreases-loop : tie.decreases-loop-i
 decreases-loop rule fills₀ top₀ i₀ fills top i = i
 
 -- the array of the rule
-long : (s : tie.Start invariant-loop decreases-loop) → length s.args.t1.nodes ≡ 128
+long : (s : tie.Start invariant-loop decreases-loop) → length s.args.rule.nodes ≡ 128
 long s = search (rules, unmapped)
 
 -- the turn, from where its node's members are known, and the call
-abbrev turn : tie.After-members-of invariant-loop decreases-loop → tie.At-loop invariant-loop decreases-loop
+abbrev turn : tie.After-members_of invariant-loop decreases-loop → tie.At-loop-i invariant-loop decreases-loop
 turn c = c.before.before.before
 
-abbrev start : tie.At-loop invariant-loop decreases-loop → tie.Start invariant-loop decreases-loop
+abbrev start : tie.At-loop-i invariant-loop decreases-loop → tie.Start invariant-loop decreases-loop
 start l = l.before.before
 
-loop-holds : tie.Need-loop-init invariant-loop decreases-loop
+loop-holds : tie.Need-loop-i-init invariant-loop decreases-loop
 loop-holds c =
-    let r = c.before.args.t1 in
-    (search rules, search rules, search rules, walked_none _ _ (rw (c.lesser.ensures, ← long c.before) (slice-none r.nodes r.len)) refl)
+    let r = c.args.rule in
+    (search rules, search rules, search rules, walked_none _ _ (rw (c.lesser-i.ensures, ← long c.before) (slice-none r.nodes r.len)) refl)
 
-loop-again : tie.Need-loop-preserved invariant-loop decreases-loop
+loop-again : tie.Need-loop-i-preserved invariant-loop decreases-loop
 loop-again c =
     let f = c.before in
-    let m = f.before.before.before.before in
+    let m = f.before.before.before in
     let l = turn m.before in
-    let r = (start l).args.t1 in
+    let r = (start l).args.rule in
     let n128 = long (start l) in
-    let v = l.loop.inv in (
+    let v = l.loop-i.invariant in (
       omega arith,
       omega arith,
       omega arith,
-      refill-turn r.nodes r.len l.loop.i _
+      refill-turn r.nodes r.len l.loop-i.i _
           (omega arith) (omega arith) (omega arith) (omega arith) v.2
-          m.before.members-of.ensures
-          m.lesser2.ensures
-          f.before.highest.ensures
-          f.fill-of.ensures
-          c.refilled.ensures
+          m.members_of.ensures
+          m.lesser.ensures
+          f.highest.ensures
+          f.fill_of.ensures
+          c.refilled-fill.ensures
           v.3,
     )
 
-returns : tie.Need-returns invariant-loop decreases-loop
+returns : tie.Need-returns-then-top-lt-MAX_NODES invariant-loop decreases-loop
 returns c =
-    let v = c.before.before.loop in
+    let v = c.loop-i in
     let z : v.i ≡ 0 = omega arith in
     walked-top (rw z at v.invariant.3) _ _ (omega arith)
 
-returns-2 : tie.Need-returns-2 invariant-loop decreases-loop
+returns-2 : tie.Need-returns invariant-loop decreases-loop
 returns-2 c =
-    let v = c.before.before.loop in
+    let v = c.loop-i in
     let z : v.i ≡ 0 = omega arith in
     walked_empty (rw z at v.invariant.3) 0 (omega arith)
 

@@ -3,11 +3,11 @@ use borrow.Author.Rules.{rules}
 use Rattle.model.proofs.check.refilled.Statement.{statement}
 use Rattle.model.proofs.check.refilled.Tie as tie
 
-returns : tie.Need-returns
-returns c = rw (← c.before.mark-fits.ensures, c.if1.true)
+returns : tie.Need-returns-then-mark_fits
+returns c = rw (← c.mark_fits.ensures, c.if-mark_fits.true)
 
-returns-2 : tie.Need-returns-2
-returns-2 c = rw (← c.before.mark-fits.ensures, c.if1.false)
+returns-2 : tie.Need-returns-else-mark_fits
+returns-2 c = rw (← c.mark_fits.ensures, c.if-mark_fits.false)
 
-pub refilled-spec : {M : Type 1} → statement M
-refilled-spec = tie.close (tie.spec (λ c κs. search rules) returns returns-2)
+pub refilled_spec : {M : Type 1} → statement M
+refilled_spec = tie.close (tie.spec (λ c κs. search rules) returns returns-2)

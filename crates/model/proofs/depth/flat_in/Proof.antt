@@ -6,7 +6,7 @@ use Rattle.model.proofs.depth.flat_in.Tie as tie
 
 returns : tie.Need-returns
 unfolding flat_in
-returns c = rw c.numbered-sign.ensures
+returns c = rw c.numbered_sign.ensures
 
-pub flat-in-spec : {M : Type 1} → statement M
-flat-in-spec = tie.close (tie.spec (λ c κs. search rules) (λ c. search rules) returns)
+pub flat_in_spec : {M : Type 1} → statement M
+flat_in_spec = tie.close (tie.spec (λ c κs. search rules) (λ c. search rules) returns)

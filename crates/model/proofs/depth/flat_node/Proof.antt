@@ -8,29 +8,29 @@ use Rattle.model.specs.Depth.{flat_number, flat_in, over_by, flat_part, Laws.Mem
 use Rattle.model.proofs.depth.flat_node.Statement.{statement}
 use Rattle.model.proofs.depth.flat_node.Tie as tie
 
-abbrev invariant-loop : tie.invariant-loop
+abbrev invariant-loop : tie.invariant-loop-at
 invariant-loop kind mark members sign x₀ dropped₀ at₀ x dropped at =
     (at ≤ length members) × MembersMade sign (map flat_in members) at dropped x
 
-abbrev decreases-loop : tie.decreases-loop
+abbrev decreases-loop : tie.decreases-loop-at
 decreases-loop kind mark members sign x₀ dropped₀ at₀ x dropped at = at
 
-loop-holds : tie.Need-loop-init invariant-loop decreases-loop
+loop-holds : tie.Need-loop-at-init invariant-loop decreases-loop
 loop-holds c =
-    let l = c.before.before.before.args.members.now in
-    (search rules, rw c.nil.ensures (join-none _ (map flat_in l) (length l) (rw length-map (omega arith))))
+    let l = c.args.members.now in
+    (search rules, rw c.nil-x.ensures (join-none _ (map flat_in l) (length l) (rw length-map (omega arith))))
 
-loop-again : tie.Need-loop-preserved invariant-loop decreases-loop
+loop-again : tie.Need-loop-at-preserved invariant-loop decreases-loop
 loop-again c =
     let y = c.before.before in
     let v = y.before.before.before in
-    let l = v.before.before.before.before.args.members.now in (
+    let l = v.args.members.now in (
       omega arith,
-      join-turn _ (map flat_in l) v.loop.at (flat_in 0)
-          (omega arith) (rw length-map v.loop.invariant.0)
-          (y.flat_in.ensures ∙ sym (get_or-map flat_in l (v.loop.at - 1) 0))
-          c.beside.ensures
-          v.loop.invariant.1,
+      join-turn _ (map flat_in l) v.loop-at.at (flat_in 0)
+          (omega arith) (rw length-map v.loop-at.invariant.0)
+          (y.flat_in-y.ensures ∙ sym (get_or-map flat_in l (v.loop-at.at - 1) 0))
+          c.beside-x.ensures
+          v.loop-at.invariant.1,
     )
 
 returns : tie.Need-returns invariant-loop decreases-loop
@@ -38,15 +38,15 @@ returns c =
     let o = c.before in
     let p = o.before in
     let v = p.before.before in
-    let k = v.before.before.before.before.args in
-    let z : v.loop.at ≡ 0 = omega arith in
-    let j = rw z at v.loop.invariant.1 in
-    c.flat-number.ensures
+    let k = v.args in
+    let z : v.loop-at.at ≡ 0 = omega arith in
+    let j = rw z at v.loop-at.invariant.1 in
+    c.flat_number.ensures
     ∙ ap flat_number
-    (o.over.ensures ∙ ap (over_by k.mark) (p.part.ensures ∙ ap₂ (flat_part k.kind) j.drops (j.made ∙ rw v.before.before.sign_of.ensures)))
+    (o.over.ensures ∙ ap (over_by k.mark) (p.part.ensures ∙ ap₂ (flat_part k.kind) j.drops (j.made ∙ rw v.sign_of-sign.ensures)))
 
-pub flat-node-spec : {M : Type 1} → statement M
-flat-node-spec =
+pub flat_node_spec : {M : Type 1} → statement M
+flat_node_spec =
     tie.close
     (tie.spec
     invariant-loop

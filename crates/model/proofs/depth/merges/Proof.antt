@@ -6,5 +6,5 @@ use Rattle.model.proofs.depth.merges.Tie as tie
 returns : tie.Need-returns
 returns c = cc
 
-pub merges-spec : {M : Type 1} → statement M
-merges-spec = tie.close (tie.spec (λ c κs. search rules) returns)
+pub merges_spec : {M : Type 1} → statement M
+merges_spec = tie.close (tie.spec (λ c κs. search rules) returns)

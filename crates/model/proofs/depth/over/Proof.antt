@@ -3,11 +3,11 @@ use borrow.Author.Rules.{rules}
 use Rattle.model.proofs.depth.over.Statement.{statement}
 use Rattle.model.proofs.depth.over.Tie as tie
 
-returns : tie.Need-returns
-returns c = rw (← c.before.is-plain.ensures, c.if1.true)
+returns : tie.Need-returns-then-plain
+returns c = rw (← c.is_plain-plain.ensures, c.if-plain.true)
 
-returns-2 : tie.Need-returns-2
-returns-2 c = rw (← c.before.is-plain.ensures, c.if1.false)
+returns-2 : tie.Need-returns-else-plain
+returns-2 c = rw (← c.is_plain-plain.ensures, c.if-plain.false)
 
-pub over-spec : {M : Type 1} → statement M
-over-spec = tie.close (tie.spec (λ c κs. search rules) returns returns-2)
+pub over_spec : {M : Type 1} → statement M
+over_spec = tie.close (tie.spec (λ c κs. search rules) returns returns-2)

@@ -3,11 +3,11 @@ use borrow.Author.Rules.{rules}
 use Rattle.model.proofs.depth.part.Statement.{statement}
 use Rattle.model.proofs.depth.part.Tie as tie
 
-returns : tie.Need-returns
+returns : tie.Need-returns-in-Atom
 returns c = cc
 
-returns-2 : tie.Need-returns-2
-returns-2 c = rw c.before.before.kind.given.1 c.closed.ensures
+returns-2 : tie.Need-returns-in-Group
+returns-2 c = rw c.in-Group.is c.closed.ensures
 
-pub part-spec : {M : Type 1} → statement M
-part-spec = tie.close (tie.spec (λ c. search rules) (λ c. search rules) (λ c κs. search rules) returns returns-2)
+pub part_spec : {M : Type 1} → statement M
+part_spec = tie.close (tie.spec (λ c. search rules) (λ c. search rules) (λ c κs. search rules) returns returns-2)

@@ -6,5 +6,5 @@ use Rattle.model.proofs.depth.same_sign.Tie as tie
 returns : tie.Need-returns
 returns c = cc
 
-pub same-sign-spec : {M : Type 1} → statement M
-same-sign-spec = tie.close (tie.spec (λ c κs. search rules) (λ c κs. search rules) returns)
+pub same_sign_spec : {M : Type 1} → statement M
+same_sign_spec = tie.close (tie.spec (λ c κs. search rules) (λ c κs. search rules) returns)

@@ -4,14 +4,14 @@ use borrow.Author.Tests.{eq-eqb, ne_eqb}
 use Rattle.model.proofs.mark.mark_of.Statement.{statement}
 use Rattle.model.proofs.mark.mark_of.Tie as tie
 
-returns : tie.Need-returns
-returns c = rw (eq-eqb _ _ c.if1.true) refl
+returns : tie.Need-returns-then-byte-eq63
+returns c = rw (eq-eqb _ _ c.if-byte-eq63.true) refl
 
-returns-2 : tie.Need-returns-2
-returns-2 c = rw (ne_eqb _ _ c.before.if1.false, eq-eqb _ _ c.if2.true) refl
+returns-2 : tie.Need-returns-then-byte-eq33
+returns-2 c = rw (ne_eqb _ _ c.if-byte-eq63.false, eq-eqb _ _ c.if-byte-eq33.true) refl
 
-returns-3 : tie.Need-returns-3
-returns-3 c = rw (ne_eqb _ _ c.before.if1.false, ne_eqb _ _ c.if2.false) refl
+returns-3 : tie.Need-returns
+returns-3 c = rw (ne_eqb _ _ c.if-byte-eq63.false, ne_eqb _ _ c.if-byte-eq33.false) refl
 
-pub mark-of-spec : {M : Type 1} → statement M
-mark-of-spec = tie.close (tie.spec returns returns-2 returns-3)
+pub mark_of_spec : {M : Type 1} → statement M
+mark_of_spec = tie.close (tie.spec returns returns-2 returns-3)

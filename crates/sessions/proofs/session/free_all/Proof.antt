@@ -15,13 +15,13 @@ abbrev decreases-loop : tie.decreases-loop
 decreases-loop trail₀ i₀ trail i = length trail₀ - i
 
 loop-holds : tie.Need-loop-init invariant-loop decreases-loop
-loop-holds c = (refl, search needs, fill_none _ free)
+loop-holds c = (refl, search rules, fill_none _ free)
 
 loop-again : tie.Need-loop-preserved invariant-loop decreases-loop
 loop-again c =
     let v = c.before.loop in
     let d = c.before.before.args.trail.now in
-    (simp length-set v.invariant.0, search needs, ap (λ (l : List ℕ). set l v.i free) v.invariant.2 ∙ fill_more v.i free d (omega arith))
+    (simp length-set v.invariant.0, search rules, ap (λ (l : List ℕ). set l v.i free) v.invariant.2 ∙ fill_more v.i free d (omega arith))
 
 returns : tie.Need-returns invariant-loop decreases-loop
 returns c =
@@ -37,10 +37,10 @@ free-all-spec =
     invariant-loop
     decreases-loop
     loop-holds
-    (λ c. search needs)
-    (λ c. search needs)
-    (λ c. search needs)
-    (λ c. search needs)
+    (λ c. search rules)
+    (λ c. search rules)
+    (λ c. search rules)
+    (λ c. search rules)
     loop-again
-    (λ c. search needs)
+    (λ c. search rules)
     returns)
