@@ -6,24 +6,24 @@ use Rattle.judge.proofs.ahead.begin_ahead.Tie as tie
 
 single-requires : tie.Need-single-requires
 single-requires c κs =
-    let k = c.before.before in
-    let (a, b) = k.before.before.before.requires in (rw k.kind.given.1 at a, b)
+    let k = c in
+    let (a, b) = k.requires in (rw k.in-Atom.is at a, b)
 
-returns : tie.Need-returns
+returns : tie.Need-returns-in-Atom
 unfolding part_attribute part_ahead
 returns c =
-    let a = c.before.before.before.before in
-    let k = a.kind.given.1 in
-    let b = rw k at a.before.before.begin.ensures in rw k cc
+    let a = c in
+    let k = a.in-Atom.is in
+    let b = rw k at a.begin-part.ensures in rw k cc
 
-returns-2 : tie.Need-returns-2
+returns-2 : tie.Need-returns-in-Group
 unfolding part_attribute part_ahead
 returns-2 c =
-    let k = c.enum_told.given.1 in
-    let b = rw k at c.before.before.begin.ensures in rw k cc
+    let k = c.in-Group.is in
+    let b = rw k at c.begin-part.ensures in rw k cc
 
-pub begin-ahead-spec : {M : Type 1} → statement M
-begin-ahead-spec =
+pub begin_ahead_spec : {M : Type 1} → statement M
+begin_ahead_spec =
     tie.close
     (tie.spec
     (λ c κs. search rules)

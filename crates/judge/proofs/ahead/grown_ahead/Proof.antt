@@ -4,18 +4,18 @@ use Rattle.judge.specs.Next.Ahead.{grown_ahead}
 use Rattle.judge.proofs.ahead.grown_ahead.Statement.{statement}
 use Rattle.judge.proofs.ahead.grown_ahead.Tie as tie
 
-returns : tie.Need-returns
+returns : tie.Need-returns-in-Atom
 unfolding grown_ahead
 returns c = search rules
 
-returns-2 : tie.Need-returns-2
+returns-2 : tie.Need-returns-then-first
 unfolding grown_ahead
 returns-2 c = search rules
 
-returns-3 : tie.Need-returns-3
+returns-3 : tie.Need-returns-else-first
 unfolding grown_ahead
-returns-3 c = rw (c.before.before.before.kind.given.1, c.before.if1.false) c.pair-ahead.ensures
+returns-3 c = rw (c.in-Group.is, c.if-first.false) c.pair_ahead.ensures
 
-pub grown-ahead-spec : {M : Type 1} → statement M
-grown-ahead-spec =
+pub grown_ahead_spec : {M : Type 1} → statement M
+grown_ahead_spec =
     tie.close (tie.spec (λ c. search rules) (λ c. search rules) (λ c κs. search rules) returns returns-2 returns-3)

@@ -6,5 +6,5 @@ use Rattle.judge.proofs.ahead.marked_ahead.Tie as tie
 returns : tie.Need-returns
 returns c = cc
 
-pub marked-ahead-spec : {M : Type 1} → statement M
-marked-ahead-spec = tie.close (tie.spec (λ c κs. search rules) returns)
+pub marked_ahead_spec : {M : Type 1} → statement M
+marked_ahead_spec = tie.close (tie.spec (λ c κs. search rules) returns)

@@ -10,5 +10,5 @@ returns : tie.Need-returns
 unfolding single
 returns c = let k = c.args.name - 1 in shl_exact 1 k 64 (lit< tt) (omega arith) ∙ one-mul (2 ^ k)
 
-pub single-spec : {M : Type 1} → statement M
-single-spec = tie.close (tie.spec (λ c. search rules) (λ c. search rules) returns)
+pub single_spec : {M : Type 1} → statement M
+single_spec = tie.close (tie.spec (λ c. search rules) (λ c. search rules) returns)

@@ -8,5 +8,5 @@ returns : tie.Need-returns
 unfolding attribute_in
 returns c = refl
 
-pub attribute-in-spec : {M : Type 1} → statement M
-attribute-in-spec = tie.close (tie.spec (λ c. search rules) (λ c. search rules) returns)
+pub attribute_in_spec : {M : Type 1} → statement M
+attribute_in_spec = tie.close (tie.spec (λ c. search rules) (λ c. search rules) returns)

@@ -8,5 +8,5 @@ returns : tie.Need-returns
 unfolding cursor_in
 returns c = refl
 
-pub cursor-in-spec : {M : Type 1} → statement M
-cursor-in-spec = tie.close (tie.spec (λ c. search rules) returns)
+pub cursor_in_spec : {M : Type 1} → statement M
+cursor_in_spec = tie.close (tie.spec (λ c. search rules) returns)

@@ -5,10 +5,10 @@ use Rattle.judge.proofs.cursor.cursor_number.Statement.{statement}
 use Rattle.judge.proofs.cursor.cursor_number.Tie as tie
 
 returns : tie.Need-returns
-returns c = let s = c.before in (cursor-word s.args.c s.requires, past_word s.args.c s.requires)
+returns c = let s = c in (cursor-word s.args.c s.requires, past_word s.args.c s.requires)
 
-pub cursor-number-spec : {M : Type 1} → statement M
-cursor-number-spec =
+pub cursor_number_spec : {M : Type 1} → statement M
+cursor_number_spec =
     tie.close
     (tie.spec
     (λ c. search rules)

@@ -4,30 +4,30 @@ use Rattle.judge.specs.Reading.Cursor.Laws.{fault-few, fault-word}
 use Rattle.judge.proofs.cursor.got_number.Statement.{statement}
 use Rattle.judge.proofs.cursor.got_number.Tie as tie
 
-cursor-number-requires : tie.Need-cursor-number-requires
-cursor-number-requires c κs = let g = c.before in rw g.got.given.1 at g.before.before.requires
+cursor-number-requires : tie.Need-cursor_number-requires
+cursor-number-requires c κs = let g = c in rw g.in-Past.is at g.requires
 
-mul-result : tie.Need-overflow-mul-result
-mul-result c = omega (arith, c.model-number.ensures, fault-few c.before.before.got2.given.0.0)
+mul-result : tie.Need-overflow_mul-result
+mul-result c = omega (arith, c.model_number.ensures, fault-few c.in-Fault.f)
 
 -- the place fits
-place : (c : tie.After-got2) → c.got2.given.0.1.0 < 65536
-place c = rw c.got2.given.1 at c.before.before.requires
+place : (c : tie.In-Fault) → c.in-Fault.p < 65536
+place c = rw c.in-Fault.is at c.requires
 
-add-result : tie.Need-overflow-add-result
-add-result c = let g = c.before.before in omega (arith, c.model-number.ensures, fault-few g.got2.given.0.0, place g)
+add-result : tie.Need-overflow_add-result
+add-result c = let g = c in omega (arith, c.model_number.ensures, fault-few g.in-Fault.f, place g.before)
 
-returns : tie.Need-returns
-returns c = rw c.before.before.got.given.1 c.cursor-number.ensures.1
+returns : tie.Need-returns-in-Past
+returns c = rw c.in-Past.is c.cursor_number.ensures.1
 
-returns-2 : tie.Need-returns-2
+returns-2 : tie.Need-returns-in-Fault
 returns-2 c =
-    let g = c.before.before in
-    let f = g.got2.given in
-    rw (f.1, c.model-number.ensures) (fault-word f.0.0 f.0.1.0 (place g))
+    let g = c in
+    let f = g.got-in-Fault-1.given in
+    rw (f.1, c.model_number.ensures) (fault-word f.0.0 f.0.1.0 (place g.before))
 
-pub got-number-spec : {M : Type 1} → statement M
-got-number-spec =
+pub got_number_spec : {M : Type 1} → statement M
+got_number_spec =
     tie.close
     (tie.spec
     (λ c. search rules)

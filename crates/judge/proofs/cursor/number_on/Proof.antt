@@ -7,5 +7,5 @@ use Rattle.judge.proofs.cursor.number_on.Tie as tie
 returns : tie.Need-returns
 returns c = number-on c.args.number c.requires
 
-pub number-on-spec : {M : Type 1} → statement M
-number-on-spec = tie.close (tie.spec (λ c. search rules) returns)
+pub number_on_spec : {M : Type 1} → statement M
+number_on_spec = tie.close (tie.spec (λ c. search rules) returns)

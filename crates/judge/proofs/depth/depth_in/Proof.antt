@@ -9,66 +9,64 @@ use Rattle.judge.specs.Packed.{node_in, Depth.turn_in, Depth.depth-is-in}
 use Rattle.judge.proofs.depth.depth_in.Statement.{statement}
 use Rattle.judge.proofs.depth.depth_in.Tie as tie
 
-abbrev invariant-loop : tie.invariant-loop
+abbrev invariant-loop : tie.invariant-loop-i
 invariant-loop words len stack₀ top₀ i₀ stack top i =
     (i ≤ len) × (i ≤ top) × (top ≤ 128) × Walked flat_by (drop i (take len (map node_in words))) (map flat_in stack) top
 
-abbrev decreases-loop : tie.decreases-loop
+abbrev decreases-loop : tie.decreases-loop-i
 decreases-loop words len stack₀ top₀ i₀ stack top i = i
 
 -- the turn, from where its node's members are known, and the call
-abbrev turn : tie.After-members-of invariant-loop decreases-loop → tie.At-loop invariant-loop decreases-loop
-turn c = c.before.before.before.before.before
-
-abbrev start : tie.At-loop invariant-loop decreases-loop → tie.Start invariant-loop decreases-loop
+abbrev turn : tie.After-members_of invariant-loop decreases-loop → tie.At-loop-i invariant-loop decreases-loop
+turn c = c.before.before.before.before.before.before
+abbrev start : tie.At-loop-i invariant-loop decreases-loop → tie.Start invariant-loop decreases-loop
 start l = l.before
-
-loop-holds : tie.Need-loop-init invariant-loop decreases-loop
+loop-holds : tie.Need-loop-i-init invariant-loop decreases-loop
 loop-holds c =
     let a = c.args in
     (search rules, search rules, search rules, walked_none _ _ (slice_empty a.len (map node_in a.words.now)) refl)
 
-part_end : tie.Need-slice-bounds-flat-node-end invariant-loop decreases-loop
-part_end c = let l = (turn c.before.before).loop in search (rules, unmapped flat_in l.stack 128 l.inv.3.long)
+part_end : tie.Need-slice_bounds-flat_node-end invariant-loop decreases-loop
+part_end c = let l = (turn c.before).loop-i in search (rules, unmapped flat_in l.stack 128 l.invariant.3.long)
 
-loop-again : tie.Need-loop-preserved invariant-loop decreases-loop
+loop-again : tie.Need-loop-i-preserved invariant-loop decreases-loop
 loop-again c =
-    let m = c.before.before.before in
-    let n = m.before in
+    let m = c in
+    let n = m in
     let l = turn n in
     let a = (start l).args in
-    let v = l.loop.inv in (
+    let v = l.loop-i.invariant in (
       omega arith,
       omega arith,
       omega arith,
-      turn_in a.words.now a.len l.loop.i l.loop.stack _
+      turn_in a.words.now a.len l.loop-i.i l.loop-i.stack _
           (omega arith) v.0 (omega arith) (omega arith) v.2
-          n.before.before.kind-in.ensures
-          n.before.mark-in.ensures
-          n.members-of.ensures
+          n.kind_in-kind.ensures
+          n.mark_in-mark.ensures
+          n.members_of.ensures
           m.lesser.ensures
-          c.flat-node.ensures
+          c.flat_node-flat.ensures
           v.3,
     )
 
-returns : tie.Need-returns invariant-loop decreases-loop
+returns : tie.Need-returns-then-top-lt-MAX_NODES invariant-loop decreases-loop
 returns c =
-    let l = c.before.before.before in
-    let v = l.loop in
+    let l = c in
+    let v = l.loop-i in
     let z : v.i ≡ 0 = omega arith in
-    c.flat-depth.ensures
+    c.flat_depth.ensures
     ∙ ap (λ x. x.depth) (sym (get_or-map flat_in v.stack v.top 0) ∙ walked-top (rw z at v.invariant.3) (flat_in 0) nil_flat (omega arith))
-    ∙ depth-is-in (start l).args.words.now (start l).args.len
+    ∙ depth-is-in (start l.before.before.before).args.words.now (start l.before.before.before).args.len
 
-returns-2 : tie.Need-returns-2 invariant-loop decreases-loop
+returns-2 : tie.Need-returns invariant-loop decreases-loop
 returns-2 c =
-    let l = c.before.before in
-    let z : l.loop.i ≡ 0 = omega arith in
-    ap (λ x. x.depth) (walked_empty (rw z at l.loop.invariant.3) nil_flat (omega arith))
-    ∙ depth-is-in (start l).args.words.now (start l).args.len
+    let l = c in
+    let z : l.loop-i.i ≡ 0 = omega arith in
+    ap (λ x. x.depth) (walked_empty (rw z at l.loop-i.invariant.3) nil_flat (omega arith))
+    ∙ depth-is-in (start l.before.before).args.words.now (start l.before.before).args.len
 
-pub depth-in-spec : {M : Type 1} → statement M
-depth-in-spec =
+pub depth_in_spec : {M : Type 1} → statement M
+depth_in_spec =
     tie.close
     (tie.spec
     invariant-loop

@@ -7,49 +7,46 @@ use Rattle.judge.proofs.first_fault.first_fault.Statement.{statement}
 use Rattle.judge.proofs.first_fault.first_fault.Tie as tie
 
 -- places: the start, where the row was tested, where it has passed, and where it was packed
-abbrev entry : tie.After-test-row → tie.Start
+abbrev entry : tie.After-test_row → tie.Start
 entry c = c.before.before
-
-abbrev passed : tie.After-pack → tie.After-enum-told
+abbrev passed : tie.After-pack → tie.In-Passed
 passed c = c.before.before
-
-abbrev packed : tie.After-words2 → tie.After-pack
+abbrev packed : tie.After-words-in-Passed-1 → tie.After-pack
 packed c = c.before
+test : (c : tie.In-Passed)
+    → let t = c.before.before in row_tested (entry t).args.rule (entry t).args.row.now ≡ Passed c.in-Passed.field-0
+test c = sym c.test_row.ensures ∙ c.in-Passed.is
 
-test : (c : tie.After-enum-told)
-    → let t = c.before.before in row_tested (entry t).args.rule (entry t).args.row.now ≡ Passed c.enum_told.given.0.0
-test c = sym c.before.before.test-row.ensures ∙ c.enum_told.given.1
-
-passes : (c : tie.After-enum-told) → let t = c.before.before in Passes (entry t).args.rule (entry t).args.row.now c.enum_told.given.0.0
+passes : (c : tie.In-Passed) → let t = c.before.before in Passes (entry t).args.rule (entry t).args.row.now c.in-Passed.field-0
 passes c = tested _ _ (test c)
 
 pack-requires : tie.Need-pack-requires
 pack-requires c κs = let w = readable-within _ (passes c.before).good in (w.0, w.1, (refl, refl))
 
-search-row-requires : tie.Need-search-row-requires
+search-row-requires : tie.Need-search_row-requires
 search-row-requires c κs =
     let k = packed c in
     let s = entry (passed k).before.before in
-    searchable k.pack.last.1.0 s.args.rule.len (passed k).enum_told.given.0.0 s.args.row.now
+    searchable k.pack.last.1.0 s.args.rule.len (passed k).in-Passed.field-0 s.args.row.now
     (packed-passes (passes (passed k)) _ k.pack.ensures)
 
-returns : tie.Need-returns
+returns : tie.Need-returns-in-Passed
 returns c =
     let k = packed c.before in
     let s = entry (passed k).before.before in
     let p = packed-passes (passes (passed k)) _ k.pack.ensures in
-    let u = counts-known k.pack.last.1.0 s.args.rule.len (passed k).enum_told.given.0.0 s.args.row.now p in
-    ap Found ((c.search-row.ensures.0 _ u).fault_is ∙ ap (λ l. first_fault (upper_counts l) s.args.row.now) k.pack.ensures.held)
+    let u = counts-known k.pack.last.1.0 s.args.rule.len (passed k).in-Passed.field-0 s.args.row.now p in
+    ap Found ((c.search_row.ensures.0 _ u).fault_is ∙ ap (λ l. first_fault (upper_counts l) s.args.row.now) k.pack.ensures.held)
     ∙ searched-found s.args.rule s.args.row.now (test (passed k))
 
-returns-2 : tie.Need-returns-2
+returns-2 : tie.Need-returns-in-Refused
 returns-2 c =
-    let f = c.before in
-    let t = f.before.before in
-    searched-refused (entry t).args.rule (entry t).args.row.now (sym t.test-row.ensures ∙ f.f.given.1)
+    let f = c in
+    let t = f in
+    searched-refused (entry t.before.before.before).args.rule (entry t.before.before.before).args.row.now (sym t.test_row.ensures ∙ f.in-Refused.is)
 
-pub first-fault-spec : {M : Type 1} → statement M
-first-fault-spec =
+pub first_fault_spec : {M : Type 1} → statement M
+first_fault_spec =
     tie.close
     (tie.spec
     (λ c κs. search rules)

@@ -4,19 +4,18 @@ use Rattle.judge.specs.Next.Code.{hands_none, hands-all}
 use Rattle.judge.proofs.next.list_names.Statement.{statement}
 use Rattle.judge.proofs.next.list_names.Tie as tie
 
-abbrev entry : tie.After-size → tie.Start
+abbrev entry : tie.After-size-found → tie.Start
 entry c = c.before.before
+returns : tie.Need-returns-then-row-found
+returns c = let a = (entry c.before).args in hands_none a.set a.n a.row.now c.size-found.ensures c.if-row-found.true
 
-returns : tie.Need-returns
-returns c = let a = (entry c.before).args in hands_none a.set a.n a.row.now c.before.size.ensures c.if1.true
-
-returns-2 : tie.Need-returns-2
+returns-2 : tie.Need-returns
 returns-2 c =
-    let p = c.before.before in
-    let e = p.before.before in
-    let a = (entry e.before).args in
-    hands-all a.set a.n a.row.now e.before.size.ensures e.if1.false p.put-names.ensures
+    let p = c in
+    let e = p in
+    let a = (entry e.before.before.before.before.before).args in
+    hands-all a.set a.n a.row.now e.size-found.ensures e.if-row-found.false p.put_names.ensures
 
-pub list-names-spec : {M : Type 1} → statement M
-list-names-spec =
+pub list_names_spec : {M : Type 1} → statement M
+list_names_spec =
     tie.close (tie.spec (λ c κs. search rules) returns (λ c κs. search rules) (λ c. search rules) returns-2)

@@ -6,52 +6,49 @@ use Rattle.judge.proofs.next.next_children.Statement.{statement}
 use Rattle.judge.proofs.next.next_children.Tie as tie
 
 -- places: the start, where the texts were read, and where both were
-abbrev start : tie.After-read-children → tie.Start
+abbrev start : tie.After-read_children → tie.Start
 start c = c.before.before.before.before.before
-
-abbrev read : tie.After-known-told → tie.After-read-children
+abbrev read : tie.In-Both → tie.After-read_children
 read c = c.before.before.before
-
-abbrev known : tie.After-words2 → tie.After-known-told
+abbrev known : tie.After-words-in-Both-1 → tie.In-Both
 known c = c.before
-
-read-children-requires : tie.Need-read-children-requires
+read-children-requires : tie.Need-read_children-requires
 read-children-requires c κs = (refl, refl)
 
-root-next-requires : tie.Need-root-next-requires
+root-next-requires : tie.Need-root_next-set-requires
 root-next-requires c κs =
     let t = known c in
-    let b = read-both (read t).read-children.ensures t.before.read.given.1 in
+    let b = read-both (read t).read_children.ensures t.in-Both.is in
     (b.nodes, b.names)
 
-list-names-requires : tie.Need-list-names-requires
+list-names-requires : tie.Need-list_names-requires
 list-names-requires c κs =
     let t = known c.before.before in
-    (read-both (read t).read-children.ensures t.before.read.given.1).names.1
+    (read-both (read t).read_children.ensures t.in-Both.is).names.1
 
-returns : tie.Need-returns
+returns : tie.Need-returns-in-Both
 returns c =
-    let l = c.before.before in
-    let n = l.before.before in
+    let l = c in
+    let n = l in
     let t = known n.before in
-    let b = read-both (read t).read-children.ensures t.before.read.given.1 in
-    row_listed b n.root-next.ensures (start (read t)).args.row.now l.list-names.ensures
+    let b = read-both (read t).read_children.ensures t.in-Both.is in
+    row_listed b n.root_next-set.ensures (start (read t)).args.row.now l.list_names.ensures
 
-returns-2 : tie.Need-returns-2
+returns-2 : tie.Need-returns-in-Faulty
 returns-2 c =
-    let r = c.before.before in
-    fault-listed (read-fault r.read-children.ensures c.enum_told.given.1) (start r).args.row.now
+    let r = c in
+    fault-listed (read-fault r.read_children.ensures c.in-Faulty.is) (start r.before.before).args.row.now
 
-returns-3 : tie.Need-returns-3
+returns-3 : tie.Need-returns-in-ModelRefused
 unfolding children_next
-returns-3 c = rw (reply-model c.before.before.before.read-children.ensures _ c.before.f.given.1) (refl, refl)
+returns-3 c = rw (reply-model c.read_children.ensures _ c.in-ModelRefused.is) (refl, refl)
 
-returns-4 : tie.Need-returns-4
+returns-4 : tie.Need-returns-in-ChildrenRefused
 unfolding children_next
-returns-4 c = rw (reply-children c.before.before.before.read-children.ensures _ c.before.f2.given.1) (refl, refl)
+returns-4 c = rw (reply-children c.read_children.ensures _ c.in-ChildrenRefused.is) (refl, refl)
 
-pub next-children-spec : {M : Type 1} → statement M
-next-children-spec =
+pub next_children_spec : {M : Type 1} → statement M
+next_children_spec =
     tie.close
     (tie.spec
     read-children-requires

@@ -6,35 +6,33 @@ use Rattle.judge.proofs.next.next_names.Statement.{statement}
 use Rattle.judge.proofs.next.next_names.Tie as tie
 
 -- places: the start, where the row was tested, where it has passed
-abbrev entry : tie.After-test-row → tie.Start
+abbrev entry : tie.After-test_row → tie.Start
 entry c = c.before.before.before
-
-abbrev passed : tie.After-pack → tie.After-names
-passed c = c.before.before.before
-
-passes : (c : tie.After-names) → let s = entry c.before.before in Passes s.args.rule s.args.children.now c.names.given.0.0
-passes c = tested _ _ (sym c.before.before.test-row.ensures ∙ c.names.given.1)
+abbrev passed : tie.After-pack → tie.In-Passed
+passed c = c.before.before
+passes : (c : tie.In-Passed) → let s = entry c.before.before in Passes s.args.rule s.args.children.now c.in-Passed.names-1
+passes c = tested _ _ (sym c.test_row.ensures ∙ c.in-Passed.is)
 
 pack-requires : tie.Need-pack-requires
-pack-requires c κs = let w = readable-within _ (passes c.before.before).good in (w.0, w.1, (refl, refl))
+pack-requires c κs = let w = readable-within _ (passes c.before).good in (w.0, w.1, (refl, refl))
 
-next-on-requires : tie.Need-next-on-requires
-next-on-requires c κs = let k = c.before.before in packed-passes (passes (passed k)) _ k.pack.ensures
+next-on-requires : tie.Need-next_on-requires
+next-on-requires c κs = let k = c in packed-passes (passes (passed k.before.before)) _ k.pack.ensures
 
-returns : tie.Need-returns
+returns : tie.Need-returns-in-Passed
 unfolding next_judged
 returns c =
-    let n = c.before.before in
-    let k = n.before.before.before in
-    let p = passes (passed k) in
-    rw (p.answer, ← p.names_are) (rw (packed-is p _ k.pack.ensures) at n.next-on.ensures)
+    let n = c in
+    let k = n in
+    let p = passes (passed k.before.before.before.before.before) in
+    rw (p.answer, ← p.names_are) (rw (packed-is p _ k.pack.ensures) at n.next_on.ensures)
 
-returns-2 : tie.Need-returns-2
+returns-2 : tie.Need-returns-in-Refused
 unfolding next_judged
-returns-2 c = let f = c.before in rw (tested _ _ (sym f.before.before.test-row.ensures ∙ f.f.given.1)) (refl, refl)
+returns-2 c = let f = c in rw (tested _ _ (sym f.test_row.ensures ∙ f.in-Refused.is)) (refl, refl)
 
-pub next-names-spec : {M : Type 1} → statement M
-next-names-spec =
+pub next_names_spec : {M : Type 1} → statement M
+next_names_spec =
     tie.close
     (tie.spec
     (λ c κs. search rules)

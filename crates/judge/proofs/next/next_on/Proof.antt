@@ -12,68 +12,65 @@ abbrev nodes : tie.Start → List Node
 nodes s = map node_in (take s.args.len s.args.words.now)
 
 -- the start, where the row was searched, and where no child is at fault
-abbrev entry : tie.After-search-row → tie.Start
+abbrev entry : tie.After-search_row → tie.Start
 entry c = c.before.before.before.before
-
-abbrev sound : tie.After-enum-told2 → tie.After-search-row
+abbrev sound : tie.In-Nothing → tie.After-search_row
 sound c = c.before.before
-
-abbrev told : tie.After-root-next → tie.After-enum-told2
+abbrev told : tie.After-root_next-set → tie.In-Nothing
 told c = c.before.before
-
 few : (s : tie.Start) → s.args.names ≤ 64
 few s = atoms-within (nodes s) s.requires.1.0.0 s.requires.1.0.1
 
 -- what the search tells, by the upper counts
-tallied : (c : tie.After-search-row)
-    → RowTallied (upper_counts (nodes (entry c))) (entry c).args.children.now (seen_in c.search-row.new.1.0) c.search-row.result
+tallied : (c : tie.After-search_row)
+    → RowTallied (upper_counts (nodes (entry c))) (entry c).args.children.now (seen_in c.search_row.new.1.0) c.search_row.result
 tallied c =
     let s = entry c in
-    c.search-row.ensures.0 _ (counts-known s.args.words.now s.args.len s.args.names s.args.children.now s.pre)
+    c.search_row.ensures.0 _ (counts-known s.args.words.now s.args.len s.args.names s.args.children.now s.requires)
 
 -- the search leaves the nodes as they were
-same : (c : tie.After-search-row) → map node_in (take (entry c).args.len c.search-row.new.1.0) ≡ nodes (entry c)
-same c = same_nodes _ _ c.search-row.ensures.1 _ (entry c).requires.0.0
+same : (c : tie.After-search_row) → map node_in (take (entry c).args.len c.search_row.new.1.0) ≡ nodes (entry c)
+same c = same_nodes _ _ c.search_row.ensures.1 _ (entry c).requires.0.0
 
-search-row-requires : tie.Need-search-row-requires
+search-row-requires : tie.Need-search_row-requires
 search-row-requires c κs =
-    let s = c.before.before.before in
+    let s = c in
     searchable s.args.words.now s.args.len s.args.names s.args.children.now s.requires
 
-root-next-requires : tie.Need-root-next-requires
+root-next-requires : tie.Need-root_next-set-requires
 root-next-requires c κs =
     let f = sound c.before in
     let s = entry f in
-    ((s.pre.0.0, omega (arith, s.pre.0.1, f.search-row.ensures.1.1)), (rw (same f) s.pre.1.0.1, few s))
+    ((s.requires.0.0, omega (arith, s.requires.0.1, f.search_row.ensures.1.1)), (rw (same f) s.requires.1.0.1, few s))
 
-list-names-requires : tie.Need-list-names-requires
+list-names-requires : tie.Need-list_names-requires
 list-names-requires c κs = few (entry (sound (told c.before)))
 
-returns : tie.Need-returns
+returns : tie.Need-returns-in-At
 returns c =
-    let f = c.before.before in
+    let f = c in
     let s = entry f in
     hands-no-names s.args.row.now
-    (next-stopped (nodes s) s.pre.1.0.0 s.args.children.now s.pre.1.0.1 s.pre.1.1.1
-    (fault-told (tallied f) c.enum_told.given.1))
+    (next-stopped (nodes s) s.requires.1.0.0 s.args.children.now s.requires.1.0.1 s.requires.1.1.1
+    (fault-told (tallied f.before.before) c.in-At.is))
 
-returns-2 : tie.Need-returns-2
+returns-2 : tie.Need-returns-in-Nothing
 returns-2 c =
-    let n = c.before.before in
-    let b = n.before.before in
-    let f = (sound (told b)).search-row in
-    let s = entry (sound (told b)) in
-    let e = (told b).enum-told2.given.1 in
+    let n = c in
+    let b = n in
+    let f = (sound (told b.before.before.before.before)).search_row in
+    let s = entry (sound (told b.before.before.before.before)) in
+    let e = (told b.before.before.before.before).in-Nothing.is in
     rw (
-      b.root-next.ensures,
-      same (sound (told b)),
-      next-tallied (nodes s) s.pre.1.0.0 s.args.children.now s.pre.1.0.1 s.pre.1.1.1 (fault-told (tallied (sound (told b))) e)
-          (seen_in f.last.1.0) ((tallied (sound (told b))).tallied e),
+      b.root_next-set.ensures,
+      same (sound (told b.before.before.before.before)),
+      next-tallied (nodes s) s.requires.1.0.0 s.args.children.now s.requires.1.0.1 s.requires.1.1.1 (fault-told (tallied (sound (told b.before.before.before.before))) e)
+          (seen_in f.last.1.0) ((tallied (sound (told b.before.before.before.before))).tallied e),
     )
-    at n.list-names.ensures
+    at n.list_names.ensures
 
-pub next-on-spec : {M : Type 1} → statement M
-next-on-spec =
+pub next_on_spec : {M : Type 1} → statement M
+next_on_spec =
     tie.close
     (tie.spec
     search-row-requires

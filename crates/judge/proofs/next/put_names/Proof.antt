@@ -5,46 +5,46 @@ use Rattle.judge.specs.Next.Code.{NamesPut, placed-none, placed-more, placed-roo
 use Rattle.judge.proofs.next.put_names.Statement.{statement}
 use Rattle.judge.proofs.next.put_names.Tie as tie
 
-abbrev invariant-loop : tie.invariant-loop
+abbrev invariant-loop : tie.invariant-loop-i
 invariant-loop set n row₀ left₀ found₀ i₀ row left found i = (i ≤ n) × NamesPut set row₀ i left found row
 
-abbrev decreases-loop : tie.decreases-loop
+abbrev decreases-loop : tie.decreases-loop-i
 decreases-loop set n row₀ left₀ found₀ i₀ row left found i = n - i
 
-loop-holds : tie.Need-loop-init invariant-loop decreases-loop
+loop-holds : tie.Need-loop-i-init invariant-loop decreases-loop
 loop-holds c = (search rules, placed-none _ _)
 
 -- a name that is in the set finds a place
-room : (c : tie.In-loop invariant-loop decreases-loop) → c.before.loop.left % 2 ≡ 1 → c.before.loop.found < length c.before.loop.row
-room c e = placed-room c.before.loop.invariant.1 c.before.before.args.n e (omega arith) c.before.before.requires.1
+room : (c : tie.In-loop-i invariant-loop decreases-loop) → c.loop-i.left % 2 ≡ 1 → c.loop-i.found < length c.loop-i.row
+room c e = placed-room c.loop-i.invariant.1 c.args.n e (omega arith) c.requires.1
 
-mul-row : tie.Need-overflow-mul-row invariant-loop decreases-loop
-mul-row c = omega (arith, looked-few c.before.before.loop.invariant.1.looked)
+mul-row : tie.Need-offset_bounds-row-found invariant-loop decreases-loop
+mul-row c = omega (arith, looked-few c.loop-i.invariant.1.looked)
 
-slice-write-row : tie.Need-slice-write-row invariant-loop decreases-loop
-slice-write-row c = room c.before c.if1.true
+slice-write-row : tie.Need-bounds-row-found invariant-loop decreases-loop
+slice-write-row c = room c.before c.if-left-eq1.true
 
-add-found : tie.Need-overflow-add-found invariant-loop decreases-loop
-add-found c = omega (arith, looked-few c.before.before.loop.invariant.1.looked)
+add-found : tie.Need-overflow_add-found invariant-loop decreases-loop
+add-found c = omega (arith, looked-few c.loop-i.invariant.1.looked)
 
-loop-again : tie.Need-loop-preserved invariant-loop decreases-loop
+loop-again : tie.Need-loop-i-preserved invariant-loop decreases-loop
 loop-again c =
-    let v = c.before.before.loop.invariant.1 in (
+    let v = c.loop-i.invariant.1 in (
       search rules,
       ⊎_elim
-          (λ w. rw (w.1, w.2) (placed-more v w.0.taken (room c.before w.0.taken)))
+          (λ w. rw (w.1, w.2) (placed-more v w.0.true (room c.before w.0.true)))
           (λ w. rw (w.1, w.2) (placed_same v w.0.left))
-          c.if1.branch,
+          c.if-left-eq1.branch,
     )
 
-same_length : tie.Need-same-length invariant-loop decreases-loop
-same_length c = c.before.loop.invariant.1.whole
+same_length : tie.Need-shape_of-row invariant-loop decreases-loop
+same_length c = c.loop-i.invariant.1.whole
 
 returns : tie.Need-returns invariant-loop decreases-loop
-returns c = placed-all c.before.loop.invariant.1 c.before.before.args.n (omega arith)
+returns c = placed-all c.loop-i.invariant.1 c.args.n (omega arith)
 
-pub put-names-spec : {M : Type 1} → statement M
-put-names-spec =
+pub put_names_spec : {M : Type 1} → statement M
+put_names_spec =
     tie.close
     (tie.spec
     invariant-loop

@@ -24,7 +24,7 @@ stack_at : (words sets : List ℕ) (i : ℕ) (d : Ahead) → length (stack_in wo
     → get_or (stack_in words sets) i d ≡ record { part = attribute_in (get_or words i 0); next = get_or sets i 0 }
 stack_at words sets i d l h = aheads-at (take 128 words) sets i d (omega arith) ∙ rw (get_or-take 128 words i 0 h)
 
-stack_set : (words sets : List ℕ) (i w s : ℕ) {x : Ahead} → i < 128 → attribute_in w ≡ x.part → s ≡ x.next
+stack_set : (words sets : List ℕ) (i w s : ℕ) {x : Ahead} → i < 128 → attribute_in w ≡ x.part-1 → s ≡ x.next
     → stack_in (set words i w) (set sets i s) ≡ set (stack_in words sets) i x
 stack_set words sets i w s h e f = rw (take-set-lt 128 words i w h) (aheads-set (take 128 words) sets i w s ∙ rw (e, f))
 
@@ -32,20 +32,20 @@ stack_set words sets i w s h e f = rw (take-set-lt 128 words i w h) (aheads-set 
 abbrev blank : Ahead
 blank = record { part = attribute_in 0; next = 0 }
 
-abbrev invariant-loop2 : tie.invariant-loop2
+abbrev invariant-loop2 : tie.invariant-loop-at
 invariant-loop2 words len names children sets top name i word kind end x₀ at₀ x at =
     (top ≤ at) × (at ≤ end)
     × (x ≡ part_ahead children kind name (seen_of children (get_or (seen_in words) name 0)) (take (at - top) (drop top (stack_in words sets))))
 
-abbrev decreases-loop2 : tie.decreases-loop2
+abbrev decreases-loop2 : tie.decreases-loop-at
 decreases-loop2 words len names children sets top name i word kind end x₀ at₀ x at = end - at
 
-abbrev invariant-loop : tie.invariant-loop
+abbrev invariant-loop : tie.invariant-loop-i
 invariant-loop words₀ len names children sets₀ top₀ name₀ i₀ words sets top name i =
     (i ≤ len) × (i ≤ top) × (top ≤ 128) × (name ≤ 64) × Standing words₀ words i
     × Evaluated (ahead_by children (λ k. seen_of children (get_or (seen_in words₀) k 0))) (nodes words₀ len) i (stack_in words sets) top name
 
-abbrev decreases-loop : tie.decreases-loop
+abbrev decreases-loop : tie.decreases-loop-i
 decreases-loop words₀ len names children sets₀ top₀ name₀ i₀ words sets top name i = i
 
 -- at the start: the nodes held, and what is seen of each name
@@ -57,30 +57,28 @@ abbrev seen_at : tie.Start invariant-loop2 decreases-loop2 invariant-loop decrea
 seen_at c k = seen_of c.args.children (get_or (seen_in c.args.words.now) k 0)
 
 -- the node of a turn, that turn, and the start
-abbrev node : tie.After-seen-of invariant-loop2 decreases-loop2 invariant-loop decreases-loop → tie.After-kind-in invariant-loop2 decreases-loop2 invariant-loop decreases-loop
+abbrev node : tie.After-seen_of-here invariant-loop2 decreases-loop2 invariant-loop decreases-loop → tie.After-kind_in-kind invariant-loop2 decreases-loop2 invariant-loop decreases-loop
 node c = c.before.before.before.before
-
-abbrev turn : tie.After-kind-in invariant-loop2 decreases-loop2 invariant-loop decreases-loop → tie.At-loop invariant-loop2 decreases-loop2 invariant-loop decreases-loop
-turn c = c.before.before.before
-
-abbrev start : tie.At-loop invariant-loop2 decreases-loop2 invariant-loop decreases-loop → tie.Start invariant-loop2 decreases-loop2 invariant-loop decreases-loop
+abbrev turn : tie.After-kind_in-kind invariant-loop2 decreases-loop2 invariant-loop decreases-loop → tie.At-loop-i invariant-loop2 decreases-loop2 invariant-loop decreases-loop
+turn c = c.before.before.before.before
+abbrev start : tie.At-loop-i invariant-loop2 decreases-loop2 invariant-loop decreases-loop → tie.Start invariant-loop2 decreases-loop2 invariant-loop decreases-loop
 start l = l.before
 
 -- it stands there as at the start
-abbrev read : tie.After-kind-in invariant-loop2 decreases-loop2 invariant-loop decreases-loop → Node
-read c = record { kind = c.kind-in.result; mark = (node_in (get_or (turn c).loop.words ((turn c).loop.i - 1) 0)).mark }
+abbrev read : tie.After-kind_in-kind invariant-loop2 decreases-loop2 invariant-loop decreases-loop → Node
+read c = record { kind = c.kind_in-kind.result; mark = (node_in (get_or (turn c).loop-i.words ((turn c).loop-i.i - 1) 0)).mark }
 
-read_is : (c : tie.After-kind-in invariant-loop2 decreases-loop2 invariant-loop decreases-loop)
-    → read c ≡ node_in (get_or (start (turn c)).args.words.now ((turn c).loop.i - 1) 0)
-read_is c = kind-node _ c.kind-in.ensures ∙ ap node_in ((turn c).loop.invariant.4.node_same _ (omega arith))
+read_is : (c : tie.After-kind_in-kind invariant-loop2 decreases-loop2 invariant-loop decreases-loop)
+    → read c ≡ node_in (get_or (start (turn c)).args.words.now ((turn c).loop-i.i - 1) 0)
+read_is c = kind-node _ c.kind_in-kind.ensures ∙ ap node_in ((turn c).loop-i.invariant.4.node_same _ (omega arith))
 
 -- its name, if it is an atom, is one of those counted
-named : (c : tie.After-kind-in invariant-loop2 decreases-loop2 invariant-loop decreases-loop) → is_atom c.kind-in.result ≤ (turn c).loop.name
+named : (c : tie.After-kind_in-kind invariant-loop2 decreases-loop2 invariant-loop decreases-loop) → is_atom c.kind_in-kind.result ≤ (turn c).loop-i.name
 named c =
-    let v = (turn c).loop.invariant in
-    name-turn (held (start (turn c))) c.before.before.loop-test.true v.0 (read_is c) v.5.name_is
+    let v = (turn c).loop-i.invariant in
+    name-turn (held (start (turn c))) c.loop-i-test.true v.0 (read_is c) v.5.name_is
 
-loop-holds : tie.Need-loop-init invariant-loop2 decreases-loop2 invariant-loop decreases-loop
+loop-holds : tie.Need-loop-i-init invariant-loop2 decreases-loop2 invariant-loop decreases-loop
 loop-holds c =
     let words = c.args.words.now in
     let n = length-take-le 128 words c.requires.0.1 in (
@@ -92,73 +90,73 @@ loop-holds c =
       pass-none (held c) (aheads-long (take 128 words) _ ∙ rw n refl) c.requires.1.0,
     )
 
-begin-ahead-requires : tie.Need-begin-ahead-requires invariant-loop2 decreases-loop2 invariant-loop decreases-loop
-begin-ahead-requires c κs = (named (node c), (turn (node c)).loop.inv.3)
+begin-ahead-requires : tie.Need-begin_ahead-x-requires invariant-loop2 decreases-loop2 invariant-loop decreases-loop
+begin-ahead-requires c κs = (named (node c), (turn (node c)).loop-i.invariant.3)
 
 -- what is seen of each name at a turn
-abbrev seen_now : tie.At-loop invariant-loop2 decreases-loop2 invariant-loop decreases-loop → ℕ → Seen
-seen_now l k = seen_of (start l).args.children (get_or (seen_in l.loop.words) k 0)
+abbrev seen_now : tie.At-loop-i invariant-loop2 decreases-loop2 invariant-loop decreases-loop → ℕ → Seen
+seen_now l k = seen_of (start l).args.children (get_or (seen_in l.loop-i.words) k 0)
 
-loop2-holds : tie.Need-loop2-init invariant-loop2 decreases-loop2 invariant-loop decreases-loop
+loop2-holds : tie.Need-loop-at-init invariant-loop2 decreases-loop2 invariant-loop decreases-loop
 loop2-holds c =
     let l = turn (node c.before) in
-    let v = l.loop in
-    let b = rw (c.before.seen_of.ensures, ← get_or-drop 128 v.words v.name 0) at c.begin-ahead.ensures in
+    let v = l.loop-i in
+    let b = rw (c.seen_of-here.ensures, ← get_or-drop 128 v.words v.name 0) at c.begin_ahead-x.ensures in
     (search rules, omega arith, part_none (ahead-parts _ (seen_now l)) (stack_in v.words v.sets) v.top b)
 
-loop2-again : tie.Need-loop2-preserved invariant-loop2 decreases-loop2 invariant-loop decreases-loop
+loop2-again : tie.Need-loop-at-preserved invariant-loop2 decreases-loop2 invariant-loop decreases-loop
 loop2-again c =
-    let m = c.before.before.before.before in
-    let u = m.loop2 in
-    let l = turn (node m.before.before) in
-    let v = l.loop in
-    let n = v.inv.5.long in
+    let m = c in
+    let u = m.loop-at in
+    let l = turn (node m.before.before.before.before.before.before.before) in
+    let v = l.loop-i in
+    let n = v.invariant.5.long in
     let stack = stack_in v.words v.sets in
-    let y : record { part = c.before.attribute-in.result; next = get_or v.sets u.at 0 } ≡ get_or stack u.at blank =
-    rw c.before.attribute-in.ensures (sym (stack_at v.words v.sets u.at blank n (omega arith))) in
-    let g = rw y at c.grown-ahead.ensures in (
+    let y : record { part = c.attribute_in-part.result; next = get_or v.sets u.at 0 } ≡ get_or stack u.at blank =
+    rw c.attribute_in-part.ensures (sym (stack_at v.words v.sets u.at blank n (omega arith))) in
+    let g = rw y at c.grown_ahead-x.ensures in (
       omega arith,
       omega arith,
       part-turn (ahead-parts _ (seen_now l)) stack v.top u.at blank u.invariant.0 (omega arith) g u.invariant.2,
     )
 
-sub-name : tie.Need-overflow-sub-name invariant-loop2 decreases-loop2 invariant-loop decreases-loop
-sub-name c = omega (arith, c.atoms-of.ensures.0, named (node c.before.before.before.before))
+sub-name : tie.Need-overflow_sub-name invariant-loop2 decreases-loop2 invariant-loop decreases-loop
+sub-name c = omega (arith, c.atoms_of-name.ensures.0, named (node c.before.before.before.before))
 
-loop-again : tie.Need-loop-preserved invariant-loop2 decreases-loop2 invariant-loop decreases-loop
+loop-again : tie.Need-loop-i-preserved invariant-loop2 decreases-loop2 invariant-loop decreases-loop
 loop-again c =
-    let whole = c.before.before in
-    let m = whole.before.before.before in
-    let s = m.before.before.before.before in
+    let whole = c in
+    let m = whole in
+    let s = m in
     let k = node m.before.before in
     let l = turn k in
-    let v = l.loop.inv in
-    let u = m.loop2 in
-    let place = s.lesser.result + l.loop.top - 1 in
-    let z : u.at ≡ s.lesser.result + l.loop.top = omega arith in (
+    let v = l.loop-i.invariant in
+    let u = m.loop-at in
+    let place = s.lesser.result + l.loop-i.top - 1 in
+    let z : u.at ≡ s.lesser.result + l.loop-i.top = omega arith in (
       omega arith,
       omega arith,
       omega arith,
       omega arith,
       standing-turn v.4 place _ (omega arith) (omega arith),
-      rw (stack_set l.loop.words l.loop.sets place c.attribute-word.result _ (omega arith) c.attribute-word.ensures refl)
-          (pass-turn (ahead-parts _ (seen_at (start l))) (held (start l)) k.before.before.loop-test.taken v.0 (read_is k) v.5
-          (omega arith) v.2 s.before.members-of.ensures s.lesser.ensures whole.before.atoms-of.ensures.0
-          (rw (z, v.4.seen_same) at u.invariant.2) whole.marked-ahead.ensures),
+      rw (stack_set l.loop-i.words l.loop-i.sets place c.attribute_word.result _ (omega arith) c.attribute_word.ensures refl)
+          (pass-turn (ahead-parts _ (seen_at (start l))) (held (start l)) k.loop-i-test.true v.0 (read_is k) v.5
+          (omega arith) v.2 s.members_of.ensures s.lesser.ensures whole.atoms_of-name.ensures.0
+          (rw (z, v.4.seen_same) at u.invariant.2) whole.marked_ahead-whole.ensures),
     )
 
-returns : tie.Need-returns invariant-loop2 decreases-loop2 invariant-loop decreases-loop
+returns : tie.Need-returns-then-top-lt-MAX_NODES invariant-loop2 decreases-loop2 invariant-loop decreases-loop
 returns c =
-    let l = c.before.before.loop in
+    let l = c.loop-i in
     let next : Ahead → ℕ = λ x. x.next in
     ap next
     (sym (stack_at l.words l.sets l.top blank l.invariant.5.long (omega arith)) ∙ pass-top l.invariant.5 (omega arith) blank (empty_ahead _) (omega arith))
 
-returns-2 : tie.Need-returns-2 invariant-loop2 decreases-loop2 invariant-loop decreases-loop
-returns-2 c = ap (λ (x : Ahead). x.next) (pass-empty c.before.before.loop.invariant.5 (omega arith) (empty_ahead _) (omega arith))
+returns-2 : tie.Need-returns-else-top-lt-MAX_NODES invariant-loop2 decreases-loop2 invariant-loop decreases-loop
+returns-2 c = ap (λ (x : Ahead). x.next) (pass-empty c.loop-i.invariant.5 (omega arith) (empty_ahead _) (omega arith))
 
-pub root-next-spec : {M : Type 1} → statement M
-root-next-spec =
+pub root_next_spec : {M : Type 1} → statement M
+root_next_spec =
     tie.close
     (tie.spec
     invariant-loop2

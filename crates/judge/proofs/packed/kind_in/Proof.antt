@@ -6,7 +6,7 @@ use Rattle.judge.proofs.packed.kind_in.Tie as tie
 
 returns : tie.Need-returns
 unfolding node_in
-returns c = c.kind-of.ensures
+returns c = c.kind_of.ensures
 
-pub kind-in-spec : {M : Type 1} → statement M
-kind-in-spec = tie.close (tie.spec (λ c. search rules) (λ c. search rules) (λ c κs. search rules) returns)
+pub kind_in_spec : {M : Type 1} → statement M
+kind_in_spec = tie.close (tie.spec (λ c. search rules) (λ c. search rules) (λ c κs. search rules) returns)

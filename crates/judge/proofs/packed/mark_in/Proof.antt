@@ -6,7 +6,7 @@ use Rattle.judge.proofs.packed.mark_in.Tie as tie
 
 returns : tie.Need-returns
 unfolding node_in
-returns c = c.numbered-mark.ensures
+returns c = c.numbered_mark.ensures
 
-pub mark-in-spec : {M : Type 1} → statement M
-mark-in-spec = tie.close (tie.spec (λ c κs. search rules) returns)
+pub mark_in_spec : {M : Type 1} → statement M
+mark_in_spec = tie.close (tie.spec (λ c κs. search rules) returns)

@@ -7,32 +7,32 @@ use Rattle.judge.specs.Reading.Filled.{filled, fill-turn, fill-length, rule-fill
 use Rattle.judge.proofs.packed.unpack.Statement.{statement}
 use Rattle.judge.proofs.packed.unpack.Tie as tie
 
-abbrev invariant-loop : tie.invariant-loop
+abbrev invariant-loop : tie.invariant-loop-i
 invariant-loop words len rule₀ i₀ rule i = (i ≤ len) × (rule.nodes ≡ filled node_in unused words 128 i)
 
-abbrev decreases-loop : tie.decreases-loop
+abbrev decreases-loop : tie.decreases-loop-i
 decreases-loop words len rule₀ i₀ rule i = len - i
 
-loop-holds : tie.Need-loop-init invariant-loop decreases-loop
-loop-holds c = (omega arith, rw c.no_rule.ensures)
+loop-holds : tie.Need-loop-i-init invariant-loop decreases-loop
+loop-holds c = (omega arith, rw c.no_rule-rule.ensures)
 
-loop-again : tie.Need-loop-preserved invariant-loop decreases-loop
+loop-again : tie.Need-loop-i-preserved invariant-loop decreases-loop
 loop-again c =
-    let l = c.before.before.before in
-    let a = l.before.before.args in (
+    let l = c in
+    let a = l.args in (
       omega arith,
-      rw (l.loop.invariant.1, c.unpacked.ensures) (fill-turn node_in unused a.words.now 128 l.loop.i 0 (omega arith) (omega arith)),
+      rw (l.loop-i.invariant.1, c.unpacked.ensures) (fill-turn node_in unused a.words.now 128 l.loop-i.i 0 (omega arith) (omega arith)),
     )
 
 returns : tie.Need-returns invariant-loop decreases-loop
 returns c =
-    let l = c.before in
-    let a = l.before.before.args in
-    let e : l.loop.i ≡ a.len = omega arith in
-    rule-filled (map node_in (take a.len a.words.now)) _ _ (fill-length node_in unused a.words.now a.len (omega arith)) (rw e at l.loop.invariant.1)
+    let l = c in
+    let a = l.args in
+    let e : l.loop-i.i ≡ a.len = omega arith in
+    rule-filled (map node_in (take a.len a.words.now)) _ _ (fill-length node_in unused a.words.now a.len (omega arith)) (rw e at l.loop-i.invariant.1)
 
-pub unpack-spec : {M : Type 1} → statement M
-unpack-spec =
+pub unpack_spec : {M : Type 1} → statement M
+unpack_spec =
     tie.close
     (tie.spec
     invariant-loop

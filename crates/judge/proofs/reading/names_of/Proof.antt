@@ -6,31 +6,31 @@ use Rattle.judge.specs.Reading.Filled.{filled, fill-turn, fill-length, names-fil
 use Rattle.judge.proofs.reading.names_of.Statement.{statement}
 use Rattle.judge.proofs.reading.names_of.Tie as tie
 
-abbrev invariant-loop : tie.invariant-loop
+abbrev invariant-loop : tie.invariant-loop-i
 invariant-loop words len names₀ i₀ names i = (i ≤ len) × (names.places ≡ filled place_of no_place words 64 i)
 
-abbrev decreases-loop : tie.decreases-loop
+abbrev decreases-loop : tie.decreases-loop-i
 decreases-loop words len names₀ i₀ names i = len - i
 
-loop-holds : tie.Need-loop-init invariant-loop decreases-loop
-loop-holds c = (omega arith, rw c.no_names.ensures)
+loop-holds : tie.Need-loop-i-init invariant-loop decreases-loop
+loop-holds c = (omega arith, rw c.no_names-names.ensures)
 
-loop-again : tie.Need-loop-preserved invariant-loop decreases-loop
+loop-again : tie.Need-loop-i-preserved invariant-loop decreases-loop
 unfolding place_of
 loop-again c =
-    let l = c.before.before.before in
-    (omega arith, rw l.loop.invariant.1 (fill-turn place_of no_place l.before.before.args.words.now 64 l.loop.i 0 (omega arith) (omega arith)))
+    let l = c in
+    (omega arith, rw l.loop-i.invariant.1 (fill-turn place_of no_place l.args.words.now 64 l.loop-i.i 0 (omega arith) (omega arith)))
 
 returns : tie.Need-returns invariant-loop decreases-loop
 returns c =
-    let l = c.before in
-    let a = l.before.before.args in
-    let e : l.loop.i ≡ a.len = omega arith in
+    let l = c in
+    let a = l.args in
+    let e : l.loop-i.i ≡ a.len = omega arith in
     names-filled (map place_of (take a.len a.words.now)) _ _ (fill-length place_of no_place a.words.now a.len (omega arith))
-    (rw e at l.loop.invariant.1)
+    (rw e at l.loop-i.invariant.1)
 
-pub names-of-spec : {M : Type 1} → statement M
-names-of-spec =
+pub names_of_spec : {M : Type 1} → statement M
+names_of_spec =
     tie.close
     (tie.spec
     invariant-loop

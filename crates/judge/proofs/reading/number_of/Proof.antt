@@ -7,58 +7,56 @@ use Rattle.judge.specs.Reading.Search.{number-found, number-next, number-none}
 use Rattle.judge.proofs.reading.number_of.Statement.{statement}
 use Rattle.judge.proofs.reading.number_of.Tie as tie
 
-abbrev invariant-loop : tie.invariant-loop
+abbrev invariant-loop : tie.invariant-loop-i
 invariant-loop text name names n i₀ i =
     (length names.places ≡ 64) ×
     ((n ≡ min names.len 64) × ((i ≤ n) × (number_from (i + 1) (drop i (parts_of text names)) name ≡ number_in (parts_of text names) name)))
 
-abbrev decreases-loop : tie.decreases-loop
+abbrev decreases-loop : tie.decreases-loop-i
 decreases-loop text name names n i₀ i = n - i
 
 -- the start; where the first of two ends is found; and the turn that they are of
-abbrev start : tie.After-lesser invariant-loop decreases-loop → tie.Start invariant-loop decreases-loop
+abbrev start : tie.After-lesser-n invariant-loop decreases-loop → tie.Start invariant-loop decreases-loop
 start c = c.before.before.before
-
-abbrev first : tie.After-same-bytes invariant-loop decreases-loop → tie.After-lesser2 invariant-loop decreases-loop
+abbrev first : tie.After-same_bytes invariant-loop decreases-loop → tie.After-lesser-start invariant-loop decreases-loop
 first c = c.before.before.before.before.before
-
-abbrev turn : tie.After-same-bytes invariant-loop decreases-loop → tie.At-loop invariant-loop decreases-loop
+abbrev turn : tie.After-same_bytes invariant-loop decreases-loop → tie.At-loop-i invariant-loop decreases-loop
 turn c = (first c).before.before.before.before
 
-loop-holds : tie.Need-loop-init invariant-loop decreases-loop
+loop-holds : tie.Need-loop-i-init invariant-loop decreases-loop
 loop-holds c =
-    let l : length (start c).args.t2.places ≡ 64 = search (rules, unmapped) in
-    (l, (c.lesser.ensures, (omega arith, refl)))
+    let l : length (start c).args.names.places ≡ 64 = search (rules, unmapped) in
+    (l, (c.lesser-n.ensures, (omega arith, refl)))
 
-returns : tie.Need-returns invariant-loop decreases-loop
+returns : tie.Need-returns-then-same_bytes invariant-loop decreases-loop
 returns c =
-    let s = c.before in
+    let s = c in
     let l = turn s in
     let a = (start l.before).args in
-    let same = sym s.same_bytes.ensures ∙ c.if1.true in
-    number-found a.text.now a.t2 a.name.now l.loop.inv.0 l.loop.i (omega arith)
-    (rw (← (first s).lesser2.ensures, ← s.before.before.lesser3.ensures) same)
-    ∙ l.loop.inv.1.1.1
+    let same = sym s.same_bytes.ensures ∙ c.if-same_bytes.true in
+    number-found a.text.now a.t2 a.name.now l.loop-i.invariant.0 l.loop-i.i (omega arith)
+    (rw (← (first s.before).lesser-start.ensures, ← s.lesser-end.ensures) same)
+    ∙ l.loop-i.invariant.1.1.1
 
-loop-again : tie.Need-loop-preserved invariant-loop decreases-loop
+loop-again : tie.Need-loop-i-preserved invariant-loop decreases-loop
 loop-again c =
-    let s = c.before in
+    let s = c in
     let l = turn s in
     let a = (start l.before).args in
-    let i = l.loop.inv in
-    let other = sym s.same_bytes.ensures ∙ c.if1.false in
-    let next = number-next a.text.now a.t2 a.name.now i.0 l.loop.i (omega arith)
-    (rw (← (first s).lesser2.ensures, ← s.before.before.lesser3.ensures) other) in
+    let i = l.loop-i.invariant in
+    let other = sym s.same_bytes.ensures ∙ c.if-same_bytes.false in
+    let next = number-next a.text.now a.t2 a.name.now i.0 l.loop-i.i (omega arith)
+    (rw (← (first s.before).lesser-start.ensures, ← s.lesser-end.ensures) other) in
     (i.0, (i.1.0, (omega arith, next ∙ i.1.1.1)))
 
-returns-2 : tie.Need-returns-2 invariant-loop decreases-loop
+returns-2 : tie.Need-returns invariant-loop decreases-loop
 returns-2 c =
-    let l = c.before in
-    let a = (start l.before).args in
-    number-none a.text.now a.t2 a.name.now l.loop.invariant.0 l.loop.i (omega arith) ∙ l.loop.invariant.1.1.1
+    let l = c in
+    let a = (start l.before.before).args in
+    number-none a.text.now a.t2 a.name.now l.loop-i.invariant.0 l.loop-i.i (omega arith) ∙ l.loop-i.invariant.1.1.1
 
-pub number-of-spec : {M : Type 1} → statement M
-number-of-spec =
+pub number_of_spec : {M : Type 1} → statement M
+number_of_spec =
     tie.close
     (tie.spec
     invariant-loop

@@ -4,32 +4,32 @@ use Rattle.judge.specs.Reading.Whole.{Whole, whole-past, refused-is, reading-is}
 use Rattle.judge.proofs.reading.read_model.Statement.{statement}
 use Rattle.judge.proofs.reading.read_model.Tie as tie
 
-abbrev start : tie.After-read-whole → tie.Start
+abbrev start : tie.After-read_whole → tie.Start
 start c = c.before.before.before.before.before
 
 -- the whole text was read
-whole : (c : tie.After-past)
+whole : (c : tie.In-Past)
     → let r = c.before.before in
-    Whole (start r).args.text.now r.read_whole.new.1.0 (r.read_whole.new.1.1.0, r.read_whole.new.1.1.1.0) c.past.given.0.0
-whole c = whole-past c.before.before.read_whole.ensures c.past.given.1
+    Whole (start r).args.text.now r.read_whole.new.1.0 (r.read_whole.new.1.1.0, r.read_whole.new.1.1.1.0) c.in-Past.past-1
+whole c = whole-past c.read_whole.ensures c.in-Past.is
 
 unpack-requires : tie.Need-unpack-requires
 unpack-requires c κs = let w = whole c.before.before in (w.nodes.few, omega (arith, w.nodes.whole))
 
-names-of-requires : tie.Need-names-of-requires
+names-of-requires : tie.Need-names_of-requires
 names-of-requires c κs = let w = whole c.before.before.before.before in (w.tabled.few, w.named.held.whole)
 
-returns : tie.Need-returns
-returns c = let r = c.before.before in reading-is (whole r.before.before.before) r.unpack.ensures c.names_of.ensures
+returns : tie.Need-returns-in-Past
+returns c = let r = c in reading-is (whole r.before.before.before.before) r.unpack.ensures c.names_of.ensures
 
-returns-2 : tie.Need-returns-2
+returns-2 : tie.Need-returns-in-Fault
 returns-2 c =
-    let f = c.before.before in
-    let r = f.before.before in
-    c.refused.ensures ∙ refused-is (start r).args.text.now (rw f.f.given.1 at r.read_whole.ensures)
+    let f = c in
+    let r = f in
+    c.refused.ensures ∙ refused-is (start r.before.before.before.before).args.text.now (rw f.in-Fault.is at r.read_whole.ensures)
 
-pub read-model-spec : {M : Type 1} → statement M
-read-model-spec =
+pub read_model_spec : {M : Type 1} → statement M
+read_model_spec =
     tie.close
     (tie.spec
     (λ c κs. search rules)

@@ -4,18 +4,18 @@ use Rattle.std.proofs.Common.{rules}
 use Rattle.judge.proofs.reply.is_child.Statement.{statement}
 use Rattle.judge.proofs.reply.is_child.Tie as tie
 
-returns : tie.Need-returns
-returns c = let s = c.before in child-long s.args.children.now s.args.at s.requires.0 s.requires.1.end_is c.if1.true
+returns : tie.Need-returns-then-end-at-gt-MAX_NAME
+returns c = let s = c in child-long s.args.children.now s.args.at s.requires.0 s.requires.1.end_is c.if-end-at-gt-MAX_NAME.true
 
-returns-2 : tie.Need-returns-2
+returns-2 : tie.Need-returns-then-end-children
 returns-2 c =
-    let s = c.before.before in
-    child-last s.args.children.now s.args.at s.requires.0 s.requires.1.end_is c.before.if1.false c.if2.true
+    let s = c in
+    child-last s.args.children.now s.args.at s.requires.0 s.requires.1.end_is c.if-end-at-gt-MAX_NAME.false c.if-end-children.true
 
-returns-3 : tie.Need-returns-3
+returns-3 : tie.Need-returns
 returns-3 c =
-    let s = c.before.before.before in
-    child-parted s.args.children.now s.args.at s.requires.0 s.requires.1.end_is c.before.before.if1.false c.before.if2.false
+    let s = c in
+    child-parted s.args.children.now s.args.at s.requires.0 s.requires.1.end_is c.if-end-at-gt-MAX_NAME.false c.if-end-children.false
 
-pub is-child-spec : {M : Type 1} → statement M
-is-child-spec = tie.close (tie.spec (λ c. search rules) returns returns-2 (λ c. search rules) returns-3)
+pub is_child_spec : {M : Type 1} → statement M
+is_child_spec = tie.close (tie.spec (λ c. search rules) returns returns-2 (λ c. search rules) returns-3)

@@ -6,39 +6,37 @@ use Rattle.judge.proofs.reply.judge_children.Statement.{statement}
 use Rattle.judge.proofs.reply.judge_children.Tie as tie
 
 -- places: where the texts were read, and where both were
-abbrev read : tie.After-known-told → tie.After-read-children
+abbrev read : tie.In-Both → tie.After-read_children
 read c = c.before.before.before
-
-abbrev known : tie.After-words2 → tie.After-known-told
+abbrev known : tie.After-words-in-Both-1 → tie.In-Both
 known c = c.before
-
-read-children-requires : tie.Need-read-children-requires
+read-children-requires : tie.Need-read_children-requires
 read-children-requires c κs = (refl, refl)
 
-verdict-by-requires : tie.Need-verdict-by-requires
+verdict-by-requires : tie.Need-verdict_by-requires
 verdict-by-requires c κs =
     let t = known c in
-    let b = read-both (read t).read-children.ensures t.before.read.given.1 in
+    let b = read-both (read t).read_children.ensures t.in-Both.is in
     (b.nodes, b.names)
 
-returns : tie.Need-returns
+returns : tie.Need-returns-in-Both
 returns c =
     let t = known c.before in
-    row-judged (read-both (read t).read-children.ensures t.before.read.given.1) c.verdict-by.ensures
+    row-judged (read-both (read t).read_children.ensures t.in-Both.is) c.verdict_by.ensures
 
-returns-2 : tie.Need-returns-2
-returns-2 c = fault-judged (read-fault c.before.before.read-children.ensures c.enum_told.given.1)
+returns-2 : tie.Need-returns-in-Faulty
+returns-2 c = fault-judged (read-fault c.read_children.ensures c.in-Faulty.is)
 
-returns-3 : tie.Need-returns-3
+returns-3 : tie.Need-returns-in-ModelRefused
 unfolding children_reply
-returns-3 c = sym (ap judged_of (reply-model c.before.before.before.read-children.ensures _ c.before.f.given.1))
+returns-3 c = sym (ap judged_of (reply-model c.read_children.ensures _ c.in-ModelRefused.is))
 
-returns-4 : tie.Need-returns-4
+returns-4 : tie.Need-returns-in-ChildrenRefused
 unfolding children_reply
-returns-4 c = sym (ap judged_of (reply-children c.before.before.before.read-children.ensures _ c.before.f2.given.1))
+returns-4 c = sym (ap judged_of (reply-children c.read_children.ensures _ c.in-ChildrenRefused.is))
 
-pub judge-children-spec : {M : Type 1} → statement M
-judge-children-spec =
+pub judge_children_spec : {M : Type 1} → statement M
+judge_children_spec =
     tie.close
     (tie.spec
     read-children-requires

@@ -8,79 +8,75 @@ use Rattle.judge.proofs.reply.read_children.Statement.{statement}
 use Rattle.judge.proofs.reply.read_children.Tie as tie
 
 -- places: the start, where the model text was read, where there are children, and where they were read
-abbrev start : tie.After-read-whole → tie.Start
+abbrev start : tie.After-read_whole → tie.Start
 start c = c.before.before.before.before.before.before
-
-abbrev read : tie.After-known-told → tie.After-read-whole
+abbrev read : tie.In-Past → tie.After-read_whole
 read c = c.before.before.before
-
-abbrev some : tie.After-tally-children → tie.Else2
+abbrev some : tie.After-tally_children → tie.Else-children-eq0
 some c = c.before.before.before.before
-
-abbrev counted : tie.After-known-told2 → tie.After-tally-children
+abbrev counted : tie.In-Whole → tie.After-tally_children
 counted c = c.before.before.before
-
-whole : (c : tie.After-known-told)
+whole : (c : tie.In-Past)
     → let last = (read c).read_whole.new in
-    Whole (start (read c)).args.model.now last.1.0 (last.1.1.0, last.1.1.1.0) c.before.past.given.0.0
-whole c = whole-past (read c).read_whole.ensures c.before.past.given.1
+    Whole (start (read c)).args.model.now last.1.0 (last.1.1.0, last.1.1.1.0) c.in-Past.past-1
+whole c = whole-past (read c).read_whole.ensures c.in-Past.is
 
 -- the arrays are fresh
-read-whole-requires : tie.Need-read-whole-requires
-read-whole-requires c κs = let n = c.before.before in (n.before.before.before.requires, refl, refl)
+read-whole-requires : tie.Need-read_whole-requires
+read-whole-requires c κs = let n = c in (n.requires, refl, refl)
 
 -- before the children the upper counts are known
-limited : (c : tie.After-known-told)
-    → let words = (read c).read_whole.new.1.0 in Seeing (upper_counts (map node_in (take c.before.past.given.0.0.nodes words))) [] (seen_in words)
+limited : (c : tie.In-Past)
+    → let words = (read c).read_whole.new.1.0 in Seeing (upper_counts (map node_in (take c.in-Past.past-1.nodes words))) [] (seen_in words)
 limited c = whole-limited (whole c)
 
-returns : tie.Need-returns
-returns c = long-refused (whole c.before) _ _ _ c.if1.true
+returns : tie.Need-returns-then-children-gt-MAX_FILE
+returns c = long-refused (whole c.before) _ _ _ c.if-children-gt-MAX_FILE.true
 
-returns-2 : tie.Need-returns-2
+returns-2 : tie.Need-returns-then-children-eq0
 returns-2 c =
-    let e = c.before in
-    let k = e.before in
-    let children = (start (read k)).args.children.now in
-    texts-read (whole k) children e.if1.false _ (refl, refl) (walk_none children _ c.if2.true (limited k)) refl
+    let e = c in
+    let k = e in
+    let children = (start (read k.before.before)).args.children.now in
+    texts-read (whole k.before.before) children e.if-children-gt-MAX_FILE.false _ (refl, refl) (walk_none children _ c.if-children-eq0.true (limited k.before.before)) refl
 
-tally-children-requires : tie.Need-tally-children-requires
+tally-children-requires : tie.Need-tally_children-requires
 tally-children-requires c κs =
-    let s = c.before.before.before in
+    let s = c in
     let w = whole s.before.before in
-    ((w.tabled, whole_apart w), (omega (arith, s.if2.false), s.before.if1.false))
+    ((w.tabled, whole_apart w), (omega (arith, s.if-children-eq0.false), s.if-children-gt-MAX_FILE.false))
 
-cast-t26 : tie.Need-overflow-cast-t26
-cast-t26 c = let t = counted c in omega (arith, children-fit (t.tally-children.ensures.0 _ (limited (some t).before.before)) c.before.n.given.1)
+cast-t26 : tie.Need-overflow_cast-result
+cast-t26 c = let t = counted c in omega (arith, children-fit (t.tally_children.ensures.0 _ (limited (some t).before.before)) c.in-Whole.is)
 
-returns-3 : tie.Need-returns-3
+returns-3 : tie.Need-returns-in-Whole
 returns-3 c =
     let t = counted c in
     let e = (some t).before in
-    texts-read (whole e.before) _ e.if1.left _ t.tally-children.ensures.1
-    (t.tally-children.ensures.0 _ (limited e.before)) c.before.n.given.1
+    texts-read (whole e.before) _ e.if-children-gt-MAX_FILE.left _ t.tally_children.ensures.1
+    (t.tally_children.ensures.0 _ (limited e.before)) c.in-Whole.is
 
-returns-4 : tie.Need-returns-4
+returns-4 : tie.Need-returns-in-Faulty
 returns-4 c =
-    let t = c.before.before.before in
-    let e = (some t).before in
-    stopped-read (whole e.before) _ e.if1.left _ t.tally-children.ensures.1
-    (t.tally-children.ensures.0 _ (limited e.before)) c.before.p.given.1
+    let t = c in
+    let e = (some t.before.before.before).before in
+    stopped-read (whole e.before) _ e.if-children-gt-MAX_FILE.left _ t.tally_children.ensures.1
+    (t.tally_children.ensures.0 _ (limited e.before)) c.in-Faulty.is
 
-returns-5 : tie.Need-returns-5
+returns-5 : tie.Need-returns-in-Refused
 returns-5 c =
-    let t = c.before.before.before in
-    let e = (some t).before in
-    bad-refused (whole e.before) _ e.if1.left _ t.tally-children.ensures.1
-    (t.tally-children.ensures.0 _ (limited e.before)) c.before.f.given.1
+    let t = c in
+    let e = (some t.before.before.before).before in
+    bad-refused (whole e.before) _ e.if-children-gt-MAX_FILE.left _ t.tally_children.ensures.1
+    (t.tally_children.ensures.0 _ (limited e.before)) c.in-Refused.is
 
-returns-6 : tie.Need-returns-6
+returns-6 : tie.Need-returns-in-Fault
 returns-6 c =
-    let r = c.before.before.before.read_whole in
-    refused_model (whole-fault r.new.1.0 (r.new.1.1.0, r.new.1.1.1.0) r.ensures c.before.f2.given.1)
+    let r = c.read_whole in
+    refused_model (whole-fault r.new.1.0 (r.new.1.1.0, r.new.1.1.1.0) r.ensures c.in-Fault.is)
 
-pub read-children-spec : {M : Type 1} → statement M
-read-children-spec =
+pub read_children_spec : {M : Type 1} → statement M
+read_children_spec =
     tie.close
     (tie.spec
     read-whole-requires

@@ -8,41 +8,40 @@ use Rattle.judge.proofs.reply.stopped.Statement.{statement}
 use Rattle.judge.proofs.reply.stopped.Tie as tie
 
 -- where the children behind were counted, and where they begin
-abbrev start : tie.After-count-children → tie.Start
+abbrev start : tie.After-count_children → tie.Start
 start c = c.before.before.before.before
-
-abbrev rest : tie.After-count-children → List Text
+abbrev rest : tie.After-count_children → List Text
 rest c = let t = (start c).args.children.now in split tab (part t ((start c).args.end + 1) (length t))
 
-behind : (c : tie.After-count-children) → children_from (start c).args.children.now ((start c).args.end + 1) ≡ rest c
-behind c = rest_some (start c).args.children.now (start c).args.end (omega (arith, c.before.before.if1.false, (start c).requires.0))
+behind : (c : tie.After-count_children) → children_from (start c).args.children.now ((start c).args.end + 1) ≡ rest c
+behind c = rest_some (start c).args.children.now (start c).args.end (omega (arith, c.if-end-children.false, (start c).requires.0))
 
-returns : tie.Need-returns
+returns : tie.Need-returns-then-end-children
 returns c =
-    let s = c.before.before.before in
-    c.faulty.ensures ∙ rw (rest-none s.args.children.now s.args.end (omega (arith, c.before.if1.true)))
+    let s = c in
+    c.faulty.ensures ∙ rw (rest-none s.args.children.now s.args.end (omega (arith, c.if-end-children.true)))
 
-faulty-requires-2 : tie.Need-faulty-requires-2
+faulty-requires-2 : tie.Need-faulty-requires-in-Count
 faulty-requires-2 c κs =
-    let n = c.before in
-    let k = n.before.before in
-    let m = counted (rest k) n.n.given.0.0 (sym k.count-children.ensures ∙ n.n.given.1) in
-    ((start k).requires.2, omega (arith, m))
+    let n = c in
+    let k = n in
+    let m = counted (rest k.before.before.before) n.in-Count.n-1 (sym k.count_children.ensures ∙ n.in-Count.is) in
+    ((start k.before.before.before).requires.2, omega (arith, m))
 
-returns-2 : tie.Need-returns-2
+returns-2 : tie.Need-returns-in-Count
 returns-2 c =
-    let n = c.before.before in
-    let k = n.before.before in
-    c.faulty2.ensures ∙ rw (behind k) (rest-counted (rest k) (start k).args.place (sym k.count-children.ensures ∙ n.n.given.1))
+    let n = c in
+    let k = n in
+    c.faulty-in-Count.ensures ∙ rw (behind k.before.before.before.before) (rest-counted (rest k.before.before.before.before) (start k.before.before.before.before).args.place (sym k.count_children.ensures ∙ n.in-Count.is))
 
-returns-3 : tie.Need-returns-3
+returns-3 : tie.Need-returns-in-Refused
 returns-3 c =
-    let f = c.before in
-    let k = f.before.before in
-    rw (behind k) (rest-refused (rest k) (start k).args.place (sym k.count-children.ensures ∙ f.f.given.1))
+    let f = c in
+    let k = f in
+    rw (behind k.before.before.before) (rest-refused (rest k.before.before.before) (start k.before.before.before).args.place (sym k.count_children.ensures ∙ f.in-Refused.is))
 
-pub stopped-spec : {M : Type 1} → statement M
-stopped-spec =
+pub stopped_spec : {M : Type 1} → statement M
+stopped_spec =
     tie.close
     (tie.spec
     (λ c κs. search rules)

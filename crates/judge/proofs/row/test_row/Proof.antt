@@ -7,34 +7,33 @@ use Rattle.judge.proofs.row.test_row.Statement.{statement}
 use Rattle.judge.proofs.row.test_row.Tie as tie
 
 -- where 41 was tried
-abbrev short : tie.After-all-named → tie.Then2
+abbrev short : tie.After-all_named-named → tie.Then-row-le-MAX_ROW
 short c = c.before.before
+good : (c : tie.Then-good) → readable c.args.rule ≡ true
+good c = sym c.is_readable-good.ensures ∙ c.if-good.true
 
-good : (c : tie.Then1) → readable c.before.before.before.args.rule ≡ true
-good c = sym c.before.is-readable.ensures ∙ c.if1.true
-
-returns : tie.Need-returns
+returns : tie.Need-returns-then-named
 unfolding row_tested
 returns c =
-    let m = c.before in
-    rw (good (short m).before, le-leb _ _ (short m).if2.true, ← m.before.names.ensures, ← m.all_named.ensures, c.if3.true)
+    let m = c in
+    rw (good (short m.before).before, le-leb _ _ (short m.before).if-row-le-MAX_ROW.true, ← m.names-names.ensures, ← m.all_named-named.ensures, c.if-named.true)
 
-returns-2 : tie.Need-returns-2
+returns-2 : tie.Need-returns-then-row-le-MAX_ROW
 unfolding row_tested
 returns-2 c =
-    let m = c.before in
-    rw (good (short m).before, le-leb _ _ (short m).if2.true, ← m.before.names.ensures, ← m.all_named.ensures, c.if3.false)
+    let m = c in
+    rw (good (short m.before).before, le-leb _ _ (short m.before).if-row-le-MAX_ROW.true, ← m.names-names.ensures, ← m.all_named-named.ensures, c.if-named.false)
 
-returns-3 : tie.Need-returns-3
+returns-3 : tie.Need-returns-then-good
 unfolding row_tested
-returns-3 c = rw (good c.before, lt-leb _ _ c.if2.false)
+returns-3 c = rw (good c.before, lt-leb _ _ c.if-row-le-MAX_ROW.false)
 
-returns-4 : tie.Need-returns-4
+returns-4 : tie.Need-returns
 unfolding row_tested
-returns-4 c = rw (← c.before.is-readable.ensures, c.if1.false)
+returns-4 c = rw (← c.is_readable-good.ensures, c.if-good.false)
 
-pub test-row-spec : {M : Type 1} → statement M
-test-row-spec =
+pub test_row_spec : {M : Type 1} → statement M
+test_row_spec =
     tie.close
     (tie.spec
     (λ c κs. search rules)

@@ -7,41 +7,39 @@ use Rattle.judge.proofs.table.look_up.Statement.{statement}
 use Rattle.judge.proofs.table.look_up.Tie as tie
 
 -- places: the start, and where the latest name is tried
-abbrev start : tie.After-slot-of → tie.Start
+abbrev start : tie.After-slot_of-slot → tie.Start
 start c = c.before.before.before
+abbrev tried : tie.Then-told_by_key → tie.After-slot_of-slot
+tried c = c.before.before.before.before
+begun : (c : tie.After-slot_of-slot)
+    → let a = (start c).args in Entered (parts_in a.text.now a.names.now a.n) a.name.now (get_or a.heads.now c.slot_of-slot.result 0)
+begun c = let s = start c in slot-starts s.requires.0 (s.requires.1, c.slot_of-slot.ensures.0, c.slot_of-slot.ensures.1)
 
-abbrev tried : tie.Then1 → tie.After-slot-of
-tried c = c.before.before.before
-
-begun : (c : tie.After-slot-of)
-    → let a = (start c).args in Entered (parts_in a.text.now a.names.now a.n) a.name.now (get_or a.heads.now c.slot_of.result 0)
-begun c = let s = start c in slot-starts s.pre.0 (s.pre.1, c.slot_of.ensures.0, c.slot_of.ensures.1)
-
-few : (c : tie.After-slot-of) → get_or (start c).args.heads.now c.slot_of.result 0 ≤ max_atoms
+few : (c : tie.After-slot_of-slot) → get_or (start c).args.heads.now c.slot_of-slot.result 0 ≤ max_atoms
 few c = walk-fits (start c).requires.0 (begun c)
 
-returns : tie.Need-returns
+returns : tie.Need-returns-then-told_by_key
 returns c =
     let t = tried c in
-    let k = t.before in
+    let k = t in
     let s = start t in (
-      told-ends s.pre.0 (begun t) (c.before.told-by-key.ensures c.if1.true) s.pre.1
-          (λ i. omega (arith, k.before.shared-slice-known.given i)) (λ i. omega (arith, k.shared-slice-known2.given i)),
+      told-ends s.requires.0 (begun t) (c.told_by_key.ensures c.if-told_by_key.true) s.requires.1
+          (λ i. omega (arith, k.shared_slice_known-1.given i)) (λ i. omega (arith, k.shared_slice_known-2-1.given i)),
       few t,
     )
 
 find-requires : tie.Need-find-requires
 find-requires c κs =
-    let t = c.before.before.before in
+    let t = c in
     let s = start t in
-    (s.pre.0, (s.pre.1, t.slot_of.ensures.0, t.slot_of.ensures.1))
+    (s.requires.0, (s.requires.1, t.slot_of-slot.ensures.0, t.slot_of-slot.ensures.1))
 
-pub look-up-spec : {M : Type 1} → statement M
-look-up-spec =
+pub look_up_spec : {M : Type 1} → statement M
+look_up_spec =
     tie.close
     (tie.spec
     (λ c κs. search rules)
-    (λ c. c.slot_of.ensures.1)
+    (λ c. c.slot_of-slot.ensures.1)
     (λ c. omega (arith, few c.before))
     (λ c κs. few c.before)
     (λ c. omega (arith, few (tried c)))

@@ -8,44 +8,44 @@ use Rattle.judge.proofs.table.told_by_key.Statement.{statement}
 use Rattle.judge.proofs.table.told_by_key.Tie as tie
 
 -- there is such a name, and the one looked for is short
-bounds : (c : tie.Else1) → (c.before.args.k ≡ 0 → ⊥) × (c.before.args.len ≤ 8)
+bounds : (c : tie.Else-k-len) → (c.args.k ≡ 0 → ⊥) × (c.args.len ≤ 8)
 bounds c =
-    let (z, s) = neither (eqb c.before.args.k 0) (ltb 8 c.before.args.len) c.if1.false in
+    let (z, s) = neither (eqb c.args.k 0) (ltb 8 c.args.len) c.if-k-len.false in
     (eqb-false _ _ z, ltb-false _ _ s)
 
-returns : tie.Need-returns
+returns : tie.Need-returns-then-k-len
 returns c e = absurd (false≢true e)
 
-sub-result : tie.Need-overflow-sub-result
+sub-result : tie.Need-overflow_sub-result
 sub-result c = omega (arith, (bounds c).0)
 
-add-result : tie.Need-overflow-add-result
+add-result : tie.Need-overflow_add-result
 add-result c = search rules
 
-mul-result : tie.Need-overflow-mul-result
+mul-result : tie.Need-offset_bounds-names-k
 mul-result c = search rules
 
-element-copy-out-result : tie.Need-element-copy-out-result
+element-copy-out-result : tie.Need-bounds-names-k
 element-copy-out-result c = search rules
 
-sub-result-2 : tie.Need-overflow-sub-result-2
-sub-result-2 c = omega (arith, (bounds c.before).0)
+sub-result-2 : tie.Need-overflow_sub-result-2
+sub-result-2 c = omega (arith, (bounds c.before.before).0)
 
-mul-result-2 : tie.Need-overflow-mul-result-2
+mul-result-2 : tie.Need-offset_bounds-names-k-2
 mul-result-2 c = search rules
 
-element-copy-out-result-2 : tie.Need-element-copy-out-result-2
+element-copy-out-result-2 : tie.Need-bounds-names-k-2
 element-copy-out-result-2 c = search rules
 
-returns-2 : tie.Need-returns-2
+returns-2 : tie.Need-returns
 returns-2 c e =
-    let a = c.before.before.before.args in
+    let a = c.args in
     let (key, len) = (and-eq-true_iff (eqb (get_or a.names.now (a.k - 1 + max_atoms) 0) a.key) _).0 e in
     let (some, short) = bounds c.before.before in
     record { some = some; short = short; key_is = eqb-true _ _ key; len_is = eqb-true _ _ len }
 
-pub told-by-key-spec : {M : Type 1} → statement M
-told-by-key-spec =
+pub told_by_key_spec : {M : Type 1} → statement M
+told_by_key_spec =
     tie.close
     (tie.spec
     returns

@@ -3,11 +3,11 @@ use Rattle.std.proofs.Common.{rules}
 use Rattle.judge.proofs.tally.limited.Statement.{statement}
 use Rattle.judge.proofs.tally.limited.Tie as tie
 
-returns : tie.Need-returns
-returns c = rw (c.before.before.kind.given.1, c.limit-word.ensures)
+returns : tie.Need-returns-in-Atom
+returns c = rw (c.in-Atom.is, c.limit_word.ensures)
 
-pub limited-spec : {M : Type 1} → statement M
-limited-spec =
+pub limited_spec : {M : Type 1} → statement M
+limited_spec =
     tie.close
     (tie.spec
     (λ c. search rules)

@@ -9,113 +9,110 @@ use Rattle.judge.specs.Row.Tally.Laws.{row_told, row-starts, row-stops, row_goes
 use Rattle.judge.proofs.tally.search_row.Statement.{statement}
 use Rattle.judge.proofs.tally.search_row.Tie as tie
 
-abbrev invariant-loop : tie.invariant-loop
+abbrev invariant-loop : tie.invariant-loop-i
 invariant-loop row words₀ i₀ words i =
     (i ≤ length row) × SameNodes words₀ words × ((us : List Upper) → Seeing us [] (seen_in words₀) → RowPassed us row i (seen_in words))
 
-abbrev decreases-loop : tie.decreases-loop
+abbrev decreases-loop : tie.decreases-loop-i
 decreases-loop row words₀ i₀ words i = length row - i
 
 -- the start, and the loop's head
-abbrev entry : tie.At-loop invariant-loop decreases-loop → tie.Start invariant-loop decreases-loop
+abbrev entry : tie.At-loop-i invariant-loop decreases-loop → tie.Start invariant-loop decreases-loop
 entry c = c.before.before
-
-abbrev turn : tie.In-loop invariant-loop decreases-loop → tie.At-loop invariant-loop decreases-loop
+abbrev turn : tie.In-loop-i invariant-loop decreases-loop → tie.At-loop-i invariant-loop decreases-loop
 turn c = c.before
-
-abbrev tested : tie.After-is-full invariant-loop decreases-loop → tie.In-loop invariant-loop decreases-loop
-tested c = c.before.before.before
-
-abbrev kept : tie.After-noted invariant-loop decreases-loop → tie.Else1 invariant-loop decreases-loop
+abbrev tested : tie.After-is_full invariant-loop decreases-loop → tie.In-loop-i invariant-loop decreases-loop
+tested c = c.before.before.before.before
+abbrev kept : tie.After-noted invariant-loop decreases-loop → tie.Else-is_full invariant-loop decreases-loop
 kept c = c.before
 
 -- the child's name
-abbrev name : tie.In-loop invariant-loop decreases-loop → ℕ
-name c = get_or (entry (turn c)).args.row.now (turn c).loop.i 0
+abbrev name : tie.In-loop-i invariant-loop decreases-loop → ℕ
+name c = get_or (entry (turn c)).args.row.now (turn c).loop-i.i 0
 
-number : (c : tie.In-loop invariant-loop decreases-loop) → name c ≤ 64
-number c = let s = entry (turn c) in upto-at 64 s.args.row.now s.pre.1 (turn c).loop.i c.loop-test.true
+number : (c : tie.In-loop-i invariant-loop decreases-loop) → name c ≤ 64
+number c = let s = entry (turn c) in upto-at 64 s.args.row.now s.requires.1 (turn c).loop-i.i c.loop-i-test.true
 
-short : (c : tie.In-loop invariant-loop decreases-loop) → (turn c).loop.i ≤ 4096
-short c = omega (arith, c.loop-test.true, (entry (turn c)).pre.0)
+short : (c : tie.In-loop-i invariant-loop decreases-loop) → (turn c).loop-i.i ≤ 4096
+short c = omega (arith, c.loop-i-test.true, (entry (turn c)).requires.0)
 
-free : (c : tie.Else1 invariant-loop decreases-loop) → let i = tested c.before in one_left ≤ get_or (turn i).loop.words (128 + name i) 0
-free c = ltb-false _ _ (sym c.before.is-full.ensures ∙ c.if1.false)
+free : (c : tie.Else-is_full invariant-loop decreases-loop) → let i = tested c.before in one_left ≤ get_or (turn i).loop-i.words (128 + name i) 0
+free c = ltb-false _ _ (sym c.is_full.ensures ∙ c.if-is_full.false)
 
-loop-holds : tie.Need-loop-init invariant-loop decreases-loop
+loop-holds : tie.Need-loop-i-init invariant-loop decreases-loop
 loop-holds c = (search rules, (refl, refl), λ us t. row-starts _ t)
 
-mul-name : tie.Need-overflow-mul-name invariant-loop decreases-loop
+mul-name : tie.Need-offset_bounds-row-i invariant-loop decreases-loop
 mul-name c = search rules
 
-shared-slice-read-name : tie.Need-shared-slice-read-name invariant-loop decreases-loop
+shared-slice-read-name : tie.Need-bounds-row-i invariant-loop decreases-loop
 shared-slice-read-name c = search rules
 
-cast-name : tie.Need-overflow-cast-name invariant-loop decreases-loop
-cast-name c = omega (arith, c.shared-slice-known2.given c.before.before.loop.i)
+cast-name : tie.Need-overflow_cast-name invariant-loop decreases-loop
+cast-name c = omega (arith, c.shared_slice_known-in-loop-i-1.given c.loop-i.i)
 
-add-word : tie.Need-overflow-add-word invariant-loop decreases-loop
+add-word : tie.Need-overflow_add-word invariant-loop decreases-loop
 add-word c = let n = number c.before in search rules
 
-mul-word : tie.Need-overflow-mul-word invariant-loop decreases-loop
+mul-word : tie.Need-offset_bounds-words-name invariant-loop decreases-loop
 mul-word c = let n = number c.before in search rules
 
-element-copy-out-word : tie.Need-element-copy-out-word invariant-loop decreases-loop
-element-copy-out-word c = let n = number c.before in search rules
+element-copy-out-word : tie.Need-bounds-words-name invariant-loop decreases-loop
+element-copy-out-word c = let n = number c.before.before in search rules
 
-is-full-requires : tie.Need-is-full-requires invariant-loop decreases-loop
+is-full-requires : tie.Need-is_full-requires invariant-loop decreases-loop
 is-full-requires c κs = search rules
 
-returns : tie.Need-returns invariant-loop decreases-loop
+returns : tie.Need-returns-then-is_full invariant-loop decreases-loop
 returns c =
     let i = tested c.before in
     let l = turn i in (
       λ us t. row_told
-          (row-stops (l.loop.inv.2 us t) i.loop-test.taken (omega (arith, short i)) refl (number i)
-          (rw (seen_at l.loop.words (name i)) (ltb-true _ _ (sym c.before.is-full.ensures ∙ c.if1.true)))),
-      l.loop.inv.1,
+          (row-stops (l.loop-i.invariant.2 us t) i.loop-i-test.true (omega (arith, short i)) refl (number i)
+          (rw (seen_at l.loop-i.words (name i)) (ltb-true _ _ (sym c.is_full.ensures ∙ c.if-is_full.true)))),
+      l.loop-i.invariant.1,
     )
 
-cast-noted : tie.Need-overflow-cast-noted invariant-loop decreases-loop
+cast-noted : tie.Need-overflow_cast-i invariant-loop decreases-loop
 cast-noted c = search rules
 
 noted-requires : tie.Need-noted-requires invariant-loop decreases-loop
 noted-requires c κs = free c
 
-add_words : tie.Need-overflow-add-words invariant-loop decreases-loop
+add_words : tie.Need-overflow_add-words invariant-loop decreases-loop
 add_words c = let n = number (tested (kept c).before) in search rules
 
-mul_words : tie.Need-overflow-mul-words invariant-loop decreases-loop
+mul_words : tie.Need-offset_bounds-words-name-in-loop-i invariant-loop decreases-loop
 mul_words c = let n = number (tested (kept c).before) in search rules
 
-element-write-words : tie.Need-element-write-words invariant-loop decreases-loop
+element-write-words : tie.Need-bounds-words-name-in-loop-i invariant-loop decreases-loop
 element-write-words c = let n = number (tested (kept c).before) in search rules
 
-add-i : tie.Need-overflow-add-i invariant-loop decreases-loop
+add-i : tie.Need-overflow_add-i invariant-loop decreases-loop
 add-i c = search rules
 
-loop-less : tie.Need-loop-smaller invariant-loop decreases-loop
+loop-less : tie.Need-loop-i-smaller invariant-loop decreases-loop
 loop-less c = search rules
 
-loop-again : tie.Need-loop-preserved invariant-loop decreases-loop
+loop-again : tie.Need-loop-i-preserved invariant-loop decreases-loop
 loop-again c =
     let k = kept c in
     let i = tested k.before in
     let l = turn i in
-    let e = seen_at l.loop.words (name i) in (
-      omega (arith, i.loop-test.taken),
-      same_set (entry l).args.words.now l.loop.words l.loop.inv.1 (name i) c.noted.result,
-      λ us t. rw (seen-set l.loop.words (name i) c.noted.result)
-          (row_goes (l.loop.inv.2 us t) i.loop-test.taken (omega (arith, short i)) refl (number i) (rw e (free k)) (rw e c.noted.ensures)),
+    let e = seen_at l.loop-i.words (name i) in (
+      omega (arith, i.loop-i-test.true),
+      same_set (entry l).args.words.now l.loop-i.words l.loop-i.invariant.1 (name i) c.noted.result,
+      λ us t. rw (seen-set l.loop-i.words (name i) c.noted.result)
+          (row_goes (l.loop-i.invariant.2 us t) i.loop-i-test.true (omega (arith, short i)) refl (number i) (rw e (free k)) (rw e c.noted.ensures)),
     )
 
-returns-2 : tie.Need-returns-2 invariant-loop decreases-loop
+returns-2 : tie.Need-returns invariant-loop decreases-loop
 returns-2 c =
-    let l = c.before in
-    (λ us t. row_ends (l.loop.invariant.2 us t) c.loop-test.false (omega (arith, (entry l).requires.0)), l.loop.invariant.1)
+    let l = c in
+    (λ us t. row_ends (l.loop-i.invariant.2 us t) c.loop-i-test.false (omega (arith, (entry l.before).requires.0)), l.loop-i.invariant.1)
 
-pub search-row-spec : {M : Type 1} → statement M
-search-row-spec =
+pub search_row_spec : {M : Type 1} → statement M
+search_row_spec =
     tie.close
     (tie.spec
     invariant-loop
