@@ -5,13 +5,11 @@ use Rattle.judge.specs.Row.Attribute.{done_bit, alive_bit, unpack-attribute}
 use Rattle.judge.proofs.attribute.attribute_word.Statement.{statement}
 use Rattle.judge.proofs.attribute.attribute_word.Tie as tie
 
-abbrev start : tie.After-struct_known-2-1 → tie.Start
-start c = c.before.before.before.before
 done-under : (c : tie.After-struct_known-2-1) → c.only_if-done.result ≤ done_bit
-done-under c = rw c.only_if-done.ensures (bit-under (start c).args.x.done done_bit)
+done-under c = rw c.only_if-done.ensures (bit-under c.args.x.done done_bit)
 
 alive-under : (c : tie.After-struct_known-2-1) → c.only_if-alive.result ≤ alive_bit
-alive-under c = rw c.only_if-alive.ensures (bit-under (start c).args.x.alive alive_bit)
+alive-under c = rw c.only_if-alive.ensures (bit-under c.args.x.alive alive_bit)
 
 add-result-2 : tie.Need-overflow_add-result-2
 add-result-2 c = search (rules, done-under c)
@@ -22,7 +20,7 @@ add-result-3 c = search (rules, done-under c, alive-under c)
 returns : tie.Need-returns
 returns c =
     rw (c.only_if-done.ensures, c.only_if-alive.ensures)
-    (unpack-attribute (start c).args.x (search rules) (search rules))
+    (unpack-attribute c.args.x (search rules) (search rules))
 
 pub attribute_word_spec : {M : Type 1} → statement M
 attribute_word_spec =

@@ -23,8 +23,7 @@ returns c = rw c.in-Past.is c.cursor_number.ensures.1
 returns-2 : tie.Need-returns-in-Fault
 returns-2 c =
     let g = c in
-    let f = g.got-in-Fault-1.given in
-    rw (f.1, c.model_number.ensures) (fault-word f.0.0 f.0.1.0 (place g.before))
+    rw (g.in-Fault.is, c.model_number.ensures) (fault-word g.in-Fault.f g.in-Fault.p (place g.before))
 
 pub got_number_spec : {M : Type 1} → statement M
 got_number_spec =

@@ -19,22 +19,20 @@ decreases-loop words len stack₀ top₀ i₀ stack top i = i
 -- the turn, from where its node's members are known, and the call
 abbrev turn : tie.After-members_of invariant-loop decreases-loop → tie.At-loop-i invariant-loop decreases-loop
 turn c = c.before.before.before.before.before.before
-abbrev start : tie.At-loop-i invariant-loop decreases-loop → tie.Start invariant-loop decreases-loop
-start l = l.before
 loop-holds : tie.Need-loop-i-init invariant-loop decreases-loop
 loop-holds c =
     let a = c.args in
     (search rules, search rules, search rules, walked_none _ _ (slice_empty a.len (map node_in a.words.now)) refl)
 
 part_end : tie.Need-slice_bounds-flat_node-end invariant-loop decreases-loop
-part_end c = let l = (turn c.before).loop-i in search (rules, unmapped flat_in l.stack 128 l.invariant.3.long)
+part_end c = let l = c.loop-i in search (rules, unmapped flat_in l.stack 128 l.invariant.3.long)
 
 loop-again : tie.Need-loop-i-preserved invariant-loop decreases-loop
 loop-again c =
     let m = c in
     let n = m in
-    let l = turn n in
-    let a = (start l).args in
+    let l = n in
+    let a = l.args in
     let v = l.loop-i.invariant in (
       omega arith,
       omega arith,
@@ -56,14 +54,14 @@ returns c =
     let z : v.i ≡ 0 = omega arith in
     c.flat_depth.ensures
     ∙ ap (λ x. x.depth) (sym (get_or-map flat_in v.stack v.top 0) ∙ walked-top (rw z at v.invariant.3) (flat_in 0) nil_flat (omega arith))
-    ∙ depth-is-in (start l.before.before.before).args.words.now (start l.before.before.before).args.len
+    ∙ depth-is-in l.args.words.now l.args.len
 
 returns-2 : tie.Need-returns invariant-loop decreases-loop
 returns-2 c =
     let l = c in
     let z : l.loop-i.i ≡ 0 = omega arith in
     ap (λ x. x.depth) (walked_empty (rw z at l.loop-i.invariant.3) nil_flat (omega arith))
-    ∙ depth-is-in (start l.before.before).args.words.now (start l.before.before).args.len
+    ∙ depth-is-in l.args.words.now l.args.len
 
 pub depth_in_spec : {M : Type 1} → statement M
 depth_in_spec =

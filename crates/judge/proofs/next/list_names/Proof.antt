@@ -4,16 +4,14 @@ use Rattle.judge.specs.Next.Code.{hands_none, hands-all}
 use Rattle.judge.proofs.next.list_names.Statement.{statement}
 use Rattle.judge.proofs.next.list_names.Tie as tie
 
-abbrev entry : tie.After-size-found → tie.Start
-entry c = c.before.before
 returns : tie.Need-returns-then-row-found
-returns c = let a = (entry c.before).args in hands_none a.set a.n a.row.now c.size-found.ensures c.if-row-found.true
+returns c = let a = c.args in hands_none a.set a.n a.row.now c.size-found.ensures c.if-row-found.true
 
 returns-2 : tie.Need-returns
 returns-2 c =
     let p = c in
     let e = p in
-    let a = (entry e.before.before.before.before.before).args in
+    let a = e.args in
     hands-all a.set a.n a.row.now e.size-found.ensures e.if-row-found.false p.put_names.ensures
 
 pub list_names_spec : {M : Type 1} → statement M

@@ -9,35 +9,33 @@ use Rattle.judge.proofs.next.next_children.Tie as tie
 abbrev start : tie.After-read_children → tie.Start
 start c = c.before.before.before.before.before
 abbrev read : tie.In-Both → tie.After-read_children
-read c = c.before.before.before
-abbrev known : tie.After-words-in-Both-1 → tie.In-Both
-known c = c.before
+read c = c.before
 read-children-requires : tie.Need-read_children-requires
 read-children-requires c κs = (refl, refl)
 
 root-next-requires : tie.Need-root_next-set-requires
 root-next-requires c κs =
-    let t = known c in
-    let b = read-both (read t).read_children.ensures t.in-Both.is in
+    let t = c in
+    let b = read-both t.read_children.ensures t.in-Both.is in
     (b.nodes, b.names)
 
 list-names-requires : tie.Need-list_names-requires
 list-names-requires c κs =
-    let t = known c.before.before in
-    (read-both (read t).read_children.ensures t.in-Both.is).names.1
+    let t = c in
+    (read-both t.read_children.ensures t.in-Both.is).names.1
 
 returns : tie.Need-returns-in-Both
 returns c =
     let l = c in
     let n = l in
-    let t = known n.before in
-    let b = read-both (read t).read_children.ensures t.in-Both.is in
-    row_listed b n.root_next-set.ensures (start (read t)).args.row.now l.list_names.ensures
+    let t = n in
+    let b = read-both t.read_children.ensures t.in-Both.is in
+    row_listed b n.root_next-set.ensures t.args.row.now l.list_names.ensures
 
 returns-2 : tie.Need-returns-in-Faulty
 returns-2 c =
     let r = c in
-    fault-listed (read-fault r.read_children.ensures c.in-Faulty.is) (start r.before.before).args.row.now
+    fault-listed (read-fault r.read_children.ensures c.in-Faulty.is) r.args.row.now
 
 returns-3 : tie.Need-returns-in-ModelRefused
 unfolding children_next

@@ -12,25 +12,19 @@ abbrev nodes : tie.Start → List Node
 nodes s = map node_in (take s.args.len s.args.words.now)
 
 -- the start, where the row was searched, and where no child is at fault
-abbrev entry : tie.After-search_row → tie.Start
-entry c = c.before.before.before.before
-abbrev sound : tie.In-Nothing → tie.After-search_row
-sound c = c.before.before
-abbrev told : tie.After-root_next-set → tie.In-Nothing
-told c = c.before.before
 few : (s : tie.Start) → s.args.names ≤ 64
 few s = atoms-within (nodes s) s.requires.1.0.0 s.requires.1.0.1
 
 -- what the search tells, by the upper counts
 tallied : (c : tie.After-search_row)
-    → RowTallied (upper_counts (nodes (entry c))) (entry c).args.children.now (seen_in c.search_row.new.1.0) c.search_row.result
+    → RowTallied (upper_counts (nodes c.before.before.before.before)) c.args.children.now (seen_in c.search_row.new.words) c.search_row.result
 tallied c =
-    let s = entry c in
+    let s = c in
     c.search_row.ensures.0 _ (counts-known s.args.words.now s.args.len s.args.names s.args.children.now s.requires)
 
 -- the search leaves the nodes as they were
-same : (c : tie.After-search_row) → map node_in (take (entry c).args.len c.search_row.new.1.0) ≡ nodes (entry c)
-same c = same_nodes _ _ c.search_row.ensures.1 _ (entry c).requires.0.0
+same : (c : tie.After-search_row) → map node_in (take c.args.len c.search_row.new.words) ≡ nodes c.before.before.before.before
+same c = same_nodes _ _ c.search_row.ensures.1 _ c.requires.0.0
 
 search-row-requires : tie.Need-search_row-requires
 search-row-requires c κs =
@@ -39,33 +33,33 @@ search-row-requires c κs =
 
 root-next-requires : tie.Need-root_next-set-requires
 root-next-requires c κs =
-    let f = sound c.before in
-    let s = entry f in
-    ((s.requires.0.0, omega (arith, s.requires.0.1, f.search_row.ensures.1.1)), (rw (same f) s.requires.1.0.1, few s))
+    let f = c in
+    let s = f in
+    ((s.requires.0.0, omega (arith, s.requires.0.1, f.search_row.ensures.1.1)), (rw (same f.before.before) s.requires.1.0.1, few s.before.before.before.before.before.before))
 
 list-names-requires : tie.Need-list_names-requires
-list-names-requires c κs = few (entry (sound (told c.before)))
+list-names-requires c κs = few c.before.before.before.before.before.before.before.before
 
 returns : tie.Need-returns-in-At
 returns c =
     let f = c in
-    let s = entry f in
+    let s = f in
     hands-no-names s.args.row.now
-    (next-stopped (nodes s) s.requires.1.0.0 s.args.children.now s.requires.1.0.1 s.requires.1.1.1
-    (fault-told (tallied f.before.before) c.in-At.is))
+    (next-stopped (nodes s.before.before.before.before.before) s.requires.1.0.0 s.args.children.now s.requires.1.0.1 s.requires.1.1.1
+    (fault-told (tallied f.before) c.in-At.is))
 
 returns-2 : tie.Need-returns-in-Nothing
 returns-2 c =
     let n = c in
     let b = n in
-    let f = (sound (told b.before.before.before.before)).search_row in
-    let s = entry (sound (told b.before.before.before.before)) in
-    let e = (told b.before.before.before.before).in-Nothing.is in
+    let f = b.search_row in
+    let s = b in
+    let e = b.in-Nothing.is in
     rw (
       b.root_next-set.ensures,
-      same (sound (told b.before.before.before.before)),
-      next-tallied (nodes s) s.requires.1.0.0 s.args.children.now s.requires.1.0.1 s.requires.1.1.1 (fault-told (tallied (sound (told b.before.before.before.before))) e)
-          (seen_in f.last.1.0) ((tallied (sound (told b.before.before.before.before))).tallied e),
+      same b.before.before.before.before.before.before.before,
+      next-tallied (nodes s.before.before.before.before.before.before.before.before.before.before.before) s.requires.1.0.0 s.args.children.now s.requires.1.0.1 s.requires.1.1.1 (fault-told (tallied b.before.before.before.before.before.before.before) e)
+          (seen_in f.last.1.0) ((tallied b.before.before.before.before.before.before.before).tallied e),
     )
     at n.list_names.ensures
 

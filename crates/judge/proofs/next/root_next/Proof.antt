@@ -66,17 +66,17 @@ start l = l.before
 
 -- it stands there as at the start
 abbrev read : tie.After-kind_in-kind invariant-loop2 decreases-loop2 invariant-loop decreases-loop → Node
-read c = record { kind = c.kind_in-kind.result; mark = (node_in (get_or (turn c).loop-i.words ((turn c).loop-i.i - 1) 0)).mark }
+read c = record { kind = c.kind_in-kind.result; mark = (node_in (get_or c.loop-i.words (c.loop-i.i - 1) 0)).mark }
 
 read_is : (c : tie.After-kind_in-kind invariant-loop2 decreases-loop2 invariant-loop decreases-loop)
-    → read c ≡ node_in (get_or (start (turn c)).args.words.now ((turn c).loop-i.i - 1) 0)
-read_is c = kind-node _ c.kind_in-kind.ensures ∙ ap node_in ((turn c).loop-i.invariant.4.node_same _ (omega arith))
+    → read c ≡ node_in (get_or c.args.words.now (c.loop-i.i - 1) 0)
+read_is c = kind-node _ c.kind_in-kind.ensures ∙ ap node_in (c.loop-i.invariant.4.node_same _ (omega arith))
 
 -- its name, if it is an atom, is one of those counted
-named : (c : tie.After-kind_in-kind invariant-loop2 decreases-loop2 invariant-loop decreases-loop) → is_atom c.kind_in-kind.result ≤ (turn c).loop-i.name
+named : (c : tie.After-kind_in-kind invariant-loop2 decreases-loop2 invariant-loop decreases-loop) → is_atom c.kind_in-kind.result ≤ c.loop-i.name
 named c =
-    let v = (turn c).loop-i.invariant in
-    name-turn (held (start (turn c))) c.loop-i-test.true v.0 (read_is c) v.5.name_is
+    let v = c.loop-i.invariant in
+    name-turn (held c.before.before.before.before.before) c.loop-i-test.true v.0 (read_is c) v.5.name_is
 
 loop-holds : tie.Need-loop-i-init invariant-loop2 decreases-loop2 invariant-loop decreases-loop
 loop-holds c =
@@ -91,24 +91,24 @@ loop-holds c =
     )
 
 begin-ahead-requires : tie.Need-begin_ahead-x-requires invariant-loop2 decreases-loop2 invariant-loop decreases-loop
-begin-ahead-requires c κs = (named (node c), (turn (node c)).loop-i.invariant.3)
+begin-ahead-requires c κs = (named c.before.before.before.before, c.loop-i.invariant.3)
 
 -- what is seen of each name at a turn
 abbrev seen_now : tie.At-loop-i invariant-loop2 decreases-loop2 invariant-loop decreases-loop → ℕ → Seen
-seen_now l k = seen_of (start l).args.children (get_or (seen_in l.loop-i.words) k 0)
+seen_now l k = seen_of l.args.children (get_or (seen_in l.loop-i.words) k 0)
 
 loop2-holds : tie.Need-loop-at-init invariant-loop2 decreases-loop2 invariant-loop decreases-loop
 loop2-holds c =
-    let l = turn (node c.before) in
+    let l = c in
     let v = l.loop-i in
     let b = rw (c.seen_of-here.ensures, ← get_or-drop 128 v.words v.name 0) at c.begin_ahead-x.ensures in
-    (search rules, omega arith, part_none (ahead-parts _ (seen_now l)) (stack_in v.words v.sets) v.top b)
+    (search rules, omega arith, part_none (ahead-parts _ (seen_now l.before.before.before.before.before.before.before.before.before)) (stack_in v.words v.sets) v.top b)
 
 loop2-again : tie.Need-loop-at-preserved invariant-loop2 decreases-loop2 invariant-loop decreases-loop
 loop2-again c =
     let m = c in
     let u = m.loop-at in
-    let l = turn (node m.before.before.before.before.before.before.before) in
+    let l = m in
     let v = l.loop-i in
     let n = v.invariant.5.long in
     let stack = stack_in v.words v.sets in
@@ -117,19 +117,19 @@ loop2-again c =
     let g = rw y at c.grown_ahead-x.ensures in (
       omega arith,
       omega arith,
-      part-turn (ahead-parts _ (seen_now l)) stack v.top u.at blank u.invariant.0 (omega arith) g u.invariant.2,
+      part-turn (ahead-parts _ (seen_now l.before.before.before.before.before.before.before.before.before.before.before.before.before.before.before)) stack v.top u.at blank u.invariant.0 (omega arith) g u.invariant.2,
     )
 
 sub-name : tie.Need-overflow_sub-name invariant-loop2 decreases-loop2 invariant-loop decreases-loop
-sub-name c = omega (arith, c.atoms_of-name.ensures.0, named (node c.before.before.before.before))
+sub-name c = omega (arith, c.atoms_of-name.ensures.0, named c.before.before.before.before.before.before.before.before)
 
 loop-again : tie.Need-loop-i-preserved invariant-loop2 decreases-loop2 invariant-loop decreases-loop
 loop-again c =
     let whole = c in
     let m = whole in
     let s = m in
-    let k = node m.before.before in
-    let l = turn k in
+    let k = m in
+    let l = k in
     let v = l.loop-i.invariant in
     let u = m.loop-at in
     let place = s.lesser.result + l.loop-i.top - 1 in
@@ -140,7 +140,7 @@ loop-again c =
       omega arith,
       standing-turn v.4 place _ (omega arith) (omega arith),
       rw (stack_set l.loop-i.words l.loop-i.sets place c.attribute_word.result _ (omega arith) c.attribute_word.ensures refl)
-          (pass-turn (ahead-parts _ (seen_at (start l))) (held (start l)) k.loop-i-test.true v.0 (read_is k) v.5
+          (pass-turn (ahead-parts _ (seen_at l.before.before.before.before.before.before.before.before.before.before.before.before.before.before.before.before.before)) (held l.before.before.before.before.before.before.before.before.before.before.before.before.before.before.before.before.before) k.loop-i-test.true v.0 (read_is k.before.before.before.before.before.before.before.before.before.before.before.before) v.5
           (omega arith) v.2 s.members_of.ensures s.lesser.ensures whole.atoms_of-name.ensures.0
           (rw (z, v.4.seen_same) at u.invariant.2) whole.marked_ahead-whole.ensures),
     )

@@ -93,15 +93,12 @@ group-claims t = (
   number-on-reads.Asked,
   number-on-reads.Learnt,
 )
-
-abbrev group-Inv-loop : group-lts.invariant-loop
+abbrev group-Inv-loop : group-lts.invariant-loop-past
 group-Inv-loop text work₀ names₀ heads₀ left node at next₀ sign₀ members₀ height₀ work names heads next sign members height =
     AtMember text work (names, heads) at (cursor_in next) left node sign members height (tail (stack_of (here text at)))
-
-abbrev group-μ-loop : group-lts.decreases-loop
+abbrev group-μ-loop : group-lts.decreases-loop-past
 group-μ-loop text work₀ names₀ heads₀ left node at next₀ sign₀ members₀ height₀ work names heads next sign members height =
     length text - (cursor_in next).at
-
 abbrev member-claims : ℕ → member-lts.Claims
 member-claims t = (
   name-begins-reads.Asked,
@@ -117,7 +114,6 @@ member-claims t = (
   mark-reads.Asked,
   mark-reads.Learnt,
 )
-
 abbrev member-by-claims : ℕ → member-by-lts.Claims
 member-by-claims t = (
   cursor-in-reads.Asked,
@@ -134,225 +130,225 @@ module _ (t : ℕ) where
       → group-lts.Start (group-claims t) (group_at t) group.Post group-Inv-loop group-μ-loop
   group-start c = c.before.before
 
-  abbrev tested : group-lts.At-loop (group-claims t) (group_at t) group.Post group-Inv-loop group-μ-loop
+  abbrev tested : group-lts.At-loop-past (group-claims t) (group_at t) group.Post group-Inv-loop group-μ-loop
       → group-lts.After-stands (group-claims t) (group_at t) group.Post group-Inv-loop group-μ-loop
   tested c = c.before.before.before
 
-  abbrev turn : group-lts.After-member-by (group-claims t) (group_at t) group.Post group-Inv-loop group-μ-loop
-      → group-lts.At-loop (group-claims t) (group_at t) group.Post group-Inv-loop group-μ-loop
+  abbrev turn : group-lts.After-member_by-got (group-claims t) (group_at t) group.Post group-Inv-loop group-μ-loop
+      → group-lts.At-loop-past (group-claims t) (group_at t) group.Post group-Inv-loop group-μ-loop
   turn c = c.before.before.before.before
 
-  abbrev called : group-lts.After-past (group-claims t) (group_at t) group.Post group-Inv-loop group-μ-loop
-      → group-lts.After-member-by (group-claims t) (group_at t) group.Post group-Inv-loop group-μ-loop
+  abbrev called : group-lts.In-Past-2 (group-claims t) (group_at t) group.Post group-Inv-loop group-μ-loop
+      → group-lts.After-member_by-got (group-claims t) (group_at t) group.Post group-Inv-loop group-μ-loop
   called c = c.before.before.before
 
   -- what it gave
-  gave : (c : group-lts.After-past (group-claims t) (group_at t) group.Post group-Inv-loop group-μ-loop)
-      → got_in (called c).member-by.result ≡ Past c.past.given.0.0
-  gave c = sym c.before.before.got_in.ensures ∙ c.past.given.1
+  gave : (c : group-lts.In-Past-2 (group-claims t) (group_at t) group.Post group-Inv-loop group-μ-loop)
+      → got_in (called c).member_by-got.result ≡ Past c.in-Past.past
+  gave c = sym c.got_in.ensures ∙ c.in-Past.is
 
   -- the member of a turn
-  behind : (c : group-lts.After-past (group-claims t) (group_at t) group.Post group-Inv-loop group-μ-loop)
-      → let m = (called c).member-by in
+  behind : (c : group-lts.In-Past-2 (group-claims t) (group_at t) group.Post group-Inv-loop group-μ-loop)
+      → let m = (called c).member_by-got in
       let text = (group-start (tested (turn (called c)))).args.text.now in
-      let p = (cursor_in (turn (called c)).loop.next).at in
-      Behind text m.last.1.0 (m.last.1.1.0, m.last.1.1.1.0) p (stack_of (here text p)) c.past.given.0.0
-  behind c = member-past (called c).member-by.ensures (gave c)
+      let p = (cursor_in (turn (called c)).loop-past.next).at in
+      Behind text m.last.1.0 (m.last.1.1.0, m.last.1.1.1.0) p (stack_of (here text p)) c.in-Past.past
+  behind c = member-past (called c).member_by-got.ensures (gave c)
 
   -- the byte behind it, and how high the members are
-  abbrev past : group-lts.After-shared-slice-known2 (group-claims t) (group_at t) group.Post group-Inv-loop group-μ-loop
-      → group-lts.After-past (group-claims t) (group_at t) group.Post group-Inv-loop group-μ-loop
+  abbrev past : group-lts.After-shared_slice_known-in-Past-1 (group-claims t) (group_at t) group.Post group-Inv-loop group-μ-loop
+      → group-lts.In-Past-2 (group-claims t) (group_at t) group.Post group-Inv-loop group-μ-loop
   past c = c.before.before.before
 
-  abbrev read : group-lts.After-larger (group-claims t) (group_at t) group.Post group-Inv-loop group-μ-loop
-      → group-lts.After-past (group-claims t) (group_at t) group.Post group-Inv-loop group-μ-loop
+  abbrev read : group-lts.After-larger-height (group-claims t) (group_at t) group.Post group-Inv-loop group-μ-loop
+      → group-lts.In-Past-2 (group-claims t) (group_at t) group.Post group-Inv-loop group-μ-loop
   read c = past c.before
 
   -- no byte is left, or this one
-  abbrev more : (c : group-lts.After-larger (group-claims t) (group_at t) group.Post group-Inv-loop group-μ-loop)
-      → (read c).past.given.0.0.at ≡ length (group-start (tested (turn (called (read c))))).args.text.now → ⊥
-  more c = c.before.before.if2.false
+  abbrev more : (c : group-lts.After-larger-height (group-claims t) (group_at t) group.Post group-Inv-loop group-μ-loop)
+      → (read c).in-Past.past.at ≡ length (group-start (tested (turn (called (read c))))).args.text.now → ⊥
+  more c = c.if-p-text.false
 
-  group-empties : (c : group-lts.Then1 (group-claims t) (group_at t) group.Post group-Inv-loop group-μ-loop)
+  group-empties : (c : group-lts.Then-stands (group-claims t) (group_at t) group.Post group-Inv-loop group-μ-loop)
       → let s = group-start c.before in
       let a = s.args in
       Closed a.text.now a.work.now (a.names.now, a.heads.now) a.c.at (tail (stack_of (here a.text.now a.c.at))) (one_on a.c 0)
-  group-empties c = group_empty (group-start c.before).pre.1 (sym c.before.stands.ensures ∙ c.if1.true)
+  group-empties c = group_empty (group-start c.before).requires.1 (sym c.stands.ensures ∙ c.if-stands.true)
 
   group-closed-requires : group-lts.Need-closed-requires (group-claims t) (group_at t) group.Post group-Inv-loop group-μ-loop
   group-closed-requires c κs = let a = (group-empties c).at_is in omega (arith, a.within, a.sized.1)
 
-  group-returns : group-lts.Need-returns (group-claims t) (group_at t) group.Post group-Inv-loop group-μ-loop
+  group-returns : group-lts.Need-returns-then-stands (group-claims t) (group_at t) group.Post group-Inv-loop group-μ-loop
   group-returns c = rw c.closed.ensures (group-empties c.before)
 
-  group-cursor-number-requires : group-lts.Need-cursor-number-requires (group-claims t) (group_at t) group.Post group-Inv-loop group-μ-loop
-  group-cursor-number-requires c κs = expecting-fits (group-start c.before).pre.1.expecting
+  group-cursor-number-requires : group-lts.Need-cursor_number-next-requires (group-claims t) (group_at t) group.Post group-Inv-loop group-μ-loop
+  group-cursor-number-requires c κs = expecting-fits (group-start c.before).requires.1.expecting
 
-  group-loop-holds : group-lts.Need-loop-init (group-claims t) (group_at t) group.Post group-Inv-loop group-μ-loop
+  group-loop-holds : group-lts.Need-loop-past-init (group-claims t) (group_at t) group.Post group-Inv-loop group-μ-loop
   group-loop-holds c =
       let n = c.before in
-      rw c.cursor-number.ensures.0 (group-begins (group-start n.before).pre.1 (sym n.before.stands.ensures ∙ n.if1.false))
+      rw c.cursor_number-next.ensures.0 (group-begins (group-start n.before).requires.1 (sym n.stands.ensures ∙ n.if-stands.false))
 
-  group-member-by-requires : group-lts.Need-member-by-requires (group-claims t) (group_at t) group.Post group-Inv-loop group-μ-loop
+  group-member-by-requires : group-lts.Need-member_by-got-requires (group-claims t) (group_at t) group.Post group-Inv-loop group-μ-loop
   group-member-by-requires c κs =
       let l = c.before.before.before in
-      let i = l.loop.invariant in
-      (omega (arith, (group-start (tested l)).pre.0, i.inside.expecting.at_is.within, i.from), group-ready i)
+      let i = l.loop-past.invariant in
+      (omega (arith, (group-start (tested l)).requires.0, i.inside-first.expecting.at_is.within, i.from), group-ready i)
 
-  group-returns-2 : group-lts.Need-returns-2 (group-claims t) (group_at t) group.Post group-Inv-loop group-μ-loop
-  group-returns-2 c = let p = c.before.before in group-stops (turn (called p)).loop.inv (behind p) c.if2.true
+  group-returns-2 : group-lts.Need-returns-then-p-text (group-claims t) (group_at t) group.Post group-Inv-loop group-μ-loop
+  group-returns-2 c = let p = c.before.before in group-stops (turn (called p)).loop-past.invariant (behind p) c.if-p-text.true
 
-  group-read-b : group-lts.Need-shared-slice-read-b (group-claims t) (group_at t) group.Post group-Inv-loop group-μ-loop
-  group-read-b c = past-inside (turn (called (past c))).loop.inv (behind (past c)) c.before.if2.false
+  group-read-b : group-lts.Need-bounds-text-p (group-claims t) (group_at t) group.Post group-Inv-loop group-μ-loop
+  group-read-b c = past-inside (turn (called (past c))).loop-past.invariant (behind (past c)) c.if-p-text.false
 
   -- so the place goes into a number
-  place-fits : (c : group-lts.After-larger (group-claims t) (group_at t) group.Post group-Inv-loop group-μ-loop) → (read c).past.given.0.0.at < max_text
-  place-fits c = omega (arith, group-read-b c.before, (group-start (tested (turn (called (read c))))).pre.1.expecting.at_is.sized.1)
+  place-fits : (c : group-lts.After-larger-height (group-claims t) (group_at t) group.Post group-Inv-loop group-μ-loop) → (read c).in-Past.past.at < max_text
+  place-fits c = omega (arith, group-read-b c.before, (group-start (tested (turn (called (read c))))).requires.1.expecting.at_is.sized.1)
 
-  group-height-over-requires : group-lts.Need-height-over-requires (group-claims t) (group_at t) group.Post group-Inv-loop group-μ-loop
+  group-height-over-requires : group-lts.Need-height_over-requires (group-claims t) (group_at t) group.Post group-Inv-loop group-μ-loop
   group-height-over-requires c κs =
       let b = c.before.before in
-      rw b.larger.ensures (members-low (turn (called (read b))).loop.inv (behind (read b)))
+      rw b.larger-height.ensures (members-low (turn (called (read b))).loop-past.invariant (behind (read b)))
 
-  group-returns-3 : group-lts.Need-returns-3 (group-claims t) (group_at t) group.Post group-Inv-loop group-μ-loop
+  group-returns-3 : group-lts.Need-returns-then-b-eq41 (group-claims t) (group_at t) group.Post group-Inv-loop group-μ-loop
   group-returns-3 c =
       let h = c.before in
       let p = h.before in
       let b = p.before.before in
-      rw c.closed2.ensures
-      (group-ends (turn (called (read b))).loop.inv (behind (read b)) (more b) p.before.if3.true _ p.packed-group.ensures
-      (rw (← b.larger.ensures) h.height-over.ensures))
+      rw c.closed-then-b-eq41.ensures
+      (group-ends (turn (called (read b))).loop-past.invariant (behind (read b)) (more b) p.if-b-eq41.true _ p.packed_group.ensures
+      (rw (← b.larger-height.ensures) h.height_over.ensures))
 
   -- the cursor in the number that the call gave
-  cursor-past : (c : group-lts.After-past (group-claims t) (group_at t) group.Post group-Inv-loop group-μ-loop)
-      → cursor_in (called c).member-by.result ≡ c.past.given.0.0
-  cursor-past c = past_is (called c).member-by.result (gave c)
+  cursor-past : (c : group-lts.In-Past-2 (group-claims t) (group_at t) group.Post group-Inv-loop group-μ-loop)
+      → cursor_in (called c).member_by-got.result ≡ c.in-Past.past
+  cursor-past c = past_is (called c).member_by-got.result (gave c)
 
-  group-number-on-requires : group-lts.Need-number-on-requires (group-claims t) (group_at t) group.Post group-Inv-loop group-μ-loop
+  group-number-on-requires : group-lts.Need-number_on-next-requires (group-claims t) (group_at t) group.Post group-Inv-loop group-μ-loop
   group-number-on-requires c κs = let b = c.before.before.before in rw (cursor-past (read b)) (omega (arith, place-fits b))
 
-  group-loop-less : group-lts.Need-loop-smaller (group-claims t) (group_at t) group.Post group-Inv-loop group-μ-loop
+  group-loop-less : group-lts.Need-loop-past-smaller (group-claims t) (group_at t) group.Post group-Inv-loop group-μ-loop
   group-loop-less c =
       let b = c.before.before.before.before in
-      rw (c.number-on.ensures, cursor-past (read b)) (turn-less (turn (called (read b))).loop.inv (behind (read b)) (more b))
+      rw (c.number_on-next.ensures, cursor-past (read b)) (turn-less (turn (called (read b))).loop-past.invariant (behind (read b)) (more b))
 
-  group-loop-again : group-lts.Need-loop-preserved (group-claims t) (group_at t) group.Post group-Inv-loop group-μ-loop
+  group-loop-again : group-lts.Need-loop-past-preserved (group-claims t) (group_at t) group.Post group-Inv-loop group-μ-loop
   group-loop-again c =
       let p = c.before.before in
       let b = p.before.before in
-      rw (c.number-on.ensures, cursor-past (read b), b.larger.ensures)
-      (group-joins (turn (called (read b))).loop.inv (behind (read b)) (more b) p.before.if3.false
-      (sym p.parts.ensures ∙ c.before.if4.true))
+      rw (c.number_on-next.ensures, cursor-past (read b), b.larger-height.ensures)
+      (group-joins (turn (called (read b))).loop-past.invariant (behind (read b)) (more b) p.if-b-eq41.false
+      (sym p.parts.ensures ∙ c.if-parts.true))
 
-  group-returns-4 : group-lts.Need-returns-4 (group-claims t) (group_at t) group.Post group-Inv-loop group-μ-loop
+  group-returns-4 : group-lts.Need-returns-else-parts (group-claims t) (group_at t) group.Post group-Inv-loop group-μ-loop
   group-returns-4 c =
       let p = c.before in
       let b = p.before.before in
-      group-bad (turn (called (read b))).loop.inv (behind (read b)) (more b) p.before.if3.false (sym p.parts.ensures ∙ c.if4.false)
+      group-bad (turn (called (read b))).loop-past.invariant (behind (read b)) (more b) p.if-b-eq41.false (sym p.parts.ensures ∙ c.if-parts.false)
 
-  group-returns-5 : group-lts.Need-returns-5 (group-claims t) (group_at t) group.Post group-Inv-loop group-μ-loop
+  group-returns-5 : group-lts.Need-returns-in-Fault (group-claims t) (group_at t) group.Post group-Inv-loop group-μ-loop
   group-returns-5 c =
       let f = c.before in
       let g = f.before.before in
-      rw (sym g.got_in.ensures ∙ f.f.given.1) at g.before.member-by.ensures
+      rw (sym g.got_in.ensures ∙ f.in-Fault.is) at g.member_by-got.ensures
 
   -- The member reader: the start from the test whether a name begins, and that test from where a bracket stands.
-  abbrev member-start : member-lts.After-name-begins (member-claims t) (member-at t) member.Post → member-lts.Start (member-claims t) (member-at t) member.Post
+  abbrev member-start : member-lts.After-name_begins (member-claims t) (member-at t) member.Post → member-lts.Start (member-claims t) (member-at t) member.Post
   member-start c = c.before.before
 
-  abbrev test : member-lts.Then2 (member-claims t) (member-at t) member.Post → member-lts.After-name-begins (member-claims t) (member-at t) member.Post
+  abbrev test : member-lts.Then-stands (member-claims t) (member-at t) member.Post → member-lts.After-name_begins (member-claims t) (member-at t) member.Post
   test c = c.before.before.before
 
-  bracket : (c : member-lts.Then2 (member-claims t) (member-at t) member.Post)
+  bracket : (c : member-lts.Then-stands (member-claims t) (member-at t) member.Post)
       → let a = (member-start (test c)).args in is a.text.now (code "(") a.c.at ≡ true
-  bracket c = sym c.before.stands.ensures ∙ c.if2.true
+  bracket c = sym c.stands.ensures ∙ c.if-p-text.true
 
   -- a group begins there
-  abbrev stood : member-lts.Else4 (member-claims t) (member-at t) member.Post → member-lts.Then2 (member-claims t) (member-at t) member.Post
+  abbrev stood : member-lts.Else-left-eq0 (member-claims t) (member-at t) member.Post → member-lts.Then-stands (member-claims t) (member-at t) member.Post
   stood c = c.before.before
 
-  opening : (c : member-lts.Else4 (member-claims t) (member-at t) member.Post)
+  opening : (c : member-lts.Else-left-eq0 (member-claims t) (member-at t) member.Post)
       → let a = (member-start (test (stood c))).args in Opening a.text.now a.c a.left
-  opening c = group-opening (member-start (test (stood c))).pre.1 (bracket (stood c)) c.before.if3.false c.if4.false
+  opening c = group-opening (member-start (test (stood c))).requires.1 (bracket (stood c)) c.if-b-eq41.false c.if-parts.false
 
   -- behind the group that begins there
-  abbrev entered : member-lts.After-past (member-claims t) (member-at t) member.Post → member-lts.After-inside (member-claims t) (member-at t) member.Post
+  abbrev entered : member-lts.In-Past-2 (member-claims t) (member-at t) member.Post → member-lts.After-inside-first (member-claims t) (member-at t) member.Post
   entered c = c.before.before.before.before.before.before
 
-  abbrev begun : member-lts.After-past (member-claims t) (member-at t) member.Post → member-lts.Else4 (member-claims t) (member-at t) member.Post
+  abbrev begun : member-lts.In-Past-2 (member-claims t) (member-at t) member.Post → member-lts.Else-left-eq0 (member-claims t) (member-at t) member.Post
   begun c = (entered c).before
 
-  closed : (c : member-lts.After-past (member-claims t) (member-at t) member.Post)
-      → let g = c.before.before.group in
+  closed : (c : member-lts.In-Past-2 (member-claims t) (member-at t) member.Post)
+      → let g = c.group in
       let a = (member-start (test (stood (begun c)))).args in
-      Closed a.text.now g.new.1.0 (g.new.1.1.0, g.new.1.1.1.0) (a.c.at + 1) (tail (stack_of (here a.text.now (a.c.at + 1))))
-      c.past.given.0.0
-  closed c = group-past (rw (entered c).inside.ensures at c.before.before.group.ensures) c.past.given.1
+      Closed a.text.now g.new.work (g.new.names, g.new.heads) (a.c.at + 1) (tail (stack_of (here a.text.now (a.c.at + 1))))
+      c.in-Past.past
+  closed c = group-past (rw (entered c).inside-first.ensures at c.group.ensures) c.in-Past.is
 
   -- from where its names were counted
-  abbrev ended : member-lts.After-struct-known2 (member-claims t) (member-at t) member.Post → member-lts.After-past (member-claims t) (member-at t) member.Post
+  abbrev ended : member-lts.After-struct_known-in-Past-1 (member-claims t) (member-at t) member.Post → member-lts.In-Past-2 (member-claims t) (member-at t) member.Post
   ended c = c.before.before.before
 
   -- it has a name, or no `!` behind it
-  fits : (j : member-lts.Joined5 (member-claims t) (member-at t) member.Post)
+  fits : (j : member-lts.Joined-past-c (member-claims t) (member-at t) member.Post)
       → let g = ended j.before in
       let a = (member-start (test (stood (begun g)))).args in
-      g.past.given.0.0.names ≡ a.c.names → is a.text.now (code "!") g.past.given.0.0.at ≡ false
-  fits j z = ⊎_elim (λ w. sym w.1.ensures ∙ w.2.left) (λ w. absurd (w.left z)) j.if5.branch
+      g.in-Past.past.names ≡ a.c.names → is a.text.now (code "!") g.in-Past.past.at ≡ false
+  fits j z = ⊎_elim (λ w. sym w.1.ensures ∙ w.2.left) (λ w. absurd (w.left z)) j.if-past-c.branch
 
   member-atom-requires : member-lts.Need-atom-requires (member-claims t) (member-at t) member.Post
   member-atom-requires c κs =
       let n = c.before.before.before in
-      ((member-start n.before).pre.1.expecting, sym n.before.name-begins.ensures ∙ n.if1.true)
+      ((member-start n.before).requires.1.expecting, sym n.name_begins.ensures ∙ n.if-stands.true)
 
-  member-returns-2 : member-lts.Need-returns-2 (member-claims t) (member-at t) member.Post
+  member-returns-2 : member-lts.Need-returns-else-stands (member-claims t) (member-at t) member.Post
   member-returns-2 c =
       let n = c.before.before in
-      member-bad (member-start n.before).pre.1 (sym n.before.name-begins.ensures ∙ n.if1.false) (sym c.before.stands.ensures ∙ c.if2.false)
+      member-bad (member-start n.before).requires.1 (sym n.name_begins.ensures ∙ n.if-stands.false) (sym c.stands.ensures ∙ c.if-p-text.false)
 
-  member-returns-3 : member-lts.Need-returns-3 (member-claims t) (member-at t) member.Post
-  member-returns-3 c = many-groups (member-start (test c.before)).pre.1 (bracket c.before) c.if3.true
+  member-returns-3 : member-lts.Need-returns-then-node-eq-MAX_NODES (member-claims t) (member-at t) member.Post
+  member-returns-3 c = many-groups (member-start (test c.before)).requires.1 (bracket c.before) c.if-b-eq41.true
 
-  member-returns-4 : member-lts.Need-returns-4 (member-claims t) (member-at t) member.Post
+  member-returns-4 : member-lts.Need-returns-then-left-eq0 (member-claims t) (member-at t) member.Post
   member-returns-4 c =
       let b = c.before.before in
-      many-brackets (member-start (test b)).pre.1 (bracket b) c.before.if3.false c.if4.true
+      many-brackets (member-start (test b)).requires.1 (bracket b) c.if-b-eq41.false c.if-parts.true
 
-  member-inside-requires : member-lts.Need-inside-requires (member-claims t) (member-at t) member.Post
+  member-inside-requires : member-lts.Need-inside-first-requires (member-claims t) (member-at t) member.Post
   member-inside-requires c κs =
-      let a = (member-start (test (stood c))).pre.1.expecting.at_is in
-      (omega (arith, a.sized, (opening c).inside), (opening c).few)
+      let a = (member-start (test (stood c))).requires.1.expecting.at_is in
+      (omega (arith, a.sized, (opening c).inside-first), (opening c).few)
 
   member-group-requires : member-lts.Need-group-requires (member-claims t) (member-at t) member.Post
   member-group-requires c κs =
       let i = c.before.before.before in
       let o = i.before in
       let s = member-start (test (stood o)) in
-      rw i.inside.ensures (omega (arith, s.pre.0, (opening o).inside), goes_in s.pre.1 (opening o))
+      rw i.inside-first.ensures (omega (arith, s.requires.0, (opening o).inside-first), goes_in s.requires.1 (opening o))
 
-  member-returns-5 : member-lts.Need-returns-5 (member-claims t) (member-at t) member.Post
+  member-returns-5 : member-lts.Need-returns-then-stands-2 (member-claims t) (member-at t) member.Post
   member-returns-5 c =
       let n = c.before.before in
       let g = ended n.before in
-      empty-marked (member-start (test (stood (begun g)))).pre.1 (opening (begun g)) (closed g) n.if5.true
-      (sym c.before.stands2.ensures ∙ c.if6.true)
+      empty-marked (member-start (test (stood (begun g)))).requires.1 (opening (begun g)) (closed g) n.if-past-c.true
+      (sym c.stands-then-past-c.ensures ∙ c.if-stands-2.true)
 
   member-mark-requires : member-lts.Need-mark-requires (member-claims t) (member-at t) member.Post
   member-mark-requires c κs = (opening (begun (ended c.before.before))).few
 
-  member-returns-6 : member-lts.Need-returns-6 (member-claims t) (member-at t) member.Post
+  member-returns-6 : member-lts.Need-returns-after-past-c (member-claims t) (member-at t) member.Post
   member-returns-6 c =
       let j = c.before.before in
       let g = ended j.before in
-      group-member (member-start (test (stood (begun g)))).pre.1 (opening (begun g)) (closed g) (fits j) c.mark.ensures
+      group-member (member-start (test (stood (begun g)))).requires.1 (opening (begun g)) (closed g) (fits j) c.mark.ensures
 
   -- The member reader by numbers.
-  abbrev numbered : member-by-lts.After-cursor-in (member-by-claims t) (member-by-at t) member-by.Post
+  abbrev numbered : member-by-lts.After-cursor_in (member-by-claims t) (member-by-at t) member-by.Post
       → member-by-lts.Start (member-by-claims t) (member-by-at t) member-by.Post
   numbered c = c.before.before.before.before.before
 
   member-by-member-requires : member-by-lts.Need-member-requires (member-by-claims t) (member-by-at t) member-by.Post
-  member-by-member-requires c κs = let s = numbered c in rw c.cursor-in.ensures (omega (arith, s.pre.0), s.pre.1)
+  member-by-member-requires c κs = let s = numbered c in rw c.cursor_in.ensures (omega (arith, s.requires.0), s.requires.1)
 
   -- what it gives
   member-gave : (c : member-by-lts.After-member (member-by-claims t) (member-by-at t) member-by.Post)
@@ -360,18 +356,17 @@ module _ (t : ℕ) where
       let m = c.member.new.1 in
       let p = (cursor_in a.number).at in
       Member a.text.now m.0 (m.1.0, m.1.1.0) p (stack_of (here a.text.now p)) c.member.result
-  member-gave c = rw c.before.cursor-in.ensures at c.member.ensures
+  member-gave c = rw c.cursor_in.ensures at c.member.ensures
 
-  member-by-got-number-requires : member-by-lts.Need-got-number-requires (member-by-claims t) (member-by-at t) member-by.Post
+  member-by-got-number-requires : member-by-lts.Need-got_number-requires (member-by-claims t) (member-by-at t) member-by.Post
   member-by-got-number-requires c κs =
       let s = numbered c.before in
-      member-fits s.args.text.now _ _ _ _ s.pre.1.expecting.at_is.sized c.member.result (member-gave c)
+      member-fits s.args.text.now _ _ _ _ s.requires.1.expecting.at_is.sized c.member.result (member-gave c)
 
   member-by-returns : member-by-lts.Need-returns (member-by-claims t) (member-by-at t) member-by.Post
   member-by-returns c = rw c.got_number.ensures (member-gave c.before)
-
-pub +group-member-member-by-spec : {M : Type 1} → statement M
-+group-member-member-by-spec = close μ-group μ-member μ-member-by
+pub +group_member_member_by_spec : {M : Type 1} → statement M
++group_member_member_by_spec = close μ-group μ-member μ-member-by
     (λ t. group-lts.spec (group-claims t) (group_at t) group.Post group-Inv-loop group-μ-loop
     (λ c κs. omega arith)
     (group-closed-requires t)

@@ -5,25 +5,23 @@ use Rattle.judge.specs.Reply.Read.{outcome_of, outcome-told}
 use Rattle.judge.proofs.reading.model_outcome.Statement.{statement}
 use Rattle.judge.proofs.reading.model_outcome.Tie as tie
 
-abbrev start : tie.After-read_children → tie.Start
-start r = r.before.before.before.before.before
-told : (r : tie.After-read_children) {x : ChildrenRead} → r.read_children.result ≡ x → outcome_of x ≡ (reading (start r).args.text.now).outcome
+told : (r : tie.After-read_children) {x : ChildrenRead} → r.read_children.result ≡ x → outcome_of x ≡ (reading r.args.text.now).outcome
 told r e = sym (ap outcome_of e) ∙ outcome-told r.read_children.ensures
 
 read-children-requires : tie.Need-read_children-requires
 read-children-requires c κs = (refl, refl)
 
 returns : tie.Need-returns-in-Both
-returns c = told c.before.before c.in-Both.is
+returns c = told c.before c.in-Both.is
 
 returns-2 : tie.Need-returns-in-Faulty
-returns-2 c = told c.before.before c.in-Faulty.is
+returns-2 c = told c.before c.in-Faulty.is
 
 returns-3 : tie.Need-returns-in-ModelRefused
-returns-3 c = told c.before.before.before c.in-ModelRefused.is
+returns-3 c = told c.before c.in-ModelRefused.is
 
 returns-4 : tie.Need-returns-in-ChildrenRefused
-returns-4 c = told c.before.before c.in-ChildrenRefused.is
+returns-4 c = told c.before c.in-ChildrenRefused.is
 
 pub model_outcome_spec : {M : Type 1} → statement M
 model_outcome_spec =

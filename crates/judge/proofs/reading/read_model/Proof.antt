@@ -4,20 +4,18 @@ use Rattle.judge.specs.Reading.Whole.{Whole, whole-past, refused-is, reading-is}
 use Rattle.judge.proofs.reading.read_model.Statement.{statement}
 use Rattle.judge.proofs.reading.read_model.Tie as tie
 
-abbrev start : tie.After-read_whole → tie.Start
-start c = c.before.before.before.before.before
 
 -- the whole text was read
 whole : (c : tie.In-Past)
-    → let r = c.before.before in
-    Whole (start r).args.text.now r.read_whole.new.1.0 (r.read_whole.new.1.1.0, r.read_whole.new.1.1.1.0) c.in-Past.past-1
+    → let r = c in
+    Whole r.args.text.now r.read_whole.new.work (r.read_whole.new.names, r.read_whole.new.heads) c.in-Past.past
 whole c = whole-past c.read_whole.ensures c.in-Past.is
 
 unpack-requires : tie.Need-unpack-requires
-unpack-requires c κs = let w = whole c.before.before in (w.nodes.few, omega (arith, w.nodes.whole))
+unpack-requires c κs = let w = whole c.before in (w.nodes.few, omega (arith, w.nodes.whole))
 
 names-of-requires : tie.Need-names_of-requires
-names-of-requires c κs = let w = whole c.before.before.before.before in (w.tabled.few, w.named.held.whole)
+names-of-requires c κs = let w = whole c.before.before.before in (w.tabled.few, w.named.held.whole)
 
 returns : tie.Need-returns-in-Past
 returns c = let r = c in reading-is (whole r.before.before.before.before) r.unpack.ensures c.names_of.ensures
@@ -26,7 +24,7 @@ returns-2 : tie.Need-returns-in-Fault
 returns-2 c =
     let f = c in
     let r = f in
-    c.refused.ensures ∙ refused-is (start r.before.before.before.before).args.text.now (rw f.in-Fault.is at r.read_whole.ensures)
+    c.refused.ensures ∙ refused-is r.args.text.now (rw f.in-Fault.is at r.read_whole.ensures)
 
 pub read_model_spec : {M : Type 1} → statement M
 read_model_spec =

@@ -11,15 +11,11 @@ use Rattle.judge.proofs.reply.read_children.Tie as tie
 abbrev start : tie.After-read_whole → tie.Start
 start c = c.before.before.before.before.before.before
 abbrev read : tie.In-Past → tie.After-read_whole
-read c = c.before.before.before
-abbrev some : tie.After-tally_children → tie.Else-children-eq0
-some c = c.before.before.before.before
-abbrev counted : tie.In-Whole → tie.After-tally_children
-counted c = c.before.before.before
+read c = c.before
 whole : (c : tie.In-Past)
-    → let last = (read c).read_whole.new in
-    Whole (start (read c)).args.model.now last.1.0 (last.1.1.0, last.1.1.1.0) c.in-Past.past-1
-whole c = whole-past (read c).read_whole.ensures c.in-Past.is
+    → let last = c.read_whole.new in
+    Whole c.args.model.now last.1.0 (last.1.1.0, last.1.1.1.0) c.in-Past.past
+whole c = whole-past c.read_whole.ensures c.in-Past.is
 
 -- the arrays are fresh
 read-whole-requires : tie.Need-read_whole-requires
@@ -27,7 +23,7 @@ read-whole-requires c κs = let n = c in (n.requires, refl, refl)
 
 -- before the children the upper counts are known
 limited : (c : tie.In-Past)
-    → let words = (read c).read_whole.new.1.0 in Seeing (upper_counts (map node_in (take c.in-Past.past-1.nodes words))) [] (seen_in words)
+    → let words = c.read_whole.new.work in Seeing (upper_counts (map node_in (take c.in-Past.past.nodes words))) [] (seen_in words)
 limited c = whole-limited (whole c)
 
 returns : tie.Need-returns-then-children-gt-MAX_FILE
@@ -37,43 +33,43 @@ returns-2 : tie.Need-returns-then-children-eq0
 returns-2 c =
     let e = c in
     let k = e in
-    let children = (start (read k.before.before)).args.children.now in
+    let children = k.args.children.now in
     texts-read (whole k.before.before) children e.if-children-gt-MAX_FILE.false _ (refl, refl) (walk_none children _ c.if-children-eq0.true (limited k.before.before)) refl
 
 tally-children-requires : tie.Need-tally_children-requires
 tally-children-requires c κs =
     let s = c in
-    let w = whole s.before.before in
+    let w = whole s.before.before.before.before.before in
     ((w.tabled, whole_apart w), (omega (arith, s.if-children-eq0.false), s.if-children-gt-MAX_FILE.false))
 
 cast-t26 : tie.Need-overflow_cast-result
-cast-t26 c = let t = counted c in omega (arith, children-fit (t.tally_children.ensures.0 _ (limited (some t).before.before)) c.in-Whole.is)
+cast-t26 c = let t = c in omega (arith, children-fit (t.tally_children.ensures.0 _ (limited t.before.before.before.before.before.before.before)) c.in-Whole.is)
 
 returns-3 : tie.Need-returns-in-Whole
 returns-3 c =
-    let t = counted c in
-    let e = (some t).before in
-    texts-read (whole e.before) _ e.if-children-gt-MAX_FILE.left _ t.tally_children.ensures.1
-    (t.tally_children.ensures.0 _ (limited e.before)) c.in-Whole.is
+    let t = c in
+    let e = t in
+    texts-read (whole e.before.before.before.before.before.before.before) _ e.if-children-gt-MAX_FILE.false _ t.tally_children.ensures.1
+    (t.tally_children.ensures.0 _ (limited e.before.before.before.before.before.before.before)) c.in-Whole.is
 
 returns-4 : tie.Need-returns-in-Faulty
 returns-4 c =
     let t = c in
-    let e = (some t.before.before.before).before in
-    stopped-read (whole e.before) _ e.if-children-gt-MAX_FILE.left _ t.tally_children.ensures.1
-    (t.tally_children.ensures.0 _ (limited e.before)) c.in-Faulty.is
+    let e = t in
+    stopped-read (whole e.before.before.before.before.before.before.before) _ e.if-children-gt-MAX_FILE.false _ t.tally_children.ensures.1
+    (t.tally_children.ensures.0 _ (limited e.before.before.before.before.before.before.before)) c.in-Faulty.is
 
 returns-5 : tie.Need-returns-in-Refused
 returns-5 c =
     let t = c in
-    let e = (some t.before.before.before).before in
-    bad-refused (whole e.before) _ e.if-children-gt-MAX_FILE.left _ t.tally_children.ensures.1
-    (t.tally_children.ensures.0 _ (limited e.before)) c.in-Refused.is
+    let e = t in
+    bad-refused (whole e.before.before.before.before.before.before.before) _ e.if-children-gt-MAX_FILE.false _ t.tally_children.ensures.1
+    (t.tally_children.ensures.0 _ (limited e.before.before.before.before.before.before.before)) c.in-Refused.is
 
 returns-6 : tie.Need-returns-in-Fault
 returns-6 c =
     let r = c.read_whole in
-    refused_model (whole-fault r.new.1.0 (r.new.1.1.0, r.new.1.1.1.0) r.ensures c.in-Fault.is)
+    refused_model (whole-fault r.new.work (r.new.names, r.new.heads) r.ensures c.in-Fault.is)
 
 pub read_children_spec : {M : Type 1} → statement M
 read_children_spec =

@@ -8,13 +8,11 @@ use Rattle.judge.proofs.reply.stopped.Statement.{statement}
 use Rattle.judge.proofs.reply.stopped.Tie as tie
 
 -- where the children behind were counted, and where they begin
-abbrev start : tie.After-count_children → tie.Start
-start c = c.before.before.before.before
 abbrev rest : tie.After-count_children → List Text
-rest c = let t = (start c).args.children.now in split tab (part t ((start c).args.end + 1) (length t))
+rest c = let t = c.args.children.now in split tab (part t (c.args.end + 1) (length t))
 
-behind : (c : tie.After-count_children) → children_from (start c).args.children.now ((start c).args.end + 1) ≡ rest c
-behind c = rest_some (start c).args.children.now (start c).args.end (omega (arith, c.if-end-children.false, (start c).requires.0))
+behind : (c : tie.After-count_children) → children_from c.args.children.now (c.args.end + 1) ≡ rest c
+behind c = rest_some c.args.children.now c.args.end (omega (arith, c.if-end-children.false, c.requires.0))
 
 returns : tie.Need-returns-then-end-children
 returns c =
@@ -25,20 +23,20 @@ faulty-requires-2 : tie.Need-faulty-requires-in-Count
 faulty-requires-2 c κs =
     let n = c in
     let k = n in
-    let m = counted (rest k.before.before.before) n.in-Count.n-1 (sym k.count_children.ensures ∙ n.in-Count.is) in
-    ((start k.before.before.before).requires.2, omega (arith, m))
+    let m = counted (rest k.before) n.in-Count.n (sym k.count_children.ensures ∙ n.in-Count.is) in
+    (k.requires.2, omega (arith, m))
 
 returns-2 : tie.Need-returns-in-Count
 returns-2 c =
     let n = c in
     let k = n in
-    c.faulty-in-Count.ensures ∙ rw (behind k.before.before.before.before) (rest-counted (rest k.before.before.before.before) (start k.before.before.before.before).args.place (sym k.count_children.ensures ∙ n.in-Count.is))
+    c.faulty-in-Count.ensures ∙ rw (behind k.before.before) (rest-counted (rest k.before.before) k.args.place (sym k.count_children.ensures ∙ n.in-Count.is))
 
 returns-3 : tie.Need-returns-in-Refused
 returns-3 c =
     let f = c in
     let k = f in
-    rw (behind k.before.before.before) (rest-refused (rest k.before.before.before) (start k.before.before.before).args.place (sym k.count_children.ensures ∙ f.in-Refused.is))
+    rw (behind k.before) (rest-refused (rest k.before) k.args.place (sym k.count_children.ensures ∙ f.in-Refused.is))
 
 pub stopped_spec : {M : Type 1} → statement M
 stopped_spec =

@@ -7,8 +7,6 @@ use Rattle.judge.proofs.row.test_row.Statement.{statement}
 use Rattle.judge.proofs.row.test_row.Tie as tie
 
 -- where 41 was tried
-abbrev short : tie.After-all_named-named → tie.Then-row-le-MAX_ROW
-short c = c.before.before
 good : (c : tie.Then-good) → readable c.args.rule ≡ true
 good c = sym c.is_readable-good.ensures ∙ c.if-good.true
 
@@ -16,13 +14,13 @@ returns : tie.Need-returns-then-named
 unfolding row_tested
 returns c =
     let m = c in
-    rw (good (short m.before).before, le-leb _ _ (short m.before).if-row-le-MAX_ROW.true, ← m.names-names.ensures, ← m.all_named-named.ensures, c.if-named.true)
+    rw (good m.before.before.before.before, le-leb _ _ m.if-row-le-MAX_ROW.true, ← m.names-names.ensures, ← m.all_named-named.ensures, c.if-named.true)
 
 returns-2 : tie.Need-returns-then-row-le-MAX_ROW
 unfolding row_tested
 returns-2 c =
     let m = c in
-    rw (good (short m.before).before, le-leb _ _ (short m.before).if-row-le-MAX_ROW.true, ← m.names-names.ensures, ← m.all_named-named.ensures, c.if-named.false)
+    rw (good m.before.before.before.before, le-leb _ _ m.if-row-le-MAX_ROW.true, ← m.names-names.ensures, ← m.all_named-named.ensures, c.if-named.false)
 
 returns-3 : tie.Need-returns-then-good
 unfolding row_tested

@@ -12,11 +12,7 @@ abbrev decreases-loop : tie.decreases-loop-i
 decreases-loop a b n last i₀ i = last - i
 
 -- the start, and the loop's head
-abbrev entry : tie.At-loop-i invariant-loop decreases-loop → tie.Start invariant-loop decreases-loop
-entry c = c.before.before.before.before.before
-abbrev turn : tie.After-same_eight invariant-loop decreases-loop → tie.At-loop-i invariant-loop decreases-loop
-turn c = c.before.before
-same-long : (c : tie.At-loop-i invariant-loop decreases-loop) → length (entry c).args.a.now ≡ length (entry c).args.b.now
+same-long : (c : tie.At-loop-i invariant-loop decreases-loop) → length c.args.a.now ≡ length c.args.b.now
 same-long c = c.if-n-b.false
 
 returns : tie.Need-returns-then-n-b invariant-loop decreases-loop
@@ -39,7 +35,7 @@ same-eight-requires c κs = (omega arith, omega (arith, same-long c.before))
 
 returns-3 : tie.Need-returns-else-same_eight invariant-loop decreases-loop
 returns-3 c =
-    let s = entry (turn c.before) in
+    let s = c in
     eight-differ s.args.a.now s.args.b.now _ (sym c.same_eight.ensures ∙ c.if-same_eight.false)
 
 add-i : tie.Need-overflow_add-i invariant-loop decreases-loop
@@ -50,8 +46,8 @@ loop-less c = omega arith
 
 loop-again : tie.Need-loop-i-preserved invariant-loop decreases-loop
 loop-again c =
-    let t = turn c.before in
-    let s = entry t in
+    let t = c in
+    let s = t in
     eight-more s.args.a.now s.args.b.now _ (sym c.same_eight.ensures ∙ c.if-same_eight.true) t.loop-i.invariant
 
 same-eight-requires-2 : tie.Need-same_eight-requires-2 invariant-loop decreases-loop
@@ -59,7 +55,7 @@ same-eight-requires-2 c κs = (omega arith, omega (arith, same-long c.before))
 
 returns-4 : tie.Need-returns invariant-loop decreases-loop
 returns-4 c =
-    let s = entry c.before.before in
+    let s = c in
     let t = c in
     eight-last s.args.a.now s.args.b.now t.loop-i.i _ _ refl (same-long t.before.before) (omega arith) c.loop-i-test.false t.loop-i.invariant
     c.same_eight-2.ensures

@@ -41,7 +41,7 @@ returns-2 : tie.Need-returns
 returns-2 c e =
     let a = c.args in
     let (key, len) = (and-eq-true_iff (eqb (get_or a.names.now (a.k - 1 + max_atoms) 0) a.key) _).0 e in
-    let (some, short) = bounds c.before.before in
+    let (some, short) = bounds c.before.before.before in
     record { some = some; short = short; key_is = eqb-true _ _ key; len_is = eqb-true _ _ len }
 
 pub told_by_key_spec : {M : Type 1} → statement M

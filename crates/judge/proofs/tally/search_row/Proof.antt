@@ -17,26 +17,18 @@ abbrev decreases-loop : tie.decreases-loop-i
 decreases-loop row words₀ i₀ words i = length row - i
 
 -- the start, and the loop's head
-abbrev entry : tie.At-loop-i invariant-loop decreases-loop → tie.Start invariant-loop decreases-loop
-entry c = c.before.before
-abbrev turn : tie.In-loop-i invariant-loop decreases-loop → tie.At-loop-i invariant-loop decreases-loop
-turn c = c.before
-abbrev tested : tie.After-is_full invariant-loop decreases-loop → tie.In-loop-i invariant-loop decreases-loop
-tested c = c.before.before.before.before
-abbrev kept : tie.After-noted invariant-loop decreases-loop → tie.Else-is_full invariant-loop decreases-loop
-kept c = c.before
 
 -- the child's name
 abbrev name : tie.In-loop-i invariant-loop decreases-loop → ℕ
-name c = get_or (entry (turn c)).args.row.now (turn c).loop-i.i 0
+name c = get_or c.args.row.now c.loop-i.i 0
 
 number : (c : tie.In-loop-i invariant-loop decreases-loop) → name c ≤ 64
-number c = let s = entry (turn c) in upto-at 64 s.args.row.now s.requires.1 (turn c).loop-i.i c.loop-i-test.true
+number c = let s = c in upto-at 64 s.args.row.now s.requires.1 c.loop-i.i c.loop-i-test.true
 
-short : (c : tie.In-loop-i invariant-loop decreases-loop) → (turn c).loop-i.i ≤ 4096
-short c = omega (arith, c.loop-i-test.true, (entry (turn c)).requires.0)
+short : (c : tie.In-loop-i invariant-loop decreases-loop) → c.loop-i.i ≤ 4096
+short c = omega (arith, c.loop-i-test.true, c.requires.0)
 
-free : (c : tie.Else-is_full invariant-loop decreases-loop) → let i = tested c.before in one_left ≤ get_or (turn i).loop-i.words (128 + name i) 0
+free : (c : tie.Else-is_full invariant-loop decreases-loop) → let i = c in one_left ≤ get_or i.loop-i.words (128 + name i.before.before.before.before.before) 0
 free c = ltb-false _ _ (sym c.is_full.ensures ∙ c.if-is_full.false)
 
 loop-holds : tie.Need-loop-i-init invariant-loop decreases-loop
@@ -65,11 +57,11 @@ is-full-requires c κs = search rules
 
 returns : tie.Need-returns-then-is_full invariant-loop decreases-loop
 returns c =
-    let i = tested c.before in
-    let l = turn i in (
+    let i = c in
+    let l = i in (
       λ us t. row_told
-          (row-stops (l.loop-i.invariant.2 us t) i.loop-i-test.true (omega (arith, short i)) refl (number i)
-          (rw (seen_at l.loop-i.words (name i)) (ltb-true _ _ (sym c.is_full.ensures ∙ c.if-is_full.true)))),
+          (row-stops (l.loop-i.invariant.2 us t) i.loop-i-test.true (omega (arith, short i.before.before.before.before.before)) refl (number i.before.before.before.before.before)
+          (rw (seen_at l.loop-i.words (name i.before.before.before.before.before)) (ltb-true _ _ (sym c.is_full.ensures ∙ c.if-is_full.true)))),
       l.loop-i.invariant.1,
     )
 
@@ -80,13 +72,13 @@ noted-requires : tie.Need-noted-requires invariant-loop decreases-loop
 noted-requires c κs = free c
 
 add_words : tie.Need-overflow_add-words invariant-loop decreases-loop
-add_words c = let n = number (tested (kept c).before) in search rules
+add_words c = let n = number c.before.before.before.before.before.before in search rules
 
 mul_words : tie.Need-offset_bounds-words-name-in-loop-i invariant-loop decreases-loop
-mul_words c = let n = number (tested (kept c).before) in search rules
+mul_words c = let n = number c.before.before.before.before.before.before in search rules
 
 element-write-words : tie.Need-bounds-words-name-in-loop-i invariant-loop decreases-loop
-element-write-words c = let n = number (tested (kept c).before) in search rules
+element-write-words c = let n = number c.before.before.before.before.before.before in search rules
 
 add-i : tie.Need-overflow_add-i invariant-loop decreases-loop
 add-i c = search rules
@@ -96,20 +88,20 @@ loop-less c = search rules
 
 loop-again : tie.Need-loop-i-preserved invariant-loop decreases-loop
 loop-again c =
-    let k = kept c in
-    let i = tested k.before in
-    let l = turn i in
-    let e = seen_at l.loop-i.words (name i) in (
+    let k = c in
+    let i = k in
+    let l = i in
+    let e = seen_at l.loop-i.words (name i.before.before.before.before.before.before) in (
       omega (arith, i.loop-i-test.true),
-      same_set (entry l).args.words.now l.loop-i.words l.loop-i.invariant.1 (name i) c.noted.result,
-      λ us t. rw (seen-set l.loop-i.words (name i) c.noted.result)
-          (row_goes (l.loop-i.invariant.2 us t) i.loop-i-test.true (omega (arith, short i)) refl (number i) (rw e (free k)) (rw e c.noted.ensures)),
+      same_set l.args.words.now l.loop-i.words l.loop-i.invariant.1 (name i.before.before.before.before.before.before) c.noted.result,
+      λ us t. rw (seen-set l.loop-i.words (name i.before.before.before.before.before.before) c.noted.result)
+          (row_goes (l.loop-i.invariant.2 us t) i.loop-i-test.true (omega (arith, short i.before.before.before.before.before.before)) refl (number i.before.before.before.before.before.before) (rw e (free k.before)) (rw e c.noted.ensures)),
     )
 
 returns-2 : tie.Need-returns invariant-loop decreases-loop
 returns-2 c =
     let l = c in
-    (λ us t. row_ends (l.loop-i.invariant.2 us t) c.loop-i-test.false (omega (arith, (entry l.before).requires.0)), l.loop-i.invariant.1)
+    (λ us t. row_ends (l.loop-i.invariant.2 us t) c.loop-i-test.false (omega (arith, l.requires.0)), l.loop-i.invariant.1)
 
 pub search_row_spec : {M : Type 1} → statement M
 search_row_spec =
