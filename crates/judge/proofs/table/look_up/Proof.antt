@@ -40,9 +40,9 @@ look_up_spec =
     (tie.spec
     (λ c κs. search rules)
     (λ c. c.slot_of-slot.ensures.1)
-    (λ c. omega (arith, few c.before))
-    (λ c κs. few c.before)
-    (λ c. omega (arith, few (tried c)))
+    (λ c. omega (arith, few c.before.before))
+    (λ c κs. few c.before.before)
+    (λ c. omega (arith, few c.before.before.before.before))
     returns
     find-requires
     (λ c. search rules))
