@@ -59,7 +59,7 @@ returns-2 c =
       b.root_next-set.ensures,
       same b.before.before.before.before.before.before.before,
       next-tallied (nodes s.before.before.before.before.before.before.before.before.before.before.before) s.requires.1.0.0 s.args.children.now s.requires.1.0.1 s.requires.1.1.1 (fault-told (tallied b.before.before.before.before.before.before.before) e)
-          (seen_in f.last.1.0) ((tallied b.before.before.before.before.before.before.before).tallied e),
+          (seen_in f.new.words) ((tallied b.before.before.before.before.before.before.before).tallied e),
     )
     at n.list_names.ensures
 

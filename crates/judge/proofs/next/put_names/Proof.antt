@@ -32,9 +32,9 @@ loop-again c =
     let v = c.loop-i.invariant.1 in (
       search rules,
       ⊎_elim
-          (λ w. rw (w.1, w.2) (placed-more v w.0.true (room c.before w.0.true)))
-          (λ w. rw (w.1, w.2) (placed_same v w.0.left))
-          c.if-left-eq1.branch,
+          (λ w. rw (w.row-is, w.found-is) (placed-more v w.if-left-eq1.true (room c.before w.if-left-eq1.true)))
+          (λ w. rw (w.row-is, w.found-is) (placed_same v w.if-left-eq1.false))
+          c.if-left-eq1.branch-raw,
     )
 
 same_length : tie.Need-shape_of-row invariant-loop decreases-loop

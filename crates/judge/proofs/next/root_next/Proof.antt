@@ -24,7 +24,7 @@ stack_at : (words sets : List ℕ) (i : ℕ) (d : Ahead) → length (stack_in wo
     → get_or (stack_in words sets) i d ≡ record { part = attribute_in (get_or words i 0); next = get_or sets i 0 }
 stack_at words sets i d l h = aheads-at (take 128 words) sets i d (omega arith) ∙ rw (get_or-take 128 words i 0 h)
 
-stack_set : (words sets : List ℕ) (i w s : ℕ) {x : Ahead} → i < 128 → attribute_in w ≡ x.part-1 → s ≡ x.next
+stack_set : (words sets : List ℕ) (i w s : ℕ) {x : Ahead} → i < 128 → attribute_in w ≡ x.part → s ≡ x.next
     → stack_in (set words i w) (set sets i s) ≡ set (stack_in words sets) i x
 stack_set words sets i w s h e f = rw (take-set-lt 128 words i w h) (aheads-set (take 128 words) sets i w s ∙ rw (e, f))
 

@@ -14,7 +14,7 @@ abbrev read : tie.In-Past → tie.After-read_whole
 read c = c.before
 whole : (c : tie.In-Past)
     → let last = c.read_whole.new in
-    Whole c.args.model.now last.1.0 (last.1.1.0, last.1.1.1.0) c.in-Past.past
+    Whole c.args.model.now last.work (last.names, last.heads) c.in-Past.past
 whole c = whole-past c.read_whole.ensures c.in-Past.is
 
 -- the arrays are fresh
