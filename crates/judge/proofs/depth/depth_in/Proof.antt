@@ -19,6 +19,7 @@ decreases-loop words len stack₀ top₀ i₀ stack top i = i
 -- the turn, from where its node's members are known, and the call
 abbrev turn : tie.After-members_of invariant-loop decreases-loop → tie.At-loop-i invariant-loop decreases-loop
 turn c = c.before.before.before.before.before.before
+
 loop-holds : tie.Need-loop-i-init invariant-loop decreases-loop
 loop-holds c =
     let a = c.args in

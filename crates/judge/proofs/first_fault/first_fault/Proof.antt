@@ -9,8 +9,10 @@ use Rattle.judge.proofs.first_fault.first_fault.Tie as tie
 -- places: the start, where the row was tested, where it has passed, and where it was packed
 abbrev passed : tie.After-pack → tie.In-Passed
 passed c = c.before.before
+
 abbrev packed : tie.After-words-in-Passed-1 → tie.After-pack
 packed c = c.before
+
 test : (c : tie.In-Passed)
     → let t = c in row_tested t.args.rule t.args.row.now ≡ Passed c.in-Passed.field-0
 test c = sym c.test_row.ensures ∙ c.in-Passed.is

@@ -8,8 +8,10 @@ use Rattle.judge.proofs.next.next_children.Tie as tie
 -- places: the start, where the texts were read, and where both were
 abbrev start : tie.After-read_children → tie.Start
 start c = c.before.before.before.before.before
+
 abbrev read : tie.In-Both → tie.After-read_children
 read c = c.before
+
 read-children-requires : tie.Need-read_children-requires
 read-children-requires c κs = (refl, refl)
 

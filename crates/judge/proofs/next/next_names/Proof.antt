@@ -8,6 +8,7 @@ use Rattle.judge.proofs.next.next_names.Tie as tie
 -- places: the start, where the row was tested, where it has passed
 abbrev passed : tie.After-pack → tie.In-Passed
 passed c = c.before.before
+
 passes : (c : tie.In-Passed) → let s = c in Passes s.args.rule s.args.children.now c.in-Passed.names
 passes c = tested _ _ (sym c.test_row.ensures ∙ c.in-Passed.is)
 

@@ -59,8 +59,10 @@ seen_at c k = seen_of c.args.children (get_or (seen_in c.args.words.now) k 0)
 -- the node of a turn, that turn, and the start
 abbrev node : tie.After-seen_of-here invariant-loop2 decreases-loop2 invariant-loop decreases-loop → tie.After-kind_in-kind invariant-loop2 decreases-loop2 invariant-loop decreases-loop
 node c = c.before.before.before.before
+
 abbrev turn : tie.After-kind_in-kind invariant-loop2 decreases-loop2 invariant-loop decreases-loop → tie.At-loop-i invariant-loop2 decreases-loop2 invariant-loop decreases-loop
 turn c = c.before.before.before.before
+
 abbrev start : tie.At-loop-i invariant-loop2 decreases-loop2 invariant-loop decreases-loop → tie.Start invariant-loop2 decreases-loop2 invariant-loop decreases-loop
 start l = l.before
 

@@ -93,12 +93,15 @@ group-claims t = (
   number-on-reads.Asked,
   number-on-reads.Learnt,
 )
+
 abbrev group-Inv-loop : group-lts.invariant-loop-past
 group-Inv-loop text work₀ names₀ heads₀ left node at next₀ sign₀ members₀ height₀ work names heads next sign members height =
     AtMember text work (names, heads) at (cursor_in next) left node sign members height (tail (stack_of (here text at)))
+
 abbrev group-μ-loop : group-lts.decreases-loop-past
 group-μ-loop text work₀ names₀ heads₀ left node at next₀ sign₀ members₀ height₀ work names heads next sign members height =
     length text - (cursor_in next).at
+
 abbrev member-claims : ℕ → member-lts.Claims
 member-claims t = (
   name-begins-reads.Asked,
@@ -114,6 +117,7 @@ member-claims t = (
   mark-reads.Asked,
   mark-reads.Learnt,
 )
+
 abbrev member-by-claims : ℕ → member-by-lts.Claims
 member-by-claims t = (
   cursor-in-reads.Asked,
@@ -138,42 +142,42 @@ module _ (t : ℕ) where
       → group-lts.At-loop-past (group-claims t) (group_at t) group.Post group-Inv-loop group-μ-loop
   turn c = c.before.before.before.before
 
-  abbrev called : group-lts.In-Past-2 (group-claims t) (group_at t) group.Post group-Inv-loop group-μ-loop
+  abbrev called : group-lts.In-Past (group-claims t) (group_at t) group.Post group-Inv-loop group-μ-loop
       → group-lts.After-member_by-got (group-claims t) (group_at t) group.Post group-Inv-loop group-μ-loop
-  called c = c.before.before.before
+  called c = c.before.before
 
   -- what it gave
-  gave : (c : group-lts.In-Past-2 (group-claims t) (group_at t) group.Post group-Inv-loop group-μ-loop)
-      → got_in (called c).member_by-got.result ≡ Past c.in-Past.past
+  gave : (c : group-lts.In-Past (group-claims t) (group_at t) group.Post group-Inv-loop group-μ-loop)
+      → got_in c.member_by-got.result ≡ Past c.in-Past.past
   gave c = sym c.got_in.ensures ∙ c.in-Past.is
 
   -- the member of a turn
-  behind : (c : group-lts.In-Past-2 (group-claims t) (group_at t) group.Post group-Inv-loop group-μ-loop)
-      → let m = (called c).member_by-got in
-      let text = (group-start (tested (turn (called c)))).args.text.now in
-      let p = (cursor_in (turn (called c)).loop-past.next).at in
-      Behind text m.last.1.0 (m.last.1.1.0, m.last.1.1.1.0) p (stack_of (here text p)) c.in-Past.past
-  behind c = member-past (called c).member_by-got.ensures (gave c)
+  behind : (c : group-lts.In-Past (group-claims t) (group_at t) group.Post group-Inv-loop group-μ-loop)
+      → let m = c.member_by-got in
+      let text = c.args.text.now in
+      let p = (cursor_in c.loop-past.next).at in
+      Behind text m.new.work (m.new.names, m.new.heads) p (stack_of (here text p)) c.in-Past.past
+  behind c = member-past c.member_by-got.ensures (gave c)
 
   -- the byte behind it, and how high the members are
   abbrev past : group-lts.After-shared_slice_known-in-Past-1 (group-claims t) (group_at t) group.Post group-Inv-loop group-μ-loop
-      → group-lts.In-Past-2 (group-claims t) (group_at t) group.Post group-Inv-loop group-μ-loop
-  past c = c.before.before.before
+      → group-lts.In-Past (group-claims t) (group_at t) group.Post group-Inv-loop group-μ-loop
+  past c = c.before.before
 
   abbrev read : group-lts.After-larger-height (group-claims t) (group_at t) group.Post group-Inv-loop group-μ-loop
-      → group-lts.In-Past-2 (group-claims t) (group_at t) group.Post group-Inv-loop group-μ-loop
+      → group-lts.In-Past (group-claims t) (group_at t) group.Post group-Inv-loop group-μ-loop
   read c = past c.before
 
   -- no byte is left, or this one
   abbrev more : (c : group-lts.After-larger-height (group-claims t) (group_at t) group.Post group-Inv-loop group-μ-loop)
-      → (read c).in-Past.past.at ≡ length (group-start (tested (turn (called (read c))))).args.text.now → ⊥
+      → c.in-Past.past.at ≡ length c.args.text.now → ⊥
   more c = c.if-p-text.false
 
   group-empties : (c : group-lts.Then-stands (group-claims t) (group_at t) group.Post group-Inv-loop group-μ-loop)
-      → let s = group-start c.before in
+      → let s = c in
       let a = s.args in
       Closed a.text.now a.work.now (a.names.now, a.heads.now) a.c.at (tail (stack_of (here a.text.now a.c.at))) (one_on a.c 0)
-  group-empties c = group_empty (group-start c.before).requires.1 (sym c.stands.ensures ∙ c.if-stands.true)
+  group-empties c = group_empty c.requires.1 (sym c.stands.ensures ∙ c.if-stands.true)
 
   group-closed-requires : group-lts.Need-closed-requires (group-claims t) (group_at t) group.Post group-Inv-loop group-μ-loop
   group-closed-requires c κs = let a = (group-empties c).at_is in omega (arith, a.within, a.sized.1)
@@ -182,74 +186,74 @@ module _ (t : ℕ) where
   group-returns c = rw c.closed.ensures (group-empties c.before)
 
   group-cursor-number-requires : group-lts.Need-cursor_number-next-requires (group-claims t) (group_at t) group.Post group-Inv-loop group-μ-loop
-  group-cursor-number-requires c κs = expecting-fits (group-start c.before).requires.1.expecting
+  group-cursor-number-requires c κs = expecting-fits c.requires.1.expecting
 
   group-loop-holds : group-lts.Need-loop-past-init (group-claims t) (group_at t) group.Post group-Inv-loop group-μ-loop
   group-loop-holds c =
-      let n = c.before in
-      rw c.cursor_number-next.ensures.0 (group-begins (group-start n.before).requires.1 (sym n.stands.ensures ∙ n.if-stands.false))
+      let n = c in
+      rw c.cursor_number-next.ensures.0 (group-begins n.requires.1 (sym n.stands.ensures ∙ n.if-stands.false))
 
   group-member-by-requires : group-lts.Need-member_by-got-requires (group-claims t) (group_at t) group.Post group-Inv-loop group-μ-loop
   group-member-by-requires c κs =
-      let l = c.before.before.before in
+      let l = c in
       let i = l.loop-past.invariant in
-      (omega (arith, (group-start (tested l)).requires.0, i.inside-first.expecting.at_is.within, i.from), group-ready i)
+      (omega (arith, l.requires.0, i.inside.expecting.at_is.within, i.from), group-ready i)
 
   group-returns-2 : group-lts.Need-returns-then-p-text (group-claims t) (group_at t) group.Post group-Inv-loop group-μ-loop
-  group-returns-2 c = let p = c.before.before in group-stops (turn (called p)).loop-past.invariant (behind p) c.if-p-text.true
+  group-returns-2 c = let p = c in group-stops p.loop-past.invariant (behind p.before) c.if-p-text.true
 
   group-read-b : group-lts.Need-bounds-text-p (group-claims t) (group_at t) group.Post group-Inv-loop group-μ-loop
-  group-read-b c = past-inside (turn (called (past c))).loop-past.invariant (behind (past c)) c.if-p-text.false
+  group-read-b c = past-inside c.loop-past.invariant (behind c.before.before) c.if-p-text.false
 
   -- so the place goes into a number
-  place-fits : (c : group-lts.After-larger-height (group-claims t) (group_at t) group.Post group-Inv-loop group-μ-loop) → (read c).in-Past.past.at < max_text
-  place-fits c = omega (arith, group-read-b c.before, (group-start (tested (turn (called (read c))))).requires.1.expecting.at_is.sized.1)
+  place-fits : (c : group-lts.After-larger-height (group-claims t) (group_at t) group.Post group-Inv-loop group-μ-loop) → c.in-Past.past.at < max_text
+  place-fits c = omega (arith, past-inside c.loop-past.invariant (behind c.before.before.before) c.if-p-text.false, c.requires.1.expecting.at_is.sized.1)
 
   group-height-over-requires : group-lts.Need-height_over-requires (group-claims t) (group_at t) group.Post group-Inv-loop group-μ-loop
   group-height-over-requires c κs =
-      let b = c.before.before in
-      rw b.larger-height.ensures (members-low (turn (called (read b))).loop-past.invariant (behind (read b)))
+      let b = c in
+      rw b.larger-height.ensures (members-low b.loop-past.invariant (behind b.before.before.before.before.before.before))
 
   group-returns-3 : group-lts.Need-returns-then-b-eq41 (group-claims t) (group_at t) group.Post group-Inv-loop group-μ-loop
   group-returns-3 c =
-      let h = c.before in
-      let p = h.before in
-      let b = p.before.before in
+      let h = c in
+      let p = h in
+      let b = p in
       rw c.closed-then-b-eq41.ensures
-      (group-ends (turn (called (read b))).loop-past.invariant (behind (read b)) (more b) p.if-b-eq41.true _ p.packed_group.ensures
+      (group-ends b.loop-past.invariant (behind b.before.before.before.before.before.before.before.before) (more b.before.before.before.before.before) p.if-b-eq41.true _ p.packed_group.ensures
       (rw (← b.larger-height.ensures) h.height_over.ensures))
 
   -- the cursor in the number that the call gave
-  cursor-past : (c : group-lts.In-Past-2 (group-claims t) (group_at t) group.Post group-Inv-loop group-μ-loop)
-      → cursor_in (called c).member_by-got.result ≡ c.in-Past.past
-  cursor-past c = past_is (called c).member_by-got.result (gave c)
+  cursor-past : (c : group-lts.In-Past (group-claims t) (group_at t) group.Post group-Inv-loop group-μ-loop)
+      → cursor_in c.member_by-got.result ≡ c.in-Past.past
+  cursor-past c = past_is c.member_by-got.result (gave c)
 
   group-number-on-requires : group-lts.Need-number_on-next-requires (group-claims t) (group_at t) group.Post group-Inv-loop group-μ-loop
-  group-number-on-requires c κs = let b = c.before.before.before in rw (cursor-past (read b)) (omega (arith, place-fits b))
+  group-number-on-requires c κs = let b = c in rw (cursor-past b.before.before.before.before.before.before) (omega (arith, place-fits b.before.before.before))
 
   group-loop-less : group-lts.Need-loop-past-smaller (group-claims t) (group_at t) group.Post group-Inv-loop group-μ-loop
   group-loop-less c =
-      let b = c.before.before.before.before in
-      rw (c.number_on-next.ensures, cursor-past (read b)) (turn-less (turn (called (read b))).loop-past.invariant (behind (read b)) (more b))
+      let b = c in
+      rw (c.number_on-next.ensures, cursor-past b.before.before.before.before.before.before.before) (turn-less b.loop-past.invariant (behind b.before.before.before.before.before.before.before) (more b.before.before.before.before))
 
   group-loop-again : group-lts.Need-loop-past-preserved (group-claims t) (group_at t) group.Post group-Inv-loop group-μ-loop
   group-loop-again c =
-      let p = c.before.before in
-      let b = p.before.before in
-      rw (c.number_on-next.ensures, cursor-past (read b), b.larger-height.ensures)
-      (group-joins (turn (called (read b))).loop-past.invariant (behind (read b)) (more b) p.if-b-eq41.false
+      let p = c in
+      let b = p in
+      rw (c.number_on-next.ensures, cursor-past b.before.before.before.before.before.before.before, b.larger-height.ensures)
+      (group-joins b.loop-past.invariant (behind b.before.before.before.before.before.before.before) (more b.before.before.before.before) p.if-b-eq41.false
       (sym p.parts.ensures ∙ c.if-parts.true))
 
   group-returns-4 : group-lts.Need-returns-else-parts (group-claims t) (group_at t) group.Post group-Inv-loop group-μ-loop
   group-returns-4 c =
-      let p = c.before in
-      let b = p.before.before in
-      group-bad (turn (called (read b))).loop-past.invariant (behind (read b)) (more b) p.if-b-eq41.false (sym p.parts.ensures ∙ c.if-parts.false)
+      let p = c in
+      let b = p in
+      group-bad b.loop-past.invariant (behind b.before.before.before.before.before.before) (more b.before.before.before) p.if-b-eq41.false (sym p.parts.ensures ∙ c.if-parts.false)
 
   group-returns-5 : group-lts.Need-returns-in-Fault (group-claims t) (group_at t) group.Post group-Inv-loop group-μ-loop
   group-returns-5 c =
-      let f = c.before in
-      let g = f.before.before in
+      let f = c in
+      let g = f in
       rw (sym g.got_in.ensures ∙ f.in-Fault.is) at g.member_by-got.ensures
 
   -- The member reader: the start from the test whether a name begins, and that test from where a bracket stands.
@@ -260,87 +264,87 @@ module _ (t : ℕ) where
   test c = c.before.before.before
 
   bracket : (c : member-lts.Then-stands (member-claims t) (member-at t) member.Post)
-      → let a = (member-start (test c)).args in is a.text.now (code "(") a.c.at ≡ true
-  bracket c = sym c.stands.ensures ∙ c.if-p-text.true
+      → let a = c.args in is a.text.now (code "(") a.c.at ≡ true
+  bracket c = sym c.stands.ensures ∙ c.if-stands.true
 
   -- a group begins there
   abbrev stood : member-lts.Else-left-eq0 (member-claims t) (member-at t) member.Post → member-lts.Then-stands (member-claims t) (member-at t) member.Post
   stood c = c.before.before
 
   opening : (c : member-lts.Else-left-eq0 (member-claims t) (member-at t) member.Post)
-      → let a = (member-start (test (stood c))).args in Opening a.text.now a.c a.left
-  opening c = group-opening (member-start (test (stood c))).requires.1 (bracket (stood c)) c.if-b-eq41.false c.if-parts.false
+      → let a = c.args in Opening a.text.now a.c a.left
+  opening c = group-opening c.requires.1 (bracket c.before.before) c.if-node-eq-MAX_NODES.false c.if-left-eq0.false
 
   -- behind the group that begins there
-  abbrev entered : member-lts.In-Past-2 (member-claims t) (member-at t) member.Post → member-lts.After-inside-first (member-claims t) (member-at t) member.Post
-  entered c = c.before.before.before.before.before.before
+  abbrev entered : member-lts.In-Past (member-claims t) (member-at t) member.Post → member-lts.After-inside-first (member-claims t) (member-at t) member.Post
+  entered c = c.before.before.before.before.before
 
-  abbrev begun : member-lts.In-Past-2 (member-claims t) (member-at t) member.Post → member-lts.Else-left-eq0 (member-claims t) (member-at t) member.Post
-  begun c = (entered c).before
+  abbrev begun : member-lts.In-Past (member-claims t) (member-at t) member.Post → member-lts.Else-left-eq0 (member-claims t) (member-at t) member.Post
+  begun c = c.before.before.before.before.before.before.before
 
-  closed : (c : member-lts.In-Past-2 (member-claims t) (member-at t) member.Post)
+  closed : (c : member-lts.In-Past (member-claims t) (member-at t) member.Post)
       → let g = c.group in
-      let a = (member-start (test (stood (begun c)))).args in
+      let a = c.args in
       Closed a.text.now g.new.work (g.new.names, g.new.heads) (a.c.at + 1) (tail (stack_of (here a.text.now (a.c.at + 1))))
       c.in-Past.past
-  closed c = group-past (rw (entered c).inside-first.ensures at c.group.ensures) c.in-Past.is
+  closed c = group-past (rw c.inside-first.ensures at c.group.ensures) c.in-Past.is
 
   -- from where its names were counted
-  abbrev ended : member-lts.After-struct_known-in-Past-1 (member-claims t) (member-at t) member.Post → member-lts.In-Past-2 (member-claims t) (member-at t) member.Post
-  ended c = c.before.before.before
+  abbrev ended : member-lts.After-struct_known-in-Past-1 (member-claims t) (member-at t) member.Post → member-lts.In-Past (member-claims t) (member-at t) member.Post
+  ended c = c.before.before
 
   -- it has a name, or no `!` behind it
   fits : (j : member-lts.Joined-past-c (member-claims t) (member-at t) member.Post)
-      → let g = ended j.before in
-      let a = (member-start (test (stood (begun g)))).args in
+      → let g = j in
+      let a = g.args in
       g.in-Past.past.names ≡ a.c.names → is a.text.now (code "!") g.in-Past.past.at ≡ false
-  fits j z = ⊎_elim (λ w. sym w.1.ensures ∙ w.2.left) (λ w. absurd (w.left z)) j.if-past-c.branch
+  fits j z = ⊎_elim (λ w. sym w.stands-then-past-c.ensures ∙ w.if-stands-2.false) (λ w. absurd (w.if-past-c.false z)) j.if-past-c.branch-raw
 
   member-atom-requires : member-lts.Need-atom-requires (member-claims t) (member-at t) member.Post
   member-atom-requires c κs =
-      let n = c.before.before.before in
-      ((member-start n.before).requires.1.expecting, sym n.name_begins.ensures ∙ n.if-stands.true)
+      let n = c in
+      (n.requires.1.expecting, sym n.name_begins.ensures ∙ n.if-name_begins.true)
 
   member-returns-2 : member-lts.Need-returns-else-stands (member-claims t) (member-at t) member.Post
   member-returns-2 c =
-      let n = c.before.before in
-      member-bad (member-start n.before).requires.1 (sym n.name_begins.ensures ∙ n.if-stands.false) (sym c.stands.ensures ∙ c.if-p-text.false)
+      let n = c in
+      member-bad n.requires.1 (sym n.name_begins.ensures ∙ n.if-name_begins.false) (sym c.stands.ensures ∙ c.if-stands.false)
 
   member-returns-3 : member-lts.Need-returns-then-node-eq-MAX_NODES (member-claims t) (member-at t) member.Post
-  member-returns-3 c = many-groups (member-start (test c.before)).requires.1 (bracket c.before) c.if-b-eq41.true
+  member-returns-3 c = many-groups c.requires.1 (bracket c.before) c.if-node-eq-MAX_NODES.true
 
   member-returns-4 : member-lts.Need-returns-then-left-eq0 (member-claims t) (member-at t) member.Post
   member-returns-4 c =
-      let b = c.before.before in
-      many-brackets (member-start (test b)).requires.1 (bracket b) c.if-b-eq41.false c.if-parts.true
+      let b = c in
+      many-brackets b.requires.1 (bracket b.before.before) c.if-node-eq-MAX_NODES.false c.if-left-eq0.true
 
   member-inside-requires : member-lts.Need-inside-first-requires (member-claims t) (member-at t) member.Post
   member-inside-requires c κs =
-      let a = (member-start (test (stood c))).requires.1.expecting.at_is in
-      (omega (arith, a.sized, (opening c).inside-first), (opening c).few)
+      let a = c.requires.1.expecting.at_is in
+      (omega (arith, a.sized, (opening c.before).inside), (opening c.before).few)
 
   member-group-requires : member-lts.Need-group-requires (member-claims t) (member-at t) member.Post
   member-group-requires c κs =
-      let i = c.before.before.before in
-      let o = i.before in
-      let s = member-start (test (stood o)) in
-      rw i.inside-first.ensures (omega (arith, s.requires.0, (opening o).inside-first), goes_in s.requires.1 (opening o))
+      let i = c in
+      let o = i in
+      let s = o in
+      rw i.inside-first.ensures (omega (arith, s.requires.0, (opening o.before.before.before.before.before).inside), goes_in s.requires.1 (opening o.before.before.before.before.before))
 
   member-returns-5 : member-lts.Need-returns-then-stands-2 (member-claims t) (member-at t) member.Post
   member-returns-5 c =
-      let n = c.before.before in
-      let g = ended n.before in
-      empty-marked (member-start (test (stood (begun g)))).requires.1 (opening (begun g)) (closed g) n.if-past-c.true
+      let n = c in
+      let g = n in
+      empty-marked g.requires.1 (opening g.before.before.before.before.before.before.before.before.before.before.before.before) (closed g.before.before.before.before.before) n.if-past-c.true
       (sym c.stands-then-past-c.ensures ∙ c.if-stands-2.true)
 
   member-mark-requires : member-lts.Need-mark-requires (member-claims t) (member-at t) member.Post
-  member-mark-requires c κs = (opening (begun (ended c.before.before))).few
+  member-mark-requires c κs = (opening c.before.before.before.before.before.before.before.before.before.before.before).few
 
   member-returns-6 : member-lts.Need-returns-after-past-c (member-claims t) (member-at t) member.Post
   member-returns-6 c =
-      let j = c.before.before in
-      let g = ended j.before in
-      group-member (member-start (test (stood (begun g)))).requires.1 (opening (begun g)) (closed g) (fits j) c.mark.ensures
+      let j = c in
+      let g = j in
+      group-member g.requires.1 (opening g.before.before.before.before.before.before.before.before.before.before.before.before) (closed g.before.before.before.before.before) (fits j.before.before) c.mark.ensures
 
   -- The member reader by numbers.
   abbrev numbered : member-by-lts.After-cursor_in (member-by-claims t) (member-by-at t) member-by.Post
@@ -348,23 +352,24 @@ module _ (t : ℕ) where
   numbered c = c.before.before.before.before.before
 
   member-by-member-requires : member-by-lts.Need-member-requires (member-by-claims t) (member-by-at t) member-by.Post
-  member-by-member-requires c κs = let s = numbered c in rw c.cursor_in.ensures (omega (arith, s.requires.0), s.requires.1)
+  member-by-member-requires c κs = let s = c in rw c.cursor_in.ensures (omega (arith, s.requires.0), s.requires.1)
 
   -- what it gives
   member-gave : (c : member-by-lts.After-member (member-by-claims t) (member-by-at t) member-by.Post)
-      → let a = (numbered c.before).args in
-      let m = c.member.new.1 in
+      → let a = c.args in
+      let m = c.member.new in
       let p = (cursor_in a.number).at in
-      Member a.text.now m.0 (m.1.0, m.1.1.0) p (stack_of (here a.text.now p)) c.member.result
+      Member a.text.now m.work (m.names, m.heads) p (stack_of (here a.text.now p)) c.member.result
   member-gave c = rw c.cursor_in.ensures at c.member.ensures
 
   member-by-got-number-requires : member-by-lts.Need-got_number-requires (member-by-claims t) (member-by-at t) member-by.Post
   member-by-got-number-requires c κs =
-      let s = numbered c.before in
+      let s = c in
       member-fits s.args.text.now _ _ _ _ s.requires.1.expecting.at_is.sized c.member.result (member-gave c)
 
   member-by-returns : member-by-lts.Need-returns (member-by-claims t) (member-by-at t) member-by.Post
   member-by-returns c = rw c.got_number.ensures (member-gave c.before)
+
 pub +group_member_member_by_spec : {M : Type 1} → statement M
 +group_member_member_by_spec = close μ-group μ-member μ-member-by
     (λ t. group-lts.spec (group-claims t) (group_at t) group.Post group-Inv-loop group-μ-loop
@@ -378,13 +383,13 @@ pub +group_member_member_by_spec : {M : Type 1} → statement M
     (λ c. search rules)
     (group-returns-2 t)
     (group-read-b t)
-    (λ c. omega (arith, members-fit (turn t (called t (past t c))).loop.inv))
+    (λ c. omega (arith, members-fit c.loop-past.invariant))
     (λ c κs. search rules)
-    (λ c κs. sign-known (turn t (called t (read t c.before))).loop.inv)
-    (λ c. omega (arith, node-fits (turn t (called t (read t c.before.before))).loop.inv))
-    (λ c. omega (arith, node-fits (turn t (called t (read t c.before.before))).loop.inv))
+    (λ c κs. sign-known c.loop-past.invariant)
+    (λ c. omega (arith, node-fits c.loop-past.invariant))
+    (λ c. omega (arith, node-fits c.loop-past.invariant))
     (group-height-over-requires t)
-    (λ c κs. place-fits t c.before.before.before)
+    (λ c κs. place-fits t c.before.before.before.before)
     (group-returns-3 t)
     (λ c κs. search rules)
     (group-number-on-requires t)
@@ -402,9 +407,9 @@ pub +group_member_member_by_spec : {M : Type 1} → statement M
     (member-returns-3 t)
     (member-returns-4 t)
     (λ c. omega (arith, (opening t c).few))
-    (λ c. omega (arith, (opening t c).few))
+    (λ c. omega (arith, (opening t c.before).few))
     (member-inside-requires t)
-    (λ c. omega (arith, (opening t c.before.before.before.before).deeper))
+    (λ c. omega (arith, (opening t c.before.before.before.before.before).deeper))
     (member-group-requires t)
     (λ c. search rules)
     (λ c κs. omega arith)
@@ -412,7 +417,7 @@ pub +group_member_member_by_spec : {M : Type 1} → statement M
     (member-mark-requires t)
     (λ c. search rules)
     (member-returns-6 t)
-    (λ c. rw c.before.f.given.1 at c.before.before.before.group.ensures))
+    (λ c. rw c.in-Fault.is at c.group.ensures))
     λ t. member-by-lts.spec (member-by-claims t) (member-by-at t) member-by.Post
     (λ c κs. search rules)
     (member-by-member-requires t)

@@ -27,7 +27,6 @@ pub model_outcome_spec : {M : Type 1} → statement M
 model_outcome_spec =
     tie.close
     (tie.spec
-    (λ c. search rules)
     read-children-requires
     (λ c. search rules)
     (λ c. search rules)

@@ -18,10 +18,13 @@ decreases-loop text name names n i₀ i = n - i
 -- the start; where the first of two ends is found; and the turn that they are of
 abbrev start : tie.After-lesser-n invariant-loop decreases-loop → tie.Start invariant-loop decreases-loop
 start c = c.before.before.before
+
 abbrev first : tie.After-same_bytes invariant-loop decreases-loop → tie.After-lesser-start invariant-loop decreases-loop
 first c = c.before.before.before.before.before
+
 abbrev turn : tie.After-same_bytes invariant-loop decreases-loop → tie.At-loop-i invariant-loop decreases-loop
 turn c = c.before.before.before.before.before.before.before.before.before
+
 loop-holds : tie.Need-loop-i-init invariant-loop decreases-loop
 loop-holds c =
     let l : length c.args.names.places ≡ 64 = search (rules, unmapped) in

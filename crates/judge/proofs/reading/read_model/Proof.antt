@@ -4,7 +4,6 @@ use Rattle.judge.specs.Reading.Whole.{Whole, whole-past, refused-is, reading-is}
 use Rattle.judge.proofs.reading.read_model.Statement.{statement}
 use Rattle.judge.proofs.reading.read_model.Tie as tie
 
-
 -- the whole text was read
 whole : (c : tie.In-Past)
     → let r = c in

@@ -8,6 +8,7 @@ use Rattle.judge.proofs.reply.judge_children.Tie as tie
 -- places: where the texts were read, and where both were
 abbrev read : tie.In-Both → tie.After-read_children
 read c = c.before
+
 read-children-requires : tie.Need-read_children-requires
 read-children-requires c κs = (refl, refl)
 

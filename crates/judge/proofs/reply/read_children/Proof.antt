@@ -10,8 +10,10 @@ use Rattle.judge.proofs.reply.read_children.Tie as tie
 -- places: the start, where the model text was read, where there are children, and where they were read
 abbrev start : tie.After-read_whole → tie.Start
 start c = c.before.before.before.before.before.before
+
 abbrev read : tie.In-Past → tie.After-read_whole
 read c = c.before
+
 whole : (c : tie.In-Past)
     → let last = c.read_whole.new in
     Whole c.args.model.now last.work (last.names, last.heads) c.in-Past.past

@@ -25,10 +25,13 @@ decreases-loop model names n heads children words₀ count₀ at₀ words count 
 -- places: the start, the loop's head, and where the child is known to be a name and looked up
 abbrev known : tie.After-look_up-number invariant-loop decreases-loop → tie.Then-is_child invariant-loop decreases-loop
 known c = c.before.before
+
 abbrev start : tie.Then-is_child invariant-loop decreases-loop → tie.Start invariant-loop decreases-loop
 start c = c.before.before.before.before.before.before.before.before.before
+
 abbrev head : tie.After-look_up-number invariant-loop decreases-loop → tie.At-loop-at invariant-loop decreases-loop
 head c = c.before.before.before.before.before.before.before.before
+
 met : (c : tie.Then-is_child invariant-loop decreases-loop) → NameMet c.args.children.now c.loop-at.at c.name_end-read.result.end
 met c =
     met-name c.args.children.now c.loop-at-test.true c.name_end-read.ensures.end_is

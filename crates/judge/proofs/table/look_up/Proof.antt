@@ -9,8 +9,10 @@ use Rattle.judge.proofs.table.look_up.Tie as tie
 -- places: the start, and where the latest name is tried
 abbrev start : tie.After-slot_of-slot → tie.Start
 start c = c.before.before.before
+
 abbrev tried : tie.Then-told_by_key → tie.After-slot_of-slot
 tried c = c.before.before.before.before
+
 begun : (c : tie.After-slot_of-slot)
     → let a = c.args in Entered (parts_in a.text.now a.names.now a.n) a.name.now (get_or a.heads.now c.slot_of-slot.result 0)
 begun c = let s = c in slot-starts s.requires.0 (s.requires.1, c.slot_of-slot.ensures.0, c.slot_of-slot.ensures.1)
