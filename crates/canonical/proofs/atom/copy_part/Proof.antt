@@ -6,14 +6,11 @@ use borrow.Author.Rules.{rules}
 use Rattle.canonical.proofs.atom.copy_part.Statement.{statement}
 use Rattle.canonical.proofs.atom.copy_part.Tie as tie
 
-abbrev start : tie.After-put → tie.Start
-start p = p.before.before.before.before.before
-
 returns : tie.Need-returns
 returns c =
-    let p = c.before.before in
-    put-fits _ _ _ _ _ (rw (length-take, length-drop) (omega (arith, (start p).requires))) p.put.ensures.0 p.put.ensures.1
+    let p = c in
+    put-fits _ _ _ _ _ (rw (length-take, length-drop) (omega (arith, p.requires))) p.put.ensures.0 p.put.ensures.1
 
-pub copy-part-spec : {M : Type 1} → statement M
-copy-part-spec =
+pub copy_part_spec : {M : Type 1} → statement M
+copy_part_spec =
     tie.close (tie.spec (λ c. search rules) (λ c. search rules) (λ c. search rules) (λ c κs. search rules) (λ c. search rules) returns)

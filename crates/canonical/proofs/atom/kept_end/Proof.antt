@@ -8,38 +8,35 @@ use Rattle.canonical.proofs.atom.kept_end.Statement.{statement}
 use Rattle.canonical.proofs.atom.kept_end.Tie as tie
 
 -- behind the call
-abbrev entry : tie.After-count-end → tie.Start
-entry c = c.before.before
+ends : (c : tie.After-count_end-end) → AtomEnds c.args.text.now c.args.at c.args.name c.count_end-end.result
+ends c = record { name_is = c.requires.1; count_is = c.count_end-end.ensures }
 
-ends : (c : tie.After-count-end) → AtomEnds (entry c).args.text.now (entry c).args.at (entry c).args.name c.count-end.result
-ends c = record { name_is = (entry c).requires.1; count_is = c.count-end.ensures }
+inside : (c : tie.After-count_end-end) → (c.args.name ≤ c.count_end-end.result) × (c.count_end-end.result ≤ length c.args.text.now)
+inside c = ended-inside (ends c) c.requires.0
 
-inside : (c : tie.After-count-end) → ((entry c).args.name ≤ c.count-end.result) × (c.count-end.result ≤ length (entry c).args.text.now)
-inside c = ended-inside (ends c) (entry c).requires.0
+count-end-requires : tie.Need-count_end-end-requires
+count-end-requires c κs = let s = c in rw s.requires.1 (name-inside s.args.text.now s.args.at s.requires.0)
 
-count-end-requires : tie.Need-count-end-requires
-count-end-requires c κs = let s = c.before in rw s.requires.1 (name-inside s.args.text.now s.args.at s.requires.0)
-
-add-if1 : tie.Need-overflow-add-if1
+add-if1 : tie.Need-overflow_add-name
 add-if1 c = omega (arith, inside c)
 
-shared-slice-read-if2 : tie.Need-shared-slice-read-if2
+shared-slice-read-if2 : tie.Need-bounds-text-name
 shared-slice-read-if2 c = omega (arith, inside c.before.before)
 
-shared-slice-read-if2-2 : tie.Need-shared-slice-read-if2-2
+shared-slice-read-if2-2 : tie.Need-bounds-text-name-then-end-name
 shared-slice-read-if2-2 c = omega (arith, inside c.before.before.before)
 
-returns : tie.Need-returns
-returns c = let t = c.before.before.before in kept-six (ends t.before) t.if1.true c.if2.true
+returns : tie.Need-returns-then-text-name
+returns c = let t = c in kept-six (ends t.before.before.before.before) t.if-end-name.true c.if-text-name.true
 
-returns-2 : tie.Need-returns-2
-returns-2 c = let t = c.before.before.before in kept-six (ends t.before) t.if1.true c.if2.false
+returns-2 : tie.Need-returns-else-text-name
+returns-2 c = let t = c in kept-six (ends t.before.before.before.before) t.if-end-name.true c.if-text-name.false
 
-returns-3 : tie.Need-returns-3
-returns-3 c = kept-other (ends c.before) c.if1.false
+returns-3 : tie.Need-returns-else-end-name
+returns-3 c = kept-other (ends c.before) c.if-end-name.false
 
-pub kept-end-spec : {M : Type 1} → statement M
-kept-end-spec =
+pub kept_end_spec : {M : Type 1} → statement M
+kept_end_spec =
     tie.close
     (tie.spec
     count-end-requires

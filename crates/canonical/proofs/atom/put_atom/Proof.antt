@@ -8,60 +8,53 @@ use borrow.Author.Rules.{rules}
 use Rattle.canonical.proofs.atom.put_atom.Statement.{statement}
 use Rattle.canonical.proofs.atom.put_atom.Tie as tie
 
-abbrev entry : tie.After-kept-end → tie.Start
-entry c = c.before.before.before.before
+ends : (c : tie.After-kept_end-end) → KeptEnds c.args.text.now c.args.at c.name_end-name.result c.kept_end-end.result
+ends c = record { name_is = c.name_end-name.ensures; kept_is = c.kept_end-end.ensures }
 
-ends : (c : tie.After-kept-end) → KeptEnds (entry c).args.text.now (entry c).args.at c.before.name-end.result c.kept-end.result
-ends c = record { name_is = c.before.name-end.ensures; kept_is = c.kept-end.ensures }
+inside : (c : tie.After-kept_end-end) → (c.args.at ≤ c.name_end-name.result) × (c.name_end-name.result ≤ c.kept_end-end.result)
+    × (c.kept_end-end.result ≤ length c.args.text.now)
+inside c = kept-inside (ends c) c.requires.0
 
-inside : (c : tie.After-kept-end) → ((entry c).args.at ≤ c.before.name-end.result) × (c.before.name-end.result ≤ c.kept-end.result)
-    × (c.kept-end.result ≤ length (entry c).args.text.now)
-inside c = kept-inside (ends c) (entry c).requires.0
-
-room : (c : tie.After-kept-end) → (entry c).args.to + (c.kept-end.result - (entry c).args.at) ≤ length (entry c).args.buffer.now
-room c = omega (arith, piece-length (ends c) (entry c).requires.0, (entry c).requires.1)
+room : (c : tie.After-kept_end-end) → c.args.to + (c.kept_end-end.result - c.args.at) ≤ length c.args.buffer.now
+room c = omega (arith, piece-length (ends c) c.requires.0, c.requires.1)
 
 -- where the ends are known and the copy is made
-abbrev known : tie.After-copy-part → tie.After-kept-end
+abbrev known : tie.After-copy_part-next → tie.After-kept_end-end
 known c = c.before.before
-
-abbrev copied : tie.After-shared-slice-known2 → tie.After-copy-part
-copied c = c.before.before.before.before
-
-copy-part-requires : tie.Need-copy-part-requires
+copy-part-requires : tie.Need-copy_part-next-requires
 copy-part-requires c κs = omega (arith, inside c.before, room c.before)
 
-add-if1 : tie.Need-overflow-add-if1
-add-if1 c = omega (arith, inside (known c.before.before))
+add-if1 : tie.Need-overflow_add-name
+add-if1 c = omega (arith, inside c.before.before.before.before)
 
-shared-slice-read-if2 : tie.Need-shared-slice-read-if2
-shared-slice-read-if2 c = omega (arith, inside (known (copied c)))
+shared-slice-read-if2 : tie.Need-bounds-text-name
+shared-slice-read-if2 c = omega (arith, inside c.before.before.before.before.before.before)
 
-add-buffer-2 : tie.Need-overflow-add-buffer-2
-add-buffer-2 c = let k = known (copied c.before) in omega (arith, room k, inside k)
+add-buffer-2 : tie.Need-overflow_add-buffer-then-text-name-eq48
+add-buffer-2 c = let k = c in omega (arith, room k.before.before.before.before.before.before.before, inside k.before.before.before.before.before.before.before)
 
-slice-write-buffer : tie.Need-slice-write-buffer
+slice-write-buffer : tie.Need-bounds-buffer-to
 slice-write-buffer c =
-    let k = known (copied c.before) in
-    omega (arith, room k, inside k, (copied c.before).copy-part.auto)
+    let k = c in
+    omega (arith, room k.before.before.before.before.before.before.before, inside k.before.before.before.before.before.before.before, c.copy_part-next.auto)
 
-returns : tie.Need-returns
+returns : tie.Need-returns-then-text-name-eq48
 returns c =
-    let k = known (copied c.before) in
-    let j = k.before.name-end.result + 1 - (entry k).args.at in
-    rw (piece-raised (ends k) (omega arith) c.if2.true)
-    (put-set (copied c.before).copy-part.ensures j (code "1") (omega (arith, kept-length (ends k) (entry k).pre.0, inside k)))
+    let k = c in
+    let j = k.name_end-name.result + 1 - k.args.at in
+    rw (piece-raised (ends k.before.before.before.before.before.before.before) (omega arith) c.if-text-name-eq48.true)
+    (put-set c.copy_part-next.ensures j (code "1") (omega (arith, kept-length (ends k.before.before.before.before.before.before.before) k.requires.0, inside k.before.before.before.before.before.before.before)))
 
-returns-2 : tie.Need-returns-2
-returns-2 c = rw (piece-same (ends (known (copied c.before))) c.if2.false) (copied c.before).copy-part.ensures
+returns-2 : tie.Need-returns-else-text-name-eq48
+returns-2 c = rw (piece-same (ends c.before.before.before.before.before.before.before) c.if-text-name-eq48.false) c.copy_part-next.ensures
 
-returns-3 : tie.Need-returns-3
+returns-3 : tie.Need-returns-else-name-end
 returns-3 c =
-    let p = c.before.before.before in
-    rw (piece-short (ends (known p)) (entry (known p)).requires.0 c.if1.false) p.copy-part.ensures
+    let p = c in
+    rw (piece-short (ends p.before.before.before.before.before) p.requires.0 c.if-name-end.false) p.copy_part-next.ensures
 
-pub put-atom-spec : {M : Type 1} → statement M
-put-atom-spec =
+pub put_atom_spec : {M : Type 1} → statement M
+put_atom_spec =
     tie.close
     (tie.spec
     (λ c κs. search rules)

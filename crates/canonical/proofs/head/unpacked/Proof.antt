@@ -4,10 +4,10 @@ use Rattle.canonical.proofs.head.unpacked.Statement.{statement}
 use Rattle.canonical.proofs.head.unpacked.Tie as tie
 
 returns : tie.Need-returns
-returns c = rw c.numbered-mark.ensures
+returns c = rw c.numbered_mark.ensures
 
-pub unpacked-spec : {M : Type 1} → statement M
-unpacked-spec =
+pub unpacked_spec : {M : Type 1} → statement M
+unpacked_spec =
     tie.close
     (tie.spec
     (λ c. search rules)

@@ -9,36 +9,36 @@ use borrow.Author.Rules.{rules}
 use Rattle.canonical.proofs.names.count_end.Statement.{statement}
 use Rattle.canonical.proofs.names.count_end.Tie as tie
 
-abbrev invariant-loop : tie.invariant-loop
+abbrev invariant-loop : tie.invariant-loop-i
 invariant-loop text at i₀ i = (i ≤ length text) × (behind_count text at ≡ count_from text i)
 
-abbrev decreases-loop : tie.decreases-loop
+abbrev decreases-loop : tie.decreases-loop-i
 decreases-loop text at i₀ i = length text - i
 
-returns : tie.Need-returns invariant-loop decreases-loop
-returns c = count-out c.before.args.text.now _ (omega arith)
+returns : tie.Need-returns-then-at-text invariant-loop decreases-loop
+returns c = count-out c.args.text.now _ (omega arith)
 
-returns-2 : tie.Need-returns-2 invariant-loop decreases-loop
-returns-2 c = count_none c.before.before.before.args.text.now _ c.if2.true
+returns-2 : tie.Need-returns-then-text-at-ne91 invariant-loop decreases-loop
+returns-2 c = count_none c.args.text.now _ c.if-text-at-ne91.true
 
-loop-holds : tie.Need-loop-init invariant-loop decreases-loop
-loop-holds c = (omega arith, count-some c.before.before.before.args.text.now _ c.if2.false)
+loop-holds : tie.Need-loop-i-init invariant-loop decreases-loop
+loop-holds c = (omega arith, count-some c.args.text.now _ c.if-text-at-ne91.false)
 
-returns-3 : tie.Need-returns-3 invariant-loop decreases-loop
+returns-3 : tie.Need-returns-then-b-eq93 invariant-loop decreases-loop
 returns-3 c =
-    let l = c.before.before.before in
-    sym (l.loop.invariant.1 ∙ count-last _ l.loop.i (omega arith) c.if3.true)
+    let l = c in
+    sym (l.loop-i.invariant.1 ∙ count-last _ l.loop-i.i (omega arith) c.if-b-eq93.true)
 
-loop-again : tie.Need-loop-preserved invariant-loop decreases-loop
+loop-again : tie.Need-loop-i-preserved invariant-loop decreases-loop
 loop-again c =
-    let l = c.before.before.before in
-    (omega arith, l.loop.invariant.1 ∙ count-step _ l.loop.i (omega arith) c.if3.false)
+    let l = c in
+    (omega arith, l.loop-i.invariant.1 ∙ count-step _ l.loop-i.i (omega arith) c.if-b-eq93.false)
 
-returns-4 : tie.Need-returns-4 invariant-loop decreases-loop
-returns-4 c = sym (c.before.loop.invariant.1 ∙ count-over _ c.before.loop.i (omega arith))
+returns-4 : tie.Need-returns invariant-loop decreases-loop
+returns-4 c = sym (c.loop-i.invariant.1 ∙ count-over _ c.loop-i.i (omega arith))
 
-pub count-end-spec : {M : Type 1} → statement M
-count-end-spec =
+pub count_end_spec : {M : Type 1} → statement M
+count_end_spec =
     tie.close
     (tie.spec
     invariant-loop

@@ -14,96 +14,92 @@ use borrow.Author.{Rules.rules, Tests.ltb-true, Tests.ltb-false}
 use Rattle.canonical.proofs.names.is_after.Statement.{statement}
 use Rattle.canonical.proofs.names.is_after.Tie as tie
 
-abbrev invariant-loop : tie.invariant-loop
+abbrev invariant-loop : tie.invariant-loop-i
 invariant-loop text a end b most i₀ i =
     (i ≤ most) × (most ≡ min (end - a) (length text - b)) × (end ≡ behind_name text (a + i))
     × (not_after (name_from text a) (name_from text b) ≡ not_after (name_from text (a + i)) (name_from text (b + i)))
 
-abbrev decreases-loop : tie.decreases-loop
+abbrev decreases-loop : tie.decreases-loop-i
 decreases-loop text a end b most i₀ i = most - i
 
-abbrev entry : tie.At-loop invariant-loop decreases-loop → tie.Start invariant-loop decreases-loop
-entry l = l.before.before.before
-
-abbrev whole : tie.At-loop invariant-loop decreases-loop → Text
-whole l = (entry l).args.text.now
+abbrev whole : tie.At-loop-i invariant-loop decreases-loop → Text
+whole l = l.args.text.now
 
 -- the places of the two bytes that a turn compares
-abbrev first : tie.At-loop invariant-loop decreases-loop → ℕ
-first l = (entry l).args.a + l.loop.i
+abbrev first : tie.At-loop-i invariant-loop decreases-loop → ℕ
+first l = l.args.a + l.loop-i.i
 
-abbrev second : tie.At-loop invariant-loop decreases-loop → ℕ
-second l = (entry l).args.b + l.loop.i
+abbrev second : tie.At-loop-i invariant-loop decreases-loop → ℕ
+second l = l.args.b + l.loop-i.i
 
 -- what is told of the rests is told of the names
-told : (l : tie.At-loop invariant-loop decreases-loop) {r : Bool} → r ≡ not (not_after (name_from (whole l) (first l)) (name_from (whole l) (second l)))
-    → r ≡ not (not_after (name_from (whole l) (entry l).args.a) (name_from (whole l) (entry l).args.b))
-told l e = e ∙ sym (ap not l.loop.invariant.3)
+told : (l : tie.At-loop-i invariant-loop decreases-loop) {r : Bool} → r ≡ not (not_after (name_from (whole l) (first l)) (name_from (whole l) (second l)))
+    → r ≡ not (not_after (name_from (whole l) l.args.a) (name_from (whole l) l.args.b))
+told l e = e ∙ sym (ap not l.loop-i.invariant.3)
 
 -- the name goes on where a turn begins, and a turn from where its bytes are compared
-turn-inner : (c : tie.In-loop invariant-loop decreases-loop) → Inner (whole c.before) (first c.before)
-turn-inner c = name-goes _ _ (omega (arith, c.loop-test.true, c.before.loop.invariant))
+turn-inner : (c : tie.In-loop-i invariant-loop decreases-loop) → Inner (whole c.before) (first c.before)
+turn-inner c = name-goes _ _ (omega (arith, c.loop-i-test.true, c.loop-i.invariant))
 
-abbrev turn : tie.Else1 invariant-loop decreases-loop → tie.In-loop invariant-loop decreases-loop
+abbrev turn : tie.Else-c-d invariant-loop decreases-loop → tie.In-loop-i invariant-loop decreases-loop
 turn c = c.before.before.before
+loop-holds : tie.Need-loop-i-init invariant-loop decreases-loop
+loop-holds c = let p = c.requires in (omega arith, c.lesser-most.ensures, simp add-zero p.1, simp add-zero)
 
-loop-holds : tie.Need-loop-init invariant-loop decreases-loop
-loop-holds c = let p = c.before.before.requires in (omega arith, c.lesser.ensures, simp add-zero p.1, simp add-zero)
-
-add-c : tie.Need-overflow-add-c invariant-loop decreases-loop
+add-c : tie.Need-overflow_add-c invariant-loop decreases-loop
 add-c c = omega (arith, (turn-inner c).inside)
 
-shared-slice-read-c : tie.Need-shared-slice-read-c invariant-loop decreases-loop
+shared-slice-read-c : tie.Need-bounds-text-a invariant-loop decreases-loop
 shared-slice-read-c c = (turn-inner c.before).inside
 
-add-d : tie.Need-overflow-add-d invariant-loop decreases-loop
+add-d : tie.Need-overflow_add-d invariant-loop decreases-loop
 add-d c = search rules
 
-shared-slice-read-d : tie.Need-shared-slice-read-d invariant-loop decreases-loop
+shared-slice-read-d : tie.Need-bounds-text-b invariant-loop decreases-loop
 shared-slice-read-d c = search rules
 
-returns : tie.Need-returns invariant-loop decreases-loop
+returns : tie.Need-returns-then-c-d invariant-loop decreases-loop
 returns c =
-    let t = c.before in
-    let f = t.before.before.before in
-    let l = f.before in
-    told l (rw c.is-inner.ensures (after-differs (whole l) (first l) (second l) (turn-inner f) (omega arith) t.if1.true))
+    let t = c in
+    let f = t in
+    let l = f in
+    told l.before.before.before.before.before (rw c.is_inner-inner.ensures (after-differs (whole l.before.before.before.before.before) (first l.before.before.before.before.before) (second l.before.before.before.before.before) (turn-inner f.before.before.before.before) (omega arith) t.if-c-d.true))
 
-loop-again : tie.Need-loop-preserved invariant-loop decreases-loop
+loop-again : tie.Need-loop-i-preserved invariant-loop decreases-loop
 loop-again c =
-    let l = (turn c).before in
-    let i = turn-inner (turn c) in
-    let s = c.if1.false in
-    let e : (entry l).args.a + (l.loop.i + 1) ≡ first l + 1 = omega arith in
-    let f : (entry l).args.b + (l.loop.i + 1) ≡ second l + 1 = omega arith in
-    let j : Inner (whole l) (second l) = record { inside = omega arith; inner = subst (λ (b : ℕ). is_inner b ≡ true) s i.inner } in (
+    let l = c in
+    let i = turn-inner c.before.before.before in
+    let s = c.if-c-d.false in
+    let e : l.args.a + (l.loop-i.i + 1) ≡ first l.before.before.before.before + 1 = omega arith in
+    let f : l.args.b + (l.loop-i.i + 1) ≡ second l.before.before.before.before + 1 = omega arith in
+    let j : Inner (whole l.before.before.before.before) (second l.before.before.before.before) = record { inside = omega arith; inner = subst (λ (b : ℕ). is_inner b ≡ true) s i.inner } in (
       omega arith,
-      l.loop.inv.1,
-      rw e (l.loop.inv.2 ∙ name-step (whole l) (first l) i.inside i.inner),
-      rw (e, f) (l.loop.inv.3 ∙ after_same (whole l) (first l) (second l) i j s),
+      l.loop-i.invariant.1,
+      rw e (l.loop-i.invariant.2 ∙ name-step (whole l.before.before.before.before) (first l.before.before.before.before) i.inside i.inner),
+      rw (e, f) (l.loop-i.invariant.3 ∙ after_same (whole l.before.before.before.before) (first l.before.before.before.before) (second l.before.before.before.before) i j s),
     )
 
 -- the name at a goes on where the text ends at b, or it is over
-returns-2 : tie.Need-returns-2 invariant-loop decreases-loop
+returns-2 : tie.Need-returns invariant-loop decreases-loop
 returns-2 c =
-    let l = c.before in
-    let x = whole l in
-    let n = (entry l).args.end - (entry l).args.a in
-    let m = l.loop.invariant.2 in
-    told l
-    (by-test (ltb l.loop.i n)
+    let l = c in
+    let x = whole l.before in
+    let n = l.args.end - l.args.a in
+    let m = l.loop-i.invariant.2 in
+    told l.before
+    (by-test (ltb l.loop-i.i n)
     (λ e.
-    let h = ltb-true l.loop.i n e in
-    rw e (after-longer x (first l) (second l) (name-goes x (first l) (omega (arith, h, m))) (front_out is_inner x (second l) (omega (arith, h)))))
-    (λ e. rw e (after-over x (first l) (second l) (name-over x (first l) (omega (arith, ltb-false l.loop.i n e, m))))))
+    let h = ltb-true l.loop-i.i n e in
+    rw e (after-longer x (first l.before) (second l.before) (name-goes x (first l.before) (omega (arith, h, m))) (front_out is_inner x (second l.before) (omega (arith, h)))))
+    (λ e. rw e (after-over x (first l.before) (second l.before) (name-over x (first l.before) (omega (arith, ltb-false l.loop-i.i n e, m))))))
 
-pub is-after-spec : {M : Type 1} → statement M
-is-after-spec =
+pub is_after_spec : {M : Type 1} → statement M
+is_after_spec =
     tie.close
     (tie.spec
     invariant-loop
     decreases-loop
-    (λ c. omega (arith, c.before.requires.1))
+    (λ c. omega (arith, c.requires.1))
     (λ c. search rules)
     (λ c κs. search rules)
     loop-holds

@@ -8,30 +8,30 @@ use borrow.Author.Rules.{rules}
 use Rattle.canonical.proofs.names.name_end.Statement.{statement}
 use Rattle.canonical.proofs.names.name_end.Tie as tie
 
-abbrev invariant-loop : tie.invariant-loop
+abbrev invariant-loop : tie.invariant-loop-i
 invariant-loop text at i₀ i = (i ≤ length text) × (behind_name text at ≡ behind_name text i)
 
-abbrev decreases-loop : tie.decreases-loop
+abbrev decreases-loop : tie.decreases-loop-i
 decreases-loop text at i₀ i = length text - i
 
-loop-holds : tie.Need-loop-init invariant-loop decreases-loop
+loop-holds : tie.Need-loop-i-init invariant-loop decreases-loop
 loop-holds c = (omega arith, refl)
 
-loop-again : tie.Need-loop-preserved invariant-loop decreases-loop
+loop-again : tie.Need-loop-i-preserved invariant-loop decreases-loop
 loop-again c =
-    let l = c.before.before.before.before in
-    (omega arith, l.loop.invariant.1 ∙ name-step _ l.loop.i (omega arith) (sym c.before.is-inner.ensures ∙ c.if1.true))
+    let l = c in
+    (omega arith, l.loop-i.invariant.1 ∙ name-step _ l.loop-i.i (omega arith) (sym c.is_inner.ensures ∙ c.if-is_inner.true))
 
-returns : tie.Need-returns invariant-loop decreases-loop
+returns : tie.Need-returns-else-is_inner invariant-loop decreases-loop
 returns c =
-    let l = c.before.before.before.before in
-    sym (l.loop.invariant.1 ∙ name-stop _ l.loop.i (omega arith) (sym c.before.is-inner.ensures ∙ c.if1.false))
+    let l = c in
+    sym (l.loop-i.invariant.1 ∙ name-stop _ l.loop-i.i (omega arith) (sym c.is_inner.ensures ∙ c.if-is_inner.false))
 
-returns-2 : tie.Need-returns-2 invariant-loop decreases-loop
-returns-2 c = sym (c.before.loop.invariant.1 ∙ name_out _ c.before.loop.i (omega arith))
+returns-2 : tie.Need-returns invariant-loop decreases-loop
+returns-2 c = sym (c.loop-i.invariant.1 ∙ name_out _ c.loop-i.i (omega arith))
 
-pub name-end-spec : {M : Type 1} → statement M
-name-end-spec =
+pub name_end_spec : {M : Type 1} → statement M
+name_end_spec =
     tie.close
     (tie.spec
     invariant-loop

@@ -7,36 +7,33 @@ use borrow.Author.Rules.{rules}
 use Rattle.canonical.proofs.order.insert.Statement.{statement}
 use Rattle.canonical.proofs.order.insert.Tie as tie
 
-abbrev invariant-loop : tie.invariant-loop
+abbrev invariant-loop : tie.invariant-loop-k
 invariant-loop text stack list₀ start end m place k₀ list k = Moved list₀ list start end k × (place ≤ k)
 
-abbrev decreases-loop : tie.decreases-loop
+abbrev decreases-loop : tie.decreases-loop-k
 decreases-loop text stack list₀ start end m place k₀ list k = k
 
-abbrev entry : tie.At-loop invariant-loop decreases-loop → tie.Start invariant-loop decreases-loop
-entry l = l.before.before.before.before
-
-loop-holds : tie.Need-loop-init invariant-loop decreases-loop
+loop-holds : tie.Need-loop-k-init invariant-loop decreases-loop
 loop-holds c =
-    let e = c.before.before.before in
+    let e = c in
     let a = e.args in
-    (moved_none a.list.now a.start a.end e.requires.range.0 (omega (arith, e.requires.range, e.requires.list_length)), c.place_of.ensures.inside.2)
+    (moved_none a.list.now a.start a.end e.requires.range.0 (omega (arith, e.requires.range, e.requires.list_length)), c.place_of-place.ensures.inside.2)
 
-loop-again : tie.Need-loop-preserved invariant-loop decreases-loop
+loop-again : tie.Need-loop-k-preserved invariant-loop decreases-loop
 loop-again c =
-    let l = c.before.before in
-    let h = c.before.loop-test.true in
-    (moved_more l.loop.invariant.0 (omega (arith, h, l.before.place_of.ensures.inside)), omega (arith, h))
+    let l = c in
+    let h = c.loop-k-test.true in
+    (moved_more l.loop-k.invariant.0 (omega (arith, h, l.place_of-place.ensures.inside)), omega (arith, h))
 
 returns : tie.Need-returns invariant-loop decreases-loop
 returns c =
-    let l = c.before in
-    let p = (entry l).requires in
-    inserted-there l.before.place_of.ensures (omega (arith, p.range, p.list_length)) (omega (arith, c.loop-test.false, l.loop.invariant.1))
-    l.loop.invariant.0
+    let l = c in
+    let p = l.requires in
+    inserted-there l.place_of-place.ensures (omega (arith, p.range, p.list_length)) (omega (arith, c.loop-k-test.false, l.loop-k.invariant.1))
+    l.loop-k.invariant.0
 
-pub insert-spec : {M : Type 1} → statement M
-insert-spec =
+pub insert_spec : {M : Type 1} → statement M
+insert_spec =
     tie.close
     (tie.spec
     invariant-loop

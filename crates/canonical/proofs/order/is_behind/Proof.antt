@@ -7,33 +7,32 @@ use Rattle.canonical.proofs.order.is_behind.Statement.{statement}
 use Rattle.canonical.proofs.order.is_behind.Tie as tie
 
 -- the start, from where both heads are read
-abbrev start : tie.After-struct-known2 → tie.Start
-start c = c.before.before.before.before.before.before.before
-
-is-after-requires : tie.Need-is-after-requires
+abbrev start : tie.After-struct_known-2-1 → tie.Start
+start c = c.before.before.before.before.before.before.before.before
+is-after-requires : tie.Need-is_after-requires
 is-after-requires c κs =
-    let e = start c in
-    let p = e.pre in
+    let e = c in
+    let p = e.requires in
     let x = e.args.text.now in
     let stack = e.args.stack.now in (
-      least_inside x stack p.first.0 (omega (arith, p.entries, p.first)) p.heads c.before.before.before.before.unpacked.ensures,
-      rw c.before.before.before.before.unpacked.ensures p.name-end,
-      least_inside x stack p.second.0 (omega (arith, p.entries, p.second)) p.heads c.before.before.unpacked2.ensures,
+      least_inside x stack p.first.0 (omega (arith, p.entries, p.first)) p.heads c.unpacked-head.ensures,
+      rw c.unpacked-head.ensures p.name-end,
+      least_inside x stack p.second.0 (omega (arith, p.entries, p.second)) p.heads c.unpacked-before.ensures,
     )
 
 returns : tie.Need-returns
 returns c =
-    let f = c.before.before.before in
-    let e = start c.before in
-    let p = e.pre in
+    let f = c in
+    let e = c in
+    let p = e.requires in
     let x = e.args.text.now in
     let stack = e.args.stack.now in
-    c.is-after.ensures ∙ ap₂ (λ a b. not (not_after a b))
-    (name_is x stack p.first.0 (omega (arith, p.entries, p.first)) p.heads f.before.before.unpacked.ensures)
-    (name_is x stack p.second.0 (omega (arith, p.entries, p.second)) p.heads f.unpacked2.ensures)
+    c.is_after.ensures ∙ ap₂ (λ a b. not (not_after a b))
+    (name_is x stack p.first.0 (omega (arith, p.entries, p.first)) p.heads f.unpacked-head.ensures)
+    (name_is x stack p.second.0 (omega (arith, p.entries, p.second)) p.heads f.unpacked-before.ensures)
 
-pub is-behind-spec : {M : Type 1} → statement M
-is-behind-spec =
+pub is_behind_spec : {M : Type 1} → statement M
+is_behind_spec =
     tie.close
     (tie.spec
     (λ c. search rules)

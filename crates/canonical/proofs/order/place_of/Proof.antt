@@ -10,137 +10,127 @@ use borrow.Author.Rules.{rules}
 use Rattle.canonical.proofs.order.place_of.Statement.{statement}
 use Rattle.canonical.proofs.order.place_of.Tie as tie
 
-abbrev invariant-loop : tie.invariant-loop
+abbrev invariant-loop : tie.invariant-loop-low
 invariant-loop text stack list start end m name last low₀ high₀ low high = Narrowed text stack list start end m low high
 
-abbrev decreases-loop : tie.decreases-loop
+abbrev decreases-loop : tie.decreases-loop-low
 decreases-loop text stack list start end m name last low₀ high₀ low high = high - low
 
 -- where the end of the name is known: there are members, and the start
-abbrev some : tie.After-name-end invariant-loop decreases-loop → tie.Then1 invariant-loop decreases-loop
-some c = c.before.before.before.before
+abbrev begin : tie.After-name_end-name invariant-loop decreases-loop → tie.Start invariant-loop decreases-loop
+begin c = c.before.before.before.before.before.before.before
+own-end : (c : tie.After-name_end-name invariant-loop decreases-loop)
+    → c.name_end-name.result ≡ behind_name c.args.text.now (head_at c.args.stack.now c.args.m).least
+own-end c = c.name_end-name.ensures ∙ ap (λ (h : Head). behind_name c.args.text.now h.least) c.unpacked-head.ensures
 
-abbrev begin : tie.After-name-end invariant-loop decreases-loop → tie.Start invariant-loop decreases-loop
-begin c = (some c).before.before
+abbrev mid : tie.At-loop-low invariant-loop decreases-loop → ℕ
+mid l = l.loop-low.low + (l.loop-low.high - l.loop-low.low) / 2
 
-abbrev named : tie.At-loop invariant-loop decreases-loop → tie.After-name-end invariant-loop decreases-loop
-named l = l.before.before.before.before
+mid-inside : (c : tie.In-loop-low invariant-loop decreases-loop) → (c.loop-low.low ≤ mid c.before) × (mid c.before < c.loop-low.high)
+mid-inside c = omega (arith, c.loop-low-test.true)
 
-abbrev entry : tie.At-loop invariant-loop decreases-loop → tie.Start invariant-loop decreases-loop
-entry l = begin (named l)
+mid-listed : (c : tie.In-loop-low invariant-loop decreases-loop) → (c.args.start ≤ mid c.before) × (mid c.before < c.args.end)
+mid-listed c = omega (arith, mid-inside c, c.loop-low.invariant.inside)
 
-own-end : (c : tie.After-name-end invariant-loop decreases-loop)
-    → c.name-end.result ≡ behind_name (begin c).args.text.now (head_at (begin c).args.stack.now (begin c).args.m).least
-own-end c = c.name-end.ensures ∙ ap (λ (h : Head). behind_name (begin c).args.text.now h.least) c.before.before.unpacked.ensures
-
-abbrev mid : tie.At-loop invariant-loop decreases-loop → ℕ
-mid l = l.loop.low + (l.loop.high - l.loop.low) / 2
-
-mid-inside : (c : tie.In-loop invariant-loop decreases-loop) → (c.before.loop.low ≤ mid c.before) × (mid c.before < c.before.loop.high)
-mid-inside c = omega (arith, c.loop-test.true)
-
-mid-listed : (c : tie.In-loop invariant-loop decreases-loop) → ((entry c.before).args.start ≤ mid c.before) × (mid c.before < (entry c.before).args.end)
-mid-listed c = omega (arith, mid-inside c, c.before.loop.invariant.inside)
-
-returns : tie.Need-returns invariant-loop decreases-loop
+returns : tie.Need-returns-else-start-end invariant-loop decreases-loop
 returns c =
-    let r = c.before.before.requires.range in
-    narrowed_none (omega (arith, r, c.if1.false)) r.0
+    let r = c.requires.range in
+    narrowed_none (omega (arith, r, c.if-start-end.false)) r.0
 
-name-end-requires : tie.Need-name-end-requires invariant-loop decreases-loop
+name-end-requires : tie.Need-name_end-name-requires invariant-loop decreases-loop
 name-end-requires c κs =
-    let u = c.before in
-    let s = u.before.before.before.before in
+    let u = c in
+    let s = u in
     let p = s.requires in
-    least_inside s.args.text.now s.args.stack.now p.place.0 (omega (arith, p.entries, p.place)) p.heads u.unpacked.ensures
+    least_inside s.args.text.now s.args.stack.now p.place.0 (omega (arith, p.entries, p.place)) p.heads u.unpacked-head.ensures
 
-element-copy-out-last : tie.Need-element-copy-out-last invariant-loop decreases-loop
-element-copy-out-last c = omega (arith, (begin c).requires.range)
+element-copy-out-last : tie.Need-bounds-list-end invariant-loop decreases-loop
+element-copy-out-last c = omega (arith, c.requires.range)
 
-module _ (c : tie.After-last invariant-loop decreases-loop) where
+module _ (c : tie.After-last-1 invariant-loop decreases-loop) where
   abbrev first : tie.Start invariant-loop decreases-loop
   first = begin c.before
 
-  last-place : TwoMembers first.args.text.now first.args.stack.now first.args.m c.before.name-end.result
+  last-place : TwoMembers first.args.text.now first.args.stack.now first.args.m c.name_end-name.result
       (get_or first.args.list.now (first.args.end - 1) 0)
   last-place =
-      let h = (some c.before).if1.taken in
-      two-members first.pre (own-end c.before) (first.args.end - 1) (omega (arith, h)) (omega (arith, h))
+      let h = c.if-start-end.true in
+      two-members first.requires (own-end c.before) (first.args.end - 1) (omega (arith, h)) (omega (arith, h))
 
-cast-is-behind : tie.Need-overflow-cast-is-behind invariant-loop decreases-loop
+cast-is-behind : tie.Need-overflow_cast-last invariant-loop decreases-loop
 cast-is-behind c = omega (arith, (last-place c).second)
 
-returns-2 : tie.Need-returns-2 invariant-loop decreases-loop
+returns-2 : tie.Need-returns-else-is_behind invariant-loop decreases-loop
 returns-2 c =
-    let f = c.before.before.before in
-    let e = begin f in
-    let h = (some f).if1.true in
-    narrowed-above (narrowed_none refl e.pre.range.0) (e.args.end - 1) (omega (arith, h)) c.before.is-behind.ensures (omega (arith, h))
-    c.if2.false
+    let f = c in
+    let e = f in
+    let h = f.if-start-end.true in
+    narrowed-above (narrowed_none refl e.requires.range.0) (e.args.end - 1) (omega (arith, h)) c.is_behind.ensures (omega (arith, h))
+    c.if-is_behind.false
 
-loop-holds : tie.Need-loop-init invariant-loop decreases-loop
+loop-holds : tie.Need-loop-low-init invariant-loop decreases-loop
 loop-holds c =
-    let f = c.before.before.before in
-    let e = begin f in
-    narrowed-below (narrowed_none refl e.pre.range.0) (e.args.end - 1) (omega (arith, (some f).if1.true)) c.before.is-behind.ensures
-    e.pre.falling c.if2.true
+    let f = c in
+    let e = f in
+    narrowed-below (narrowed_none refl e.requires.range.0) (e.args.end - 1) (omega (arith, f.if-start-end.true)) c.is_behind.ensures
+    e.requires.falling c.if-is_behind.true
 
-add-mid : tie.Need-overflow-add-mid invariant-loop decreases-loop
-add-mid c = omega (arith, mid-listed c, (entry c.before).pre.range)
+add-mid : tie.Need-overflow_add-mid invariant-loop decreases-loop
+add-mid c = omega (arith, mid-listed c, c.requires.range)
 
-element-copy-out-other : tie.Need-element-copy-out-other invariant-loop decreases-loop
-element-copy-out-other c = omega (arith, mid-listed c, (entry c.before).pre.range)
+element-copy-out-other : tie.Need-bounds-list-mid invariant-loop decreases-loop
+element-copy-out-other c = omega (arith, mid-listed c.before, c.requires.range)
 
-module _ (c : tie.After-other invariant-loop decreases-loop) where
-  abbrev at : tie.At-loop invariant-loop decreases-loop
-  at = c.before.before
+module _ (c : tie.After-other-1 invariant-loop decreases-loop) where
+  abbrev at : tie.At-loop-low invariant-loop decreases-loop
+  at = c
 
-  mid-place : TwoMembers (entry at).args.text.now (entry at).args.stack.now (entry at).args.m (named at).name-end.result
-      (get_or (entry at).args.list.now (mid at) 0)
-  mid-place = two-members (entry at).pre (own-end (named at)) (mid at) (mid-listed c.before).0 (mid-listed c.before).1
+  mid-place : TwoMembers at.args.text.now at.args.stack.now at.args.m at.name_end-name.result
+      (get_or at.args.list.now (mid at) 0)
+  mid-place = two-members at.requires (own-end at) (mid at) (mid-listed c.before).0 (mid-listed c.before).1
 
-cast-is-behind-2 : tie.Need-overflow-cast-is-behind-2 invariant-loop decreases-loop
+cast-is-behind-2 : tie.Need-overflow_cast-other invariant-loop decreases-loop
 cast-is-behind-2 c = omega (arith, (mid-place c).second)
 
-loop-less : tie.Need-loop-smaller invariant-loop decreases-loop
-loop-less c = omega (arith, mid-inside c.before.before.before)
+loop-less : tie.Need-loop-low-smaller-then-is_behind-2 invariant-loop decreases-loop
+loop-less c = omega (arith, mid-inside c.before.before.before.before)
 
-loop-again : tie.Need-loop-preserved invariant-loop decreases-loop
+loop-again : tie.Need-loop-low-preserved-then-is_behind-2 invariant-loop decreases-loop
 loop-again c =
-    let f = c.before.before.before in
-    let l = f.before in
-    narrowed-below l.loop.invariant (mid l) (mid-inside f) c.before.is-behind2.ensures (entry l).requires.falling c.if3.true
+    let f = c in
+    let l = f in
+    narrowed-below l.loop-low.invariant (mid l.before.before.before.before.before) (mid-inside f.before.before.before.before) c.is_behind-in-loop-low.ensures l.requires.falling c.if-is_behind-2.true
 
-add_low : tie.Need-overflow-add-low invariant-loop decreases-loop
+add_low : tie.Need-overflow_add-low invariant-loop decreases-loop
 add_low c =
-    let f = c.before.before.before in
-    omega (arith, mid-listed f, (entry f.before).pre.range)
+    let f = c in
+    omega (arith, mid-listed f.before.before.before.before, f.requires.range)
 
-loop-less-2 : tie.Need-loop-smaller-2 invariant-loop decreases-loop
-loop-less-2 c = omega (arith, mid-inside c.before.before.before)
+loop-less-2 : tie.Need-loop-low-smaller invariant-loop decreases-loop
+loop-less-2 c = omega (arith, mid-inside c.before.before.before.before)
 
-loop-again-2 : tie.Need-loop-preserved-2 invariant-loop decreases-loop
+loop-again-2 : tie.Need-loop-low-preserved invariant-loop decreases-loop
 loop-again-2 c =
-    let f = c.before.before.before in
-    let l = f.before in
-    narrowed-above l.loop.invariant (mid l) (mid-inside f) c.before.is-behind2.ensures refl c.if3.false
+    let f = c in
+    let l = f in
+    narrowed-above l.loop-low.invariant (mid l.before.before.before.before.before) (mid-inside f.before.before.before.before) c.is_behind-in-loop-low.ensures refl c.if-is_behind-2.false
 
-returns-3 : tie.Need-returns-3 invariant-loop decreases-loop
+returns-3 : tie.Need-returns invariant-loop decreases-loop
 returns-3 c =
-    let l = c.before in
-    let a = (entry l).args in
-    let e : l.loop.low ≡ l.loop.high = omega (arith, c.loop-test.false, l.loop.invariant.inside) in
-    subst (λ k. Narrowed a.text.now a.stack.now a.list.now a.start a.end a.m k l.loop.high) e l.loop.invariant
+    let l = c in
+    let a = l.args in
+    let e : l.loop-low.low ≡ l.loop-low.high = omega (arith, c.loop-low-test.false, l.loop-low.invariant.inside) in
+    subst (λ k. Narrowed a.text.now a.stack.now a.list.now a.start a.end a.m k l.loop-low.high) e l.loop-low.invariant
 
-pub place-of-spec : {M : Type 1} → statement M
-place-of-spec =
+pub place_of_spec : {M : Type 1} → statement M
+place_of_spec =
     tie.close
     (tie.spec
     invariant-loop
     decreases-loop
     returns
     (λ c. search rules)
-    (λ c. omega (arith, c.before.before.requires.place))
+    (λ c. omega (arith, c.requires.place))
     (λ c κs. tt)
     (λ c. search rules)
     name-end-requires

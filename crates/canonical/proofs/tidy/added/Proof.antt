@@ -7,63 +7,47 @@ use Rattle.canonical.proofs.tidy.added.Statement.{statement}
 use Rattle.canonical.proofs.tidy.added.Tie as tie
 
 -- the start, where the member is known to be no `()`, and behind the calls
-abbrev some : tie.After-least-with → tie.Else1
-some c = c.before.before.before
-
-abbrev entry : tie.After-least-with → tie.Start
-entry c = (some c).before.before.before
-
-abbrev told : tie.After-struct-known2 → tie.After-is-plain
-told c = c.before
-
-abbrev called : tie.After-struct-known2 → tie.After-least-with
-called c = (told c).before
 
 -- where the member joins, and where its head is put on the stack
-abbrev joined : tie.After-struct-known6 → tie.Then2
-joined c = c.before.before.before.before
-
-abbrev headed : tie.After-packed → tie.Else2
-headed c = c.before.before.before
 
 -- by the tests
-joins : (j : tie.Then2) → let s = (entry (called j.before)).args in joins_by s.sign s.t ≡ true
-joins j = rw (← (told j.before).is-plain.ensures) j.if2.true
+joins : (j : tie.Then-t-sign) → let s = j.args in joins_by s.sign s.t ≡ true
+joins j = rw (← j.is_plain-plain.ensures) j.if-t-sign.true
 
-stays : (h : tie.Else2) → let s = (entry (called h.before)).args in joins_by s.sign s.t ≡ false
-stays h = rw (← (told h.before).is-plain.ensures) h.if2.false
+stays : (h : tie.Else-t-sign) → let s = h.args in joins_by s.sign s.t ≡ false
+stays h = rw (← h.is_plain-plain.ensures) h.if-t-sign.false
 
-returns : tie.Need-returns
-returns c = rw (eq-eqb _ _ c.if1.true) (refl, refl)
+returns : tie.Need-returns-then-t-eq-NO_SIGN
+returns c = rw (eq-eqb _ _ c.if-t-eq-NO_SIGN.true) (refl, refl)
 
-add-t17 : tie.Need-overflow-add-t17
-add-t17 c = omega (arith, (entry (called (joined c).before)).requires)
+add-t17 : tie.Need-overflow_add-result-then-t-sign
+add-t17 c = omega (arith, c.requires)
 
-returns-2 : tie.Need-returns-2
+returns-2 : tie.Need-returns-then-t-sign
 returns-2 c =
-    let j = joined c in
-    let k = called j.before in
-    rw (ne_eqb _ _ (some k).if1.left, joins j)
-    (cc (k.before.before.holds-empty.ensures, k.before.nullable-with.ensures, k.least-with.ensures), refl)
+    let j = c in
+    let k = j in
+    rw (ne_eqb _ _ k.if-t-eq-NO_SIGN.false, joins j.before.before.before.before)
+    (cc (k.holds_empty-own.ensures, k.nullable_with-nullable.ensures, k.least_with-least.ensures), refl)
 
-add-t22 : tie.Need-overflow-add-t22
-add-t22 c = omega (arith, (entry (called (headed c.before).before)).requires)
+add-t22 : tie.Need-overflow_add-result-2
+add-t22 c = omega (arith, c.requires)
 
-add-t23 : tie.Need-overflow-add-t23
-add-t23 c = omega (arith, (entry (called (headed c.before.before.before).before)).requires)
+add-t23 : tie.Need-overflow_add-result-3
+add-t23 c = omega (arith, c.requires)
 
-returns-3 : tie.Need-returns-3
+returns-3 : tie.Need-returns
 returns-3 c =
-    let p = c.before.before.before in
-    let h = headed p in
-    let k = called h.before in
-    rw (ne_eqb _ _ (some k).if1.left, stays h) (
-      cc (k.before.before.holds-empty.ensures, k.before.nullable-with.ensures, k.least-with.ensures),
-      (p.packed.result, p.packed.ensures ∙ p.before.head_of.ensures, refl),
+    let p = c in
+    let h = p in
+    let k = h in
+    rw (ne_eqb _ _ k.if-t-eq-NO_SIGN.false, stays h.before.before.before.before.before.before.before) (
+      cc (k.holds_empty-own.ensures, k.nullable_with-nullable.ensures, k.least_with-least.ensures),
+      (p.packed.result, p.packed.ensures ∙ p.head_of-head.ensures, refl),
     )
 
-pub added-spec : {M : Type 1} → statement M
-added-spec =
+pub added_spec : {M : Type 1} → statement M
+added_spec =
     tie.close
     (tie.spec
     returns

@@ -3,11 +3,11 @@ use borrow.Author.Rules.{rules}
 use Rattle.canonical.proofs.tidy.closed.Statement.{statement}
 use Rattle.canonical.proofs.tidy.closed.Tie as tie
 
-returns : tie.Need-returns
-returns c = let t = c.before in rw (t.if1.true, ← t.before.before.grouped.ensures) c.marking.ensures
+returns : tie.Need-returns-then-sign-g
+returns c = let t = c in rw (t.if-sign-g.true, ← t.grouped-t.ensures) c.marking.ensures
 
-returns-2 : tie.Need-returns-2
-returns-2 c = rw c.if1.false c.before.before.grouped.ensures
+returns-2 : tie.Need-returns-else-sign-g
+returns-2 c = rw c.if-sign-g.false c.grouped-t.ensures
 
-pub closed-spec : {M : Type 1} → statement M
-closed-spec = tie.close (tie.spec (λ c κs. search rules) (λ c κs. search rules) returns returns-2)
+pub closed_spec : {M : Type 1} → statement M
+closed_spec = tie.close (tie.spec (λ c κs. search rules) (λ c κs. search rules) returns returns-2)

@@ -5,13 +5,13 @@ use Rattle.model.specs.declared.rule.Mark.TheVariants.{Plain, Optional, Nonempty
 use Rattle.canonical.proofs.tidy.fitting.Statement.{statement}
 use Rattle.canonical.proofs.tidy.fitting.Tie as tie
 
-returns-3 : tie.Need-returns-3
-returns-3 c = rw c.before.enum-told2.given.1 (ap (λ (b : Bool). cond b Plain Optional) (sym c.if1.false))
+returns-3 : tie.Need-returns-else-nullable
+returns-3 c = rw c.in-Optional.is (ap (λ (b : Bool). cond b Plain Optional) (sym c.if-nullable.false))
 
-returns-4 : tie.Need-returns-4
-returns-4 c = rw c.before.enum-told3.given.1 (ap (λ (b : Bool). cond b Nonempty Plain) (sym c.if2.true))
+returns-4 : tie.Need-returns-then-nullable-2
+returns-4 c = rw c.in-Nonempty.is (ap (λ (b : Bool). cond b Nonempty Plain) (sym c.if-nullable-2.true))
 
-pub fitting-spec : {M : Type 1} → statement M
-fitting-spec =
+pub fitting_spec : {M : Type 1} → statement M
+fitting_spec =
     tie.close
     (tie.spec (λ c. search rules) (λ c. search rules) (λ c. search rules) (λ c. search rules) (λ c. search rules) returns-3 returns-4 (λ c. search rules))

@@ -5,10 +5,10 @@ use Rattle.canonical.proofs.tidy.gather.Tie as tie
 
 added-requires : tie.Need-added-requires
 added-requires c κs =
-    rw (c.before.before.noted.ensures, c.before.stripped.ensures) c.before.before.before.before.requires
+    rw (c.noted-h.ensures, c.stripped-u.ensures) c.requires
 
 returns : tie.Need-returns
-returns c = let s = c.before.before in rw (s.before.noted.ensures, s.stripped.ensures) at c.added.ensures
+returns c = let s = c in rw (s.noted-h.ensures, s.stripped-u.ensures) at c.added.ensures
 
-pub gather-spec : {M : Type 1} → statement M
-gather-spec = tie.close (tie.spec (λ c κs. search rules) (λ c κs. search rules) added-requires returns)
+pub gather_spec : {M : Type 1} → statement M
+gather_spec = tie.close (tie.spec (λ c κs. search rules) (λ c κs. search rules) added-requires returns)

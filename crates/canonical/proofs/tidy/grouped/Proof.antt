@@ -3,19 +3,19 @@ use borrow.Author.{Rules.rules, Tests.eq-eqb, Tests.ne_eqb}
 use Rattle.canonical.proofs.tidy.grouped.Statement.{statement}
 use Rattle.canonical.proofs.tidy.grouped.Tie as tie
 
-returns : tie.Need-returns
-returns c = rw (eq-eqb _ _ c.before.if1.true) c.nothing.ensures
+returns : tie.Need-returns-then-g-eq0
+returns c = rw (eq-eqb _ _ c.if-g-eq0.true) c.nothing.ensures
 
-returns-2 : tie.Need-returns-2
+returns-2 : tie.Need-returns-then-g-eq1
 returns-2 c =
-    let t = c.before.before.before in
-    rw (ne_eqb _ _ t.before.before.if1.false, eq-eqb _ _ t.if2.true) c.placed.ensures
+    let t = c in
+    rw (ne_eqb _ _ t.if-g-eq0.false, eq-eqb _ _ t.if-g-eq1.true) c.placed.ensures
 
-returns-3 : tie.Need-returns-3
-returns-3 c = let e = c.before in rw (ne_eqb _ _ e.before.before.if1.false, ne_eqb _ _ e.if2.false)
+returns-3 : tie.Need-returns
+returns-3 c = let e = c in rw (ne_eqb _ _ e.if-g-eq0.false, ne_eqb _ _ e.if-g-eq1.false)
 
-pub grouped-spec : {M : Type 1} → statement M
-grouped-spec =
+pub grouped_spec : {M : Type 1} → statement M
+grouped_spec =
     tie.close
     (tie.spec
     (λ c κs. search rules)

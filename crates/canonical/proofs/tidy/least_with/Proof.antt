@@ -7,25 +7,23 @@ use Rattle.canonical.proofs.tidy.least_with.Statement.{statement}
 use Rattle.canonical.proofs.tidy.least_with.Tie as tie
 
 -- where there are members
-abbrev some : tie.After-is-after → tie.Else1
-some c = c.before.before
 
 -- the one so far stays
-abbrev kept : tie.After-is-after → Bool
-kept c = let a = (some c).before.before.args in not_after (name_from a.text.now a.least) (name_from a.text.now a.at)
+abbrev kept : tie.After-is_after → Bool
+kept c = let a = c.args in not_after (name_from a.text.now a.least) (name_from a.text.now a.at)
 
-returns : tie.Need-returns
-returns c = rw (eq-eqb _ _ c.if1.true)
+returns : tie.Need-returns-then-members-eq0
+returns c = rw (eq-eqb _ _ c.if-members-eq0.true)
 
-returns-2 : tie.Need-returns-2
+returns-2 : tie.Need-returns-then-is_after
 returns-2 c =
-    let a = c.before in
-    rw (ne_eqb _ _ (some a).if1.false, not-true (kept a) (sym a.is-after.ensures ∙ c.if2.true))
+    let a = c in
+    rw (ne_eqb _ _ a.if-members-eq0.false, not-true (kept a.before) (sym a.is-after.ensures ∙ c.if-is_after.true))
 
-returns-3 : tie.Need-returns-3
+returns-3 : tie.Need-returns-else-is_after
 returns-3 c =
-    let a = c.before in
-    rw (ne_eqb _ _ (some a).if1.false, not-false (kept a) (sym a.is-after.ensures ∙ c.if2.false))
+    let a = c in
+    rw (ne_eqb _ _ a.if-members-eq0.false, not-false (kept a.before) (sym a.is-after.ensures ∙ c.if-is_after.false))
 
-pub least-with-spec : {M : Type 1} → statement M
-least-with-spec = tie.close (tie.spec returns (λ c κs. search rules) (λ c κs. search rules) returns-2 returns-3)
+pub least_with_spec : {M : Type 1} → statement M
+least_with_spec = tie.close (tie.spec returns (λ c κs. search rules) (λ c κs. search rules) returns-2 returns-3)

@@ -3,13 +3,13 @@ use borrow.Author.Rules.{rules}
 use Rattle.canonical.proofs.tidy.marking.Statement.{statement}
 use Rattle.canonical.proofs.tidy.marking.Tie as tie
 
-returns : tie.Need-returns
-returns c = rw (← c.before.before.is-plain.ensures, c.if1.true)
+returns : tie.Need-returns-then-plain-t
+returns c = rw (← c.is_plain-plain.ensures, c.if-plain-t.true)
 
-returns-2 : tie.Need-returns-2
+returns-2 : tie.Need-returns-else-plain-t
 returns-2 c =
-    let e = c.before.before in
-    rw (← e.before.before.is-plain.ensures, e.if1.false, ← c.before.fitting.ensures) c.remarked.ensures
+    let e = c in
+    rw (← e.is_plain-plain.ensures, e.if-plain-t.false, ← c.fitting.ensures) c.remarked.ensures
 
-pub marking-spec : {M : Type 1} → statement M
-marking-spec = tie.close (tie.spec (λ c κs. search rules) (λ c κs. search rules) (λ c κs. search rules) returns returns-2)
+pub marking_spec : {M : Type 1} → statement M
+marking_spec = tie.close (tie.spec (λ c κs. search rules) (λ c κs. search rules) (λ c κs. search rules) returns returns-2)

@@ -4,14 +4,14 @@ use borrow.Author.Tests.{eq-eqb, ne_eqb}
 use Rattle.canonical.proofs.tidy.member_by.Statement.{statement}
 use Rattle.canonical.proofs.tidy.member_by.Tie as tie
 
-returns : tie.Need-returns
-returns c = rw (eq-eqb _ _ c.if1.true)
+returns : tie.Need-returns-then-behind-eq41
+returns c = rw (eq-eqb _ _ c.if-behind-eq41.true)
 
-add-result : tie.Need-overflow-add-result
+add-result : tie.Need-overflow_add-result
 add-result c = search rules
 
-returns-2 : tie.Need-returns-2
-returns-2 c = rw (ne_eqb _ _ c.if1.false)
+returns-2 : tie.Need-returns-else-behind-eq41
+returns-2 c = rw (ne_eqb _ _ c.if-behind-eq41.false)
 
-pub member-by-spec : {M : Type 1} → statement M
-member-by-spec = tie.close (tie.spec add-result returns returns-2)
+pub member_by_spec : {M : Type 1} → statement M
+member_by_spec = tie.close (tie.spec add-result returns returns-2)

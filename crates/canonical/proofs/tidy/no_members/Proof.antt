@@ -6,5 +6,5 @@ use Rattle.canonical.proofs.tidy.no_members.Tie as tie
 returns : tie.Need-returns
 returns c = rw c.nothing.ensures
 
-pub no-members-spec : {M : Type 1} → statement M
-no-members-spec = tie.close (tie.spec (λ c κs. search rules) returns)
+pub no_members_spec : {M : Type 1} → statement M
+no_members_spec = tie.close (tie.spec (λ c κs. search rules) returns)

@@ -4,7 +4,7 @@ use Rattle.canonical.proofs.tidy.noted.Statement.{statement}
 use Rattle.canonical.proofs.tidy.noted.Tie as tie
 
 returns : tie.Need-returns
-returns c = rw c.before.holds-empty.ensures
+returns c = rw c.holds_empty-given.ensures
 
-pub noted-spec : {M : Type 1} → statement M
-noted-spec = tie.close (tie.spec (λ c κs. search rules) returns)
+pub noted_spec : {M : Type 1} → statement M
+noted_spec = tie.close (tie.spec (λ c κs. search rules) returns)

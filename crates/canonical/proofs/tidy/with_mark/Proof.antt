@@ -10,34 +10,31 @@ use Rattle.canonical.specs.Writer.Recursion.Steps.{none-behind, some-behind}
 use Rattle.canonical.proofs.tidy.with_mark.Statement.{statement}
 use Rattle.canonical.proofs.tidy.with_mark.Tie as tie
 
-abbrev start : tie.After-is-plain → tie.Start
-start c = c.before.before.before
+plain : (c : tie.After-is_plain) → c.is_plain.result ≡ is_plain (mark_at c.args.text.now c.args.t.next)
+plain c = c.is_plain.ensures ∙ ap is_plain c.mark_at-mark.ensures
 
-plain : (c : tie.After-is-plain) → c.is-plain.result ≡ is_plain (mark_at (start c).args.text.now (start c).args.t.next)
-plain c = c.is-plain.ensures ∙ ap is_plain c.before.mark-at.ensures
+marked : (c : tie.Else-is_plain) → is_plain (mark_at c.args.text.now c.args.t.next) ≡ false
+marked c = sym (plain c.before) ∙ c.if-is_plain.false
 
-marked : (c : tie.Else1) → is_plain (mark_at (start c.before).args.text.now (start c.before).args.t.next) ≡ false
-marked c = sym (plain c.before) ∙ c.if1.false
+inside : (c : tie.Else-is_plain) → c.args.t.next < length c.args.text.now
+inside c = mark-inside c.args.text.now c.args.t.next (marked c)
 
-inside : (c : tie.Else1) → (start c.before).args.t.next < length (start c.before).args.text.now
-inside c = mark-inside (start c.before).args.text.now (start c.before).args.t.next (marked c)
-
-returns : tie.Need-returns
+returns : tie.Need-returns-then-is_plain
 returns c =
-    let a = (start c.before).args in
-    none-behind a.text.now a.t (sym (plain c.before) ∙ c.if1.true)
+    let a = c.args in
+    none-behind a.text.now a.t (sym (plain c.before) ∙ c.if-is_plain.true)
 
-returns-2 : tie.Need-returns-2
+returns-2 : tie.Need-returns
 returns-2 c =
-    let e = c.before.before in
-    let a = (start e.before).args in
+    let e = c in
+    let a = e.args in
     c.placed.ensures
     ∙ ap (placed_at a.t.top (a.t.next + 1))
-    (c.before.marking.ensures ∙ ap (λ (k : Mark). marking_by k a.t) e.before.before.mark-at.ensures)
-    ∙ some-behind a.text.now a.t (marked e)
+    (c.marking-u.ensures ∙ ap (λ (k : Mark). marking_by k a.t) e.mark_at-mark.ensures)
+    ∙ some-behind a.text.now a.t (marked e.before.before)
 
-pub with-mark-spec : {M : Type 1} → statement M
-with-mark-spec =
+pub with_mark_spec : {M : Type 1} → statement M
+with_mark_spec =
     tie.close
     (tie.spec
     (λ c κs. search rules)

@@ -9,23 +9,23 @@ use Rattle.canonical.proofs.write.put_mark.Statement.{statement}
 use Rattle.canonical.proofs.write.put_mark.Tie as tie
 
 -- a mark has room
-optional : (c : tie.After-enum-told2) → c.before.before.args.to < length c.before.before.args.buffer.now
-optional c = let h = rw c.enum-told2.given.1 at c.before.before.requires in omega arith
+optional : (c : tie.In-Optional) → c.args.to < length c.args.buffer.now
+optional c = let h = rw c.in-Optional.is at c.requires in omega arith
 
-nonempty : (c : tie.After-enum-told3) → c.before.before.args.to < length c.before.before.args.buffer.now
-nonempty c = let h = rw c.enum-told3.given.1 at c.before.before.requires in omega arith
+nonempty : (c : tie.In-Nonempty) → c.args.to < length c.args.buffer.now
+nonempty c = let h = rw c.in-Nonempty.is at c.requires in omega arith
 
-returns : tie.Need-returns
-returns c = let a = c.before.before.args in rw c.enum_told.given.1 (put-nothing a.buffer.now a.to (omega arith))
+returns : tie.Need-returns-in-Plain
+returns c = let a = c.args in rw c.in-Plain.is (put-nothing a.buffer.now a.to (omega arith))
 
-returns-2 : tie.Need-returns-2
-returns-2 c = let a = c.before.before.args in rw c.enum-told2.given.1 (put_one a.buffer.now a.to (code "?") (optional c))
+returns-2 : tie.Need-returns-in-Optional
+returns-2 c = let a = c.args in rw c.in-Optional.is (put_one a.buffer.now a.to (code "?") (optional c))
 
-returns-3 : tie.Need-returns-3
-returns-3 c = let a = c.before.before.args in rw c.enum-told3.given.1 (put_one a.buffer.now a.to (code "!") (nonempty c))
+returns-3 : tie.Need-returns-in-Nonempty
+returns-3 c = let a = c.args in rw c.in-Nonempty.is (put_one a.buffer.now a.to (code "!") (nonempty c))
 
-pub put-mark-spec : {M : Type 1} → statement M
-put-mark-spec =
+pub put_mark_spec : {M : Type 1} → statement M
+put_mark_spec =
     tie.close
     (tie.spec
     (λ c. search rules)

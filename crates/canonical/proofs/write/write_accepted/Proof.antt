@@ -11,78 +11,70 @@ use Rattle.canonical.proofs.write.write_accepted.Statement.{statement}
 use Rattle.canonical.proofs.write.write_accepted.Tie as tie
 
 -- the start, and the tree of the text as it is tidied
-abbrev start : tie.After-tidy → tie.Start
+abbrev start : tie.After-tidy-t → tie.Start
 start c = c.before.before.before.before
+known : (c : tie.After-tidy-t) → TidiedAt c.args.text.now (replicate max_nodes 0) c.tidy-t.new.stack 0 max_nodes c.tidy-t.result c.requires.0
+known c = let p = c.requires in c.tidy-t.ensures p.0 (whole-stands c.args.text.now p.0 p.1)
 
-known : (c : tie.After-tidy) → TidiedAt (start c).args.text.now (replicate max_nodes 0) c.tidy.new.1.0 0 max_nodes c.tidy.result (start c).requires.0
-known c = let p = (start c).requires in c.tidy.ensures p.0 (whole-stands (start c).args.text.now p.0 p.1)
-
-abbrev tidied : tie.Else1 → tie.After-tidy
+abbrev tidied : tie.Else-t-eq-NO_SIGN → tie.After-tidy-t
 tidied c = c.before.before
 
-abbrev from_nothing : tie.After-write-nothing → tie.After-tidy
-from_nothing c = c.before.before.before.before
-
 -- there is room for the head
-room : (c : tie.Else1) → (0 < (tidied c).tidy.result.top) × ((tidied c).tidy.result.top ≤ max_nodes)
-room c = let s = start (tidied c) in head-room s.args.text.now s.pre.0 s.pre.1 (known (tidied c)) c.if1.false
+room : (c : tie.Else-t-eq-NO_SIGN) → (0 < c.tidy-t.result.top) × (c.tidy-t.result.top ≤ max_nodes)
+room c = let s = c in head-room s.args.text.now s.requires.0 s.requires.1 (known c.before.before) c.if-t-eq-NO_SIGN.false
 
-tidy-requires : tie.Need-tidy-requires
-tidy-requires c κs = let s = c.before.before.before in whole_ready s.args.text.now s.requires.0 s.requires.1
+tidy-requires : tie.Need-tidy-t-requires
+tidy-requires c κs = let s = c in whole_ready s.args.text.now s.requires.0 s.requires.1
 
-write-nothing-requires : tie.Need-write-nothing-requires
+write-nothing-requires : tie.Need-write_nothing-requires
 write-nothing-requires c κs = search rules
 
-same_length : tie.Need-same-length
+same_length : tie.Need-shape_of-buffer-then-t-eq-NO_SIGN
 same_length c = search rules
 
-returns : tie.Need-returns
+returns : tie.Need-returns-then-t-eq-NO_SIGN
 returns c =
-    let t = from_nothing c.before.before in
-    let s = start t in
-    rw (s.pre.1, nil-text s.args.text.now s.pre.0 s.pre.1 (known t) c.before.before.before.before.if1.true)
-    c.before.before.write-nothing.ensures
+    let t = c in
+    let s = t in
+    rw (s.requires.1, nil-text s.args.text.now s.requires.0 s.requires.1 (known t.before.before.before.before.before.before) c.if-t-eq-NO_SIGN.true)
+    c.write_nothing.ensures
 
-sub-top : tie.Need-overflow-sub-top
+sub-top : tie.Need-overflow_sub-top
 sub-top c = omega (arith, room c.before)
 
-mul-stack : tie.Need-overflow-mul-stack
+mul-stack : tie.Need-offset_bounds-stack-top
 mul-stack c = omega (arith, room c.before.before.before)
 
-array-write-stack : tie.Need-array-write-stack
+array-write-stack : tie.Need-bounds-stack-top
 array-write-stack c = omega (arith, room c.before.before.before)
 
 -- the head stands on the stack
-abbrev headed : tie.After-packed → tie.After-head-of
-headed p = p.before
+abbrev other : tie.After-packed → tie.Else-t-eq-NO_SIGN
+other p = p.before.before.before
+head-is : (p : tie.After-packed) → head_in p.packed.result ≡ head_of p.tidy-t.result
+head-is p = p.packed.ensures ∙ p.head_of-head.ensures
 
-abbrev other : tie.After-packed → tie.Else1
-other p = (headed p).before.before
-
-head-is : (p : tie.After-packed) → head_in p.packed.result ≡ head_of (tidied (other p)).tidy.result
-head-is p = p.packed.ensures ∙ (headed p).head_of.ensures
-
-write-tree-requires : tie.Need-write-tree-requires
+write-tree-requires : tie.Need-write_tree-requires
 write-tree-requires c κs =
-    let p = c.before.before in
-    let l = other p in
-    let s = start (tidied l) in
-    one-tree s.args.text.now s.pre.0 s.pre.1 (known (tidied l)) l.if1.left p.packed.result (head-is p)
+    let p = c in
+    let l = p in
+    let s = l in
+    one-tree s.args.text.now s.requires.0 s.requires.1 (known l.before.before.before.before.before.before.before) l.if-t-eq-NO_SIGN.false p.packed.result (head-is p.before.before)
 
-same-length-2 : tie.Need-same-length-2
+same-length-2 : tie.Need-shape_of-buffer
 same-length-2 c = search rules
 
-returns-2 : tie.Need-returns-2
+returns-2 : tie.Need-returns
 returns-2 c =
-    let w = c.before.before in
-    let p = w.before.before.before in
-    let l = other p in
-    let s = start (tidied l) in
-    rw (s.pre.1, ← tree-text s.args.text.now s.pre.0 s.pre.1 (known (tidied l)) l.if1.left p.packed.result (head-is p))
-    w.write-tree.ensures
+    let w = c in
+    let p = w in
+    let l = p in
+    let s = l in
+    rw (s.requires.1, ← tree-text s.args.text.now s.requires.0 s.requires.1 (known l.before.before.before.before.before.before.before.before.before.before) l.if-t-eq-NO_SIGN.false p.packed.result (head-is p.before.before.before.before.before))
+    w.write_tree.ensures
 
-pub write-accepted-spec : {M : Type 1} → statement M
-write-accepted-spec =
+pub write_accepted_spec : {M : Type 1} → statement M
+write_accepted_spec =
     tie.close
     (tie.spec
     tidy-requires

@@ -6,20 +6,20 @@ use Rattle.canonical.specs.Writer.Accepted.{read_answer, refused-reply}
 use Rattle.canonical.proofs.write.write_model.Statement.{statement}
 use Rattle.canonical.proofs.write.write_model.Tie as tie
 
-write-accepted-requires : tie.Need-write-accepted-requires
+write-accepted-requires : tie.Need-write_accepted-requires
 write-accepted-requires c κs =
-    let r = c.before.before.before in
-    let x = r.before.before.before.args.text.now in
-    read_answer x (answer x) (sym r.model-outcome.ensures ∙ c.before.enum_told.given.1)
+    let r = c in
+    let x = r.args.text.now in
+    read_answer x (answer x) (sym r.model_outcome.ensures ∙ c.in-Read.is)
 
-returns : tie.Need-returns
+returns : tie.Need-returns-in-Refused
 returns c =
-    let r = c.before.before.before in
-    let a = r.before.before.before.args in
-    refused-reply a.text.now (answer a.text.now) _ _ a.buffer.now (sym r.model-outcome.ensures ∙ c.before.f.given.1)
+    let r = c in
+    let a = r.args in
+    refused-reply a.text.now (answer a.text.now) _ _ a.buffer.now (sym r.model_outcome.ensures ∙ c.in-Refused.is)
 
-pub write-model-spec : {M : Type 1} → statement M
-write-model-spec =
+pub write_model_spec : {M : Type 1} → statement M
+write_model_spec =
     tie.close
     (tie.spec
     (λ c κs. search rules)

@@ -6,22 +6,22 @@ use Rattle.canonical.specs.Writer.Accepted.{has_room, no_room, two_bytes}
 use Rattle.canonical.proofs.write.write_nothing.Statement.{statement}
 use Rattle.canonical.proofs.write.write_nothing.Tie as tie
 
-returns : tie.Need-returns
-returns c = no_room (bytes "()") _ c.if1.true
+returns : tie.Need-returns-then-buffer-lt2
+returns c = no_room (bytes "()") _ c.if-buffer-lt2.true
 
-slice-write-buffer : tie.Need-slice-write-buffer
+slice-write-buffer : tie.Need-bounds-buffer-0
 slice-write-buffer c = search rules
 
-slice-write-buffer-2 : tie.Need-slice-write-buffer-2
+slice-write-buffer-2 : tie.Need-bounds-buffer-1
 slice-write-buffer-2 c = search rules
 
-same_length : tie.Need-same-length
+same_length : tie.Need-shape_of-buffer
 same_length c = search rules
 
-returns-2 : tie.Need-returns-2
+returns-2 : tie.Need-returns
 returns-2 c =
-    let b = c.before.args.buffer.now in
-    has_room (bytes "()") b _ (omega (arith, c.if1.false)) (two_bytes b (omega (arith, c.if1.false)))
+    let b = c.args.buffer.now in
+    has_room (bytes "()") b _ (omega (arith, c.if-buffer-lt2.false)) (two_bytes b (omega (arith, c.if-buffer-lt2.false)))
 
-pub write-nothing-spec : {M : Type 1} → statement M
-write-nothing-spec = tie.close (tie.spec returns slice-write-buffer slice-write-buffer-2 same_length returns-2)
+pub write_nothing_spec : {M : Type 1} → statement M
+write_nothing_spec = tie.close (tie.spec returns slice-write-buffer slice-write-buffer-2 same_length returns-2)

@@ -10,40 +10,39 @@ use Rattle.canonical.proofs.write.write_tree.Statement.{statement}
 use Rattle.canonical.proofs.write.write_tree.Tie as tie
 
 -- the start, the text that is written, and its length
-abbrev start : tie.After-signed-length → tie.Start
+abbrev start : tie.After-signed_length-length → tie.Start
 start c = c.before.before.before
+abbrev whole : tie.After-signed_length-length → Text
+whole c = let a = c.args in text_at a.text.now a.stack.now a.top
 
-abbrev whole : tie.After-signed-length → Text
-whole c = let a = (start c).args in text_at a.text.now a.stack.now a.top
+known : (c : tie.After-signed_length-length) → c.signed_length-length.result ≡ suc (length (whole c))
+known c = c.signed_length-length.ensures ∙ one-length c.requires
 
-known : (c : tie.After-signed-length) → c.signed-length.result ≡ suc (length (whole c))
-known c = c.signed-length.ensures ∙ one-length (start c).requires
+signed-length-requires : tie.Need-signed_length-length-requires
+signed-length-requires c κs = length-ready c.requires
 
-signed-length-requires : tie.Need-signed-length-requires
-signed-length-requires c κs = length-ready c.before.before.requires
-
-sub-length : tie.Need-overflow-sub-length
+sub-length : tie.Need-overflow_sub-length
 sub-length c = omega (arith, known c)
 
-returns : tie.Need-returns
-returns c = let s = c.before in no_room (whole s) (start s).args.buffer.now (omega (arith, known s, c.if1.true))
+returns : tie.Need-returns-then-buffer-length
+returns c = let s = c in no_room (whole s.before) s.args.buffer.now (omega (arith, known s.before, c.if-buffer-length.true))
 
-put-tree-requires : tie.Need-put-tree-requires
+put-tree-requires : tie.Need-put_tree-requires
 put-tree-requires c κs =
-    let s = c.before.before.before in
-    put-ready (start s).requires _ (start s).args.buffer.now refl (omega (arith, known s, c.before.before.if1.false))
+    let s = c in
+    put-ready s.requires _ s.args.buffer.now refl (omega (arith, known s.before.before.before, c.if-buffer-length.false))
 
-same_length : tie.Need-same-length
+same_length : tie.Need-shape_of-buffer
 same_length c = search rules
 
-returns-2 : tie.Need-returns-2
+returns-2 : tie.Need-returns
 returns-2 c =
-    let p = c.before.before in
-    let s = p.before.before.before.before in
-    let w = put_first p.put-tree.ensures.put in
-    let n : s.signed-length.result - 1 ≡ length (whole s) = omega (arith, known s) in
-    rw n (has_room (whole s) (start s).args.buffer.now p.put-tree.new.1.1.1.0 (omega (arith, known s, p.before.before.before.if1.false))
-    (w.1 ∙ ap (λ i. whole s ++ drop i (start s).args.buffer.now) w.0))
+    let p = c in
+    let s = p in
+    let w = put_first p.put_tree.ensures.put in
+    let n : s.signed_length-length.result - 1 ≡ length (whole s.before.before.before.before.before.before) = omega (arith, known s.before.before.before.before.before.before) in
+    rw n (has_room (whole s.before.before.before.before.before.before) s.args.buffer.now p.put_tree.new.buffer (omega (arith, known s.before.before.before.before.before.before, p.if-buffer-length.false))
+    (w.1 ∙ ap (λ i. whole s.before.before.before.before.before.before ++ drop i s.args.buffer.now) w.0))
 
-pub write-tree-spec : {M : Type 1} → statement M
-write-tree-spec = tie.close (tie.spec signed-length-requires sub-length returns put-tree-requires same_length returns-2)
+pub write_tree_spec : {M : Type 1} → statement M
+write_tree_spec = tie.close (tie.spec signed-length-requires sub-length returns put-tree-requires same_length returns-2)

@@ -9,26 +9,26 @@ use Rattle.sessions.specs.Session.{all_free}
 use Rattle.sessions.proofs.session.all_free.Statement.{statement}
 use Rattle.sessions.proofs.session.all_free.Tie as tie
 
-abbrev invariant-loop : tie.invariant-loop
+abbrev invariant-loop : tie.invariant-loop-i
 invariant-loop places found₀ i₀ found i = (i ≤ length places) × (found ≡ all_free (drop i places))
 
-abbrev decreases-loop : tie.decreases-loop
+abbrev decreases-loop : tie.decreases-loop-i
 decreases-loop places found₀ i₀ found i = i
 
-loop-holds : tie.Need-loop-init invariant-loop decreases-loop
+loop-holds : tie.Need-loop-i-init invariant-loop decreases-loop
 loop-holds c = let l = c.args.places.now in (search rules, rw (drop_of_length-le l {i = length l} (omega arith)))
 
-loop-again : tie.Need-loop-preserved invariant-loop decreases-loop
+loop-again : tie.Need-loop-i-preserved invariant-loop decreases-loop
 loop-again c =
-    let v = c.before.before.loop in
-    let l = c.before.before.before.args.places.now in
+    let v = c.loop-i in
+    let l = c.args.places.now in
     (search rules, rw (drop-back l v.i 0 (omega arith) (omega arith), ← v.invariant.1))
 
 returns : tie.Need-returns invariant-loop decreases-loop
-returns c = let z : c.before.loop.i ≡ 0 = omega arith in rw z at c.before.loop.invariant.1
+returns c = let z : c.loop-i.i ≡ 0 = omega arith in rw z at c.loop-i.invariant.1
 
-pub all-free-spec : {M : Type 1} → statement M
-all-free-spec =
+pub all_free_spec : {M : Type 1} → statement M
+all_free_spec =
     tie.close
     (tie.spec
     invariant-loop

@@ -8,30 +8,30 @@ use Rattle.sessions.specs.Session.{free}
 use Rattle.sessions.proofs.session.free_all.Statement.{statement}
 use Rattle.sessions.proofs.session.free_all.Tie as tie
 
-abbrev invariant-loop : tie.invariant-loop
+abbrev invariant-loop : tie.invariant-loop-i
 invariant-loop trail₀ i₀ trail i = (length trail ≡ length trail₀) × (i ≤ length trail₀) × (trail ≡ replicate i free ++ drop i trail₀)
 
-abbrev decreases-loop : tie.decreases-loop
+abbrev decreases-loop : tie.decreases-loop-i
 decreases-loop trail₀ i₀ trail i = length trail₀ - i
 
-loop-holds : tie.Need-loop-init invariant-loop decreases-loop
+loop-holds : tie.Need-loop-i-init invariant-loop decreases-loop
 loop-holds c = (refl, search rules, fill_none _ free)
 
-loop-again : tie.Need-loop-preserved invariant-loop decreases-loop
+loop-again : tie.Need-loop-i-preserved invariant-loop decreases-loop
 loop-again c =
-    let v = c.before.loop in
-    let d = c.before.before.args.trail.now in
+    let v = c.loop-i in
+    let d = c.args.trail.now in
     (simp length-set v.invariant.0, search rules, ap (λ (l : List ℕ). set l v.i free) v.invariant.2 ∙ fill_more v.i free d (omega arith))
 
 returns : tie.Need-returns invariant-loop decreases-loop
 returns c =
-    let v = c.before.loop in
-    let d = c.before.before.args.trail.now in
+    let v = c.loop-i in
+    let d = c.args.trail.now in
     let e : v.i ≡ length d = omega arith in
     v.invariant.2 ∙ rw (drop_of_length-le d {i = v.i} (omega arith), append-nil, e)
 
-pub free-all-spec : {M : Type 1} → statement M
-free-all-spec =
+pub free_all_spec : {M : Type 1} → statement M
+free_all_spec =
     tie.close
     (tie.spec
     invariant-loop

@@ -4,24 +4,21 @@ use borrow.Author.Rules.{rules}
 use Rattle.sessions.proofs.session.is_intact.Statement.{statement}
 use Rattle.sessions.proofs.session.is_intact.Tie as tie
 
-abbrev start : tie.After-room-in → tie.Start
-start c = c.before.before
-
-returns : tie.Need-returns
+returns : tie.Need-returns-then-children-most
 returns c =
-    let n = c.before.before in
-    let t = n.before.before in
-    let a = (start t.before).args in
-    let fits = rw t.before.room_in.ensures at t.if1.true in
-    intact-holds a.children a.names a.trail.now _ _ fits n.all_named.ensures c.all-free.ensures
+    let n = c in
+    let t = n in
+    let a = t.args in
+    let fits = rw t.room_in-most.ensures at t.if-children-most.true in
+    intact-holds a.children a.names a.trail.now _ _ fits n.all_named-named.ensures c.all_free-rest.ensures
 
-returns-2 : tie.Need-returns-2
+returns-2 : tie.Need-returns-else-children-most
 returns-2 c =
-    let a = (start c.before).args in
-    intact-over a.children a.names a.trail.now (rw c.before.room_in.ensures at c.if1.false)
+    let a = c.args in
+    intact-over a.children a.names a.trail.now (rw c.room_in-most.ensures at c.if-children-most.false)
 
-pub is-intact-spec : {M : Type 1} → statement M
-is-intact-spec =
+pub is_intact_spec : {M : Type 1} → statement M
+is_intact_spec =
     tie.close
     (tie.spec
     (λ c κs. search rules)

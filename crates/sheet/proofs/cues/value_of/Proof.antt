@@ -9,41 +9,41 @@ use borrow.Author.Rules.{rules}
 use Rattle.sheet.proofs.cues.value_of.Statement.{statement}
 use Rattle.sheet.proofs.cues.value_of.Tie as tie
 
-abbrev Inv : tie.invariant-loop
+abbrev Inv : tie.invariant-loop-i
 Inv digits number₀ i₀ number i = (i ≤ length digits) × (length digits ≤ 5) × (number ≡ value (take i digits)) × (number ≤ limit i)
 
-abbrev μ : tie.decreases-loop
+abbrev μ : tie.decreases-loop-i
 μ digits number₀ i₀ number i = length digits - i
 
-abbrev text : tie.At-loop Inv μ → Text
-text l = l.before.before.args.digits.now
+abbrev text : tie.At-loop-i Inv μ → Text
+text l = l.args.digits.now
 
-loop-holds : tie.Need-loop-init Inv μ
-loop-holds c = (omega arith, c.before.requires, refl, omega arith)
+loop-holds : tie.Need-loop-i-init Inv μ
+loop-holds c = (omega arith, c.requires, refl, omega arith)
 
-mul-number : tie.Need-overflow-mul-number Inv μ
-mul-number c = omega (arith, limit-small c.before.loop.i (omega arith))
+mul-number : tie.Need-overflow_mul-number Inv μ
+mul-number c = omega (arith, limit-small c.loop-i.i (omega arith))
 
-add-number : tie.Need-overflow-add-number Inv μ
+add-number : tie.Need-overflow_add-number Inv μ
 add-number c =
-    let i = c.before.before.before.loop.i in
-    omega (arith, limit-small i (omega arith), c.before.shared-slice-known2.given i, c.digit_value.ensures)
+    let i = c.loop-i.i in
+    omega (arith, limit-small i (omega arith), c.shared_slice_known-in-loop-i-1.given i, c.digit_value.ensures)
 
-loop-again : tie.Need-loop-preserved Inv μ
+loop-again : tie.Need-loop-i-preserved Inv μ
 loop-again c =
-    let l = c.before.before.before in
-    let v = l.loop.invariant in
+    let l = c in
+    let v = l.loop-i.invariant in
     let d = c.digit_value.ensures in
-    let b = c.before.shared-slice-known2.given l.loop.i in
-    (omega arith, v.1, omega (arith, value-more (text l) _ c.before.before.loop-test.true), rw add-one (omega arith))
+    let b = c.shared_slice_known-in-loop-i-1.given l.loop-i.i in
+    (omega arith, v.1, omega (arith, value-more (text l.before.before.before) _ c.loop-i-test.true), rw add-one (omega arith))
 
 returns : tie.Need-returns Inv μ
 returns c =
-    let l = c.before in
-    l.loop.invariant.2 ∙ ap value (take_all l.loop.i (text l) (omega arith))
+    let l = c in
+    l.loop-i.invariant.2 ∙ ap value (take_all l.loop-i.i (text l.before) (omega arith))
 
-pub value-of-spec : {M : Type 1} → statement M
-value-of-spec =
+pub value_of_spec : {M : Type 1} → statement M
+value_of_spec =
     tie.close
     (tie.spec
     Inv

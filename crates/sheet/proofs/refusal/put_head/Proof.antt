@@ -3,23 +3,23 @@ use borrow.Author.Rules.{rules}
 use Rattle.sheet.proofs.refusal.put_head.Statement.{statement}
 use Rattle.sheet.proofs.refusal.put_head.Tie as tie
 
-returns : tie.Need-returns
+returns : tie.Need-returns-in-Sheet
 returns c =
-    let p = c.before.before in
-    rw p.before.before.before.enum_told.given.1 p.put.ensures
+    let p = c in
+    rw p.in-Sheet.is p.put.ensures
 
-returns-2 : tie.Need-returns-2
+returns-2 : tie.Need-returns-in-Cues
 returns-2 c =
-    let p = c.before.before in
-    rw p.before.before.before.enum-told2.given.1 p.put2.ensures
+    let p = c in
+    rw p.in-Cues.is p.put-in-Cues.ensures
 
-returns-3 : tie.Need-returns-3
+returns-3 : tie.Need-returns-in-Listing
 returns-3 c =
-    let p = c.before.before in
-    rw p.before.before.before.enum-told3.given.1 p.put3.ensures
+    let p = c in
+    rw p.in-Listing.is p.put-in-Listing.ensures
 
-pub put-head-spec : {M : Type 1} → statement M
-put-head-spec =
+pub put_head_spec : {M : Type 1} → statement M
+put_head_spec =
     tie.close
     (tie.spec
     (λ c. search rules)

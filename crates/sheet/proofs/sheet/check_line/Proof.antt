@@ -9,61 +9,52 @@ use Rattle.sheet.proofs.sheet.check_line.Statement.{statement}
 use Rattle.sheet.proofs.sheet.check_line.Tie as tie
 
 -- where answers look back to: the call, and each test that was passed from the next one
-abbrev start : tie.Then1 → tie.Start
-start c = c.before.before.before
-
-abbrev then1 : tie.Then3 → tie.Then1
-then1 c = c.before.before.before.before.before
-
-abbrev then3 : tie.Then4 → tie.Then3
-then3 c = c.before.before.before
-
 abbrev kinds : tie.Start → List Text
 kinds s = parts_of s.args.text.now s.args.kinds
 
-three : (c : tie.Then1) → Three (start c).args.line.now (start c).args.ends
-three c = fields-three _ _ (start c).requires c.if1.true
+three : (c : tie.Then-second-line) → Three c.args.line.now c.args.ends
+three c = fields-three _ _ c.requires c.if-second-line.true
 
-ruled : (c : tie.Then3) → RuleLine (start (then1 c)).args.line.now (start (then1 c)).args.ends
+ruled : (c : tie.Then-same_bytes) → RuleLine c.args.line.now c.args.ends
 ruled c =
     record {
-      three = three (then1 c);
-      last = c.before.before.before.before.if2.true;
-      word = sym c.before.same_bytes.ensures ∙ c.if3.true;
+      three = three c.before.before.before.before.before.before;
+      last = c.if-third-line.true;
+      word = sym c.same_bytes.ensures ∙ c.if-same_bytes.true;
     }
 
-returns : tie.Need-returns
-returns c = let s = c.before.before.before in checked-few (kinds s) s.args.line.now s.requires c.if1.false
+returns : tie.Need-returns-else-second-line
+returns c = let s = c in checked-few (kinds s.before.before.before) s.args.line.now s.requires c.if-second-line.false
 
-returns-2 : tie.Need-returns-2
-returns-2 c = checked-many (kinds (start c.before)) (three c.before) c.if2.false
+returns-2 : tie.Need-returns-else-third-line
+returns-2 c = checked-many (kinds c.before.before.before.before) (three c.before) c.if-third-line.false
 
-returns-3 : tie.Need-returns-3
+returns-3 : tie.Need-returns-else-same_bytes
 returns-3 c =
-    let t = c.before.before.before.before in
-    checked-word (kinds (start t.before)) (three t.before) t.if2.true (sym c.before.same_bytes.ensures ∙ c.if3.false)
+    let t = c in
+    checked-word (kinds t.before.before.before.before.before.before.before.before.before) (three t.before.before.before.before.before.before) t.if-third-line.true (sym c.same_bytes.ensures ∙ c.if-same_bytes.false)
 
-returns-4 : tie.Need-returns-4
+returns-4 : tie.Need-returns-else-is_name
 returns-4 c =
-    let t = c.before.before.before in
-    checked-name (kinds (start (then1 t))) (ruled t) (sym c.before.is_name.ensures ∙ c.if4.false)
+    let t = c in
+    checked-name (kinds t.before.before.before.before.before.before.before.before.before.before.before.before) (ruled t.before.before.before) (sym c.is_name.ensures ∙ c.if-is_name.false)
 
-returns-5 : tie.Need-returns-5
+returns-5 : tie.Need-returns-else-number-eq0
 returns-5 c =
-    let n = c.before.before in
-    let t = n.before in
-    checked-again (kinds (start (then1 (then3 t)))) (ruled (then3 t)) (sym t.before.is_name.ensures ∙ t.if4.true)
-    n.number_of_lem.ensures c.if5.false
+    let n = c in
+    let t = n in
+    checked-again (kinds t.before.before.before.before.before.before.before.before.before.before.before.before.before.before.before) (ruled t.before.before.before.before.before.before) (sym t.is_name.ensures ∙ t.if-is_name.true)
+    n.number_of-number.ensures c.if-number-eq0.false
 
-returns-6 : tie.Need-returns-6
+returns-6 : tie.Need-returns
 returns-6 c =
-    let n = c.before.before in
-    let t = n.before in
-    checked-good (kinds (start (then1 (then3 t)))) (ruled (then3 t)) (sym t.before.is_name.ensures ∙ t.if4.true)
-    n.number_of_lem.ensures c.if5.true
+    let n = c in
+    let t = n in
+    checked-good (kinds t.before.before.before.before.before.before.before.before.before.before.before.before.before.before.before) (ruled t.before.before.before.before.before.before) (sym t.is_name.ensures ∙ t.if-is_name.true)
+    n.number_of-number.ensures c.if-number-eq0.true
 
-pub check-line-spec : {M : Type 1} → statement M
-check-line-spec =
+pub check_line_spec : {M : Type 1} → statement M
+check_line_spec =
     tie.close
     (tie.spec
     returns
@@ -74,9 +65,9 @@ check-line-spec =
     (λ c. search rules)
     (λ c κs. search rules)
     returns-3
-    (λ c. omega (arith, (three (then1 c)).ascending))
-    (λ c. omega (arith, (three (then1 c)).ascending))
-    (λ c. omega (arith, (three (then1 c)).ascending))
+    (λ c. omega (arith, (three c.before.before.before.before.before.before).ascending))
+    (λ c. omega (arith, (three c.before.before.before.before.before.before).ascending))
+    (λ c. omega (arith, (three c.before.before.before.before.before.before).ascending))
     (λ c. search rules)
     (λ c κs. search rules)
     returns-4

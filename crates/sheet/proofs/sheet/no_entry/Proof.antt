@@ -5,7 +5,7 @@ use Rattle.sheet.proofs.sheet.no_entry.Statement.{statement}
 use Rattle.sheet.proofs.sheet.no_entry.Tie as tie
 
 returns : tie.Need-returns
-returns c = entry-made c.no_place.ensures c.before.before.before.read-model.ensures
+returns c = entry-made c.no_place.ensures c.read_model-none.ensures
 
-pub no-entry-spec : {M : Type 1} → statement M
-no-entry-spec = tie.close (tie.spec (λ c. search rules) (λ c κs. search rules) (λ c κs. search rules) returns)
+pub no_entry_spec : {M : Type 1} → statement M
+no_entry_spec = tie.close (tie.spec (λ c. search rules) (λ c κs. search rules) (λ c κs. search rules) returns)

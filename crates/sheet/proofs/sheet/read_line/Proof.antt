@@ -12,59 +12,52 @@ use Rattle.sheet.proofs.sheet.read_line.Statement.{statement}
 use Rattle.sheet.proofs.sheet.read_line.Tie as tie
 
 -- where answers look back to: the call, the ends of the fields, and the good check from behind the model
-abbrev ends : tie.After-enum-told → tie.After-first-fields
-ends c = c.before.before.before
+abbrev ends : tie.In-Good → tie.After-first_fields-ends
+ends c = c.before.before
+good : (c : tie.In-Good)
+    → (let a = c.args in line_checked (parts_of a.text.now a.kinds) (part a.text.now a.at a.end)) ≡ Good
+good c = sym c.check_line.ensures ∙ c.in-Good.is
 
-abbrev start : tie.After-first-fields → tie.Start
-start c = c.before.before.before
-
-abbrev checked : tie.After-names → tie.After-enum-told
-checked c = c.before.before.before.before.before.before
-
-good : (c : tie.After-enum-told)
-    → (let a = (start (ends c)).args in line_checked (parts_of a.text.now a.kinds) (part a.text.now a.at a.end)) ≡ Good
-good c = sym c.before.before.check-line.ensures ∙ c.enum_told.given.1
-
-fits : (c : tie.After-enum-told)
-    → (let a = (start (ends c)).args in let h = (ends c).first-fields.result in
+fits : (c : tie.In-Good)
+    → (let a = c.args in let h = c.first_fields-ends.result in
     (h.first + 1 ≤ h.second) × (h.second + 1 ≤ h.third) × (h.third ≤ length (part a.text.now a.at a.end)) × (a.at + h.third ≤ max_file))
-fits c = let s = start (ends c) in heads-fit s.args.text.now s.args.kinds s.pre (ends c).first-fields.ensures.0 (good c)
+fits c = let s = c in heads-fit s.args.text.now s.args.kinds s.requires c.first_fields-ends.ensures.0 (good c)
 
-returns : tie.Need-returns
+returns : tie.Need-returns-in-Bad
 returns c =
-    let m = c.before.before.before in
-    check-refused c.bad-line.ensures (sym m.before.check-line.ensures ∙ c.before.before.f.given.1)
+    let m = c in
+    check-refused c.bad_line.ensures (sym m.check_line.ensures ∙ c.in-Bad.is)
 
-returns-2 : tie.Need-returns-2
+returns-2 : tie.Need-returns-in-Refused
 returns-2 c =
-    let o = c.before.before in
-    let m = o.before.before in
-    let k = m.before.before in
-    refused_model (ends k).first-fields.ensures.0 (good k) m.read-model.ensures o.outcome.given.1 c.bad-line2.ensures
+    let o = c in
+    let m = o in
+    let k = m in
+    refused_model k.first_fields-ends.ensures.0 (good k.before.before.before.before) m.read_model-model.ensures o.in-Refused.is c.bad_line-in-Refused.ensures
 
-place-in-requires : tie.Need-place-in-requires
-place-in-requires c κs = let s = fits (checked c) in (omega arith, omega arith)
+place-in-requires : tie.Need-place_in-kind-requires
+place-in-requires c κs = let s = fits c.before.before.before.before.before in (omega arith, omega arith)
 
-place-in-requires-2 : tie.Need-place-in-requires-2
-place-in-requires-2 c κs = let s = fits (checked c.before) in (omega arith, omega arith)
+place-in-requires-2 : tie.Need-place_in-place-requires
+place-in-requires-2 c κs = let s = fits c.before.before.before.before.before.before in (omega arith, omega arith)
 
-returns-3 : tie.Need-returns-3
+returns-3 : tie.Need-returns
 returns-3 c =
-    let n = c.before.before in
-    let o = n.before.before in
-    let k = checked n in
-    model-read (ends k).first-fields.ensures.0 (good k) o.before.before.read-model.ensures
-    c.before.place_in.ensures c.place-in2.ensures o.enum-told2.given.1
+    let n = c in
+    let o = n in
+    let k = n in
+    model-read k.first_fields-ends.ensures.0 (good k.before.before.before.before.before.before.before) o.read_model-model.ensures
+    c.place_in-kind.ensures c.place_in-place.ensures o.in-Read.is
 
-pub read-line-spec : {M : Type 1} → statement M
-read-line-spec =
+pub read_line_spec : {M : Type 1} → statement M
+read_line_spec =
     tie.close
     (tie.spec
     (λ c. search rules)
     (λ c. search rules)
     (λ c. search rules)
     (λ c κs. search rules)
-    (λ c κs. c.first-fields.ensures.0)
+    (λ c κs. c.first_fields-ends.ensures.0)
     (λ c. search rules)
     (λ c. search rules)
     (λ c κs. search rules)
@@ -78,8 +71,8 @@ read-line-spec =
     (λ c. search rules)
     (λ c κs. search rules)
     returns-2
-    (λ c. omega (arith, fits (checked c)))
+    (λ c. omega (arith, fits c.before.before.before.before.before))
     place-in-requires
-    (λ c. omega (arith, fits (checked c.before)))
+    (λ c. omega (arith, fits c.before.before.before.before.before.before))
     place-in-requires-2
     returns-3)

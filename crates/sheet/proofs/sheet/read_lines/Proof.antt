@@ -9,82 +9,80 @@ use native.Mathlib.Omega.{arith}
 use Rattle.sheet.proofs.sheet.read_lines.Statement.{statement}
 use Rattle.sheet.proofs.sheet.read_lines.Tie as tie
 
-abbrev Inv : tie.invariant-loop
+abbrev Inv : tie.invariant-loop-at
 Inv text kinds₀ entries₀ n₀ at₀ kinds entries n at = Gone text kinds entries n at × (length text ≤ max_file)
 
-abbrev μ : tie.decreases-loop
+abbrev μ : tie.decreases-loop-at
 μ text kinds₀ entries₀ n₀ at₀ kinds entries n at = length text - at
 
 -- where answers look back to: the text, a turn of the loop, the end of its line, and what the line is read into
-abbrev text : tie.At-loop Inv μ → Text
-text l = l.before.before.before.before.before.args.text.now
+abbrev text : tie.At-loop-at Inv μ → Text
+text l = l.args.text.now
 
-abbrev loop : tie.After-part-end Inv μ → tie.At-loop Inv μ
+abbrev loop : tie.After-part_end-end Inv μ → tie.At-loop-at Inv μ
 loop c = c.before.before.before
+abbrev line : tie.After-entry-1 Inv μ → tie.After-read_line-line Inv μ
+line c = c.before.before.before
+bounds : (c : tie.After-part_end-end Inv μ) → (c.loop-at.at ≤ c.part_end-end.result) × (c.part_end-end.result ≤ length (text c.before.before.before))
+bounds c = end-bounds (text c.before.before.before) line_feed _ _ (omega arith) c.part_end-end.ensures
 
-abbrev line : tie.After-entry Inv μ → tie.After-read-line Inv μ
-line c = c.before.before.before.before
+room : (c : tie.After-part_end-end Inv μ) → c.loop-at.n < 64
+room c = omega (arith, c.loop-at.invariant.0.few, c.if-n-eq-MAX_RULES.false)
 
-bounds : (c : tie.After-part-end Inv μ) → ((loop c).loop.at ≤ c.part_end.result) × (c.part_end.result ≤ length (text (loop c)))
-bounds c = end-bounds (text (loop c)) line_feed _ _ (omega arith) c.part_end.ensures
+loop-holds : tie.Need-loop-at-init Inv μ
+loop-holds c = let p = c.requires in (gone-start c.no_rules-none.ensures p.1, p.0)
 
-room : (c : tie.After-part-end Inv μ) → (loop c).loop.n < 64
-room c = omega (arith, (loop c).loop.invariant.0.few, c.before.if1.false)
-
-loop-holds : tie.Need-loop-init Inv μ
-loop-holds c = let p = c.before.before.before.before.requires in (gone-start c.before.before.no-rules.ensures p.1, p.0)
-
-returns : tie.Need-returns Inv μ
+returns : tie.Need-returns-then-n-eq-MAX_RULES Inv μ
 returns c =
-    let i = c.before.before in
-    c.refused.ensures ∙ gone-many i.before.loop.invariant.0 c.before.if1.true i.loop-test.true
+    let i = c in
+    c.refused.ensures ∙ gone-many i.loop-at.invariant.0 c.if-n-eq-MAX_RULES.true i.loop-at-test.true
 
-read-line-requires : tie.Need-read-line-requires Inv μ
-read-line-requires c κs = ((bounds c).0, (bounds c).1, (loop c).loop.invariant.1)
+read-line-requires : tie.Need-read_line-line-requires Inv μ
+read-line-requires c κs = ((bounds c).0, (bounds c).1, c.loop-at.invariant.1)
 
-returns-2 : tie.Need-returns-2 Inv μ
+returns-2 : tie.Need-returns-in-Bad Inv μ
 returns-2 c =
-    let r = c.before.before.before.before in
-    let e = r.before in
-    c.refused2.ensures
-    ∙ gone-bad (loop e).loop.invariant.0 (room e) e.before.before.loop-test.true e.part_end.ensures r.read-line.ensures
-    c.before.before.checked.given.1
+    let r = c in
+    let e = r in
+    c.refused-in-Bad.ensures
+    ∙ gone-bad e.loop-at.invariant.0 (room e.before.before.before) e.loop-at-test.true e.part_end-end.ensures r.read_line-line.ensures
+    c.in-Bad.is
 
-loop-again : tie.Need-loop-preserved Inv μ
+loop-again : tie.Need-loop-at-preserved Inv μ
 loop-again c =
-    let r = line c in
-    let e = r.before in
-    let v = (loop e).loop.inv in
-    let g = c.before.before.enum_told.given.1 in
-    (gone-next v.0 (room e) e.before.before.loop-test.taken e.part_end.ensures r.read-line.ensures g, v.1)
+    let r = c in
+    let e = r in
+    let v = e.loop-at.invariant in
+    let g = c.in-Good.is in
+    (gone-next v.0 (room e.before.before.before.before) e.loop-at-test.true e.part_end-end.ensures r.read_line-line.ensures g, v.1)
 
-returns-3 : tie.Need-returns-3 Inv μ
-returns-3 c = gone-end c.before.loop.invariant.0 c.loop-test.false
+returns-3 : tie.Need-returns Inv μ
+returns-3 c = gone-end c.loop-at.invariant.0 c.loop-at-test.false
 
-pub read-lines-spec : {M : Type 1} → statement M
-read-lines-spec =
+pub read_lines_spec : {M : Type 1} → statement M
+read_lines_spec =
     tie.close
     (tie.spec
     Inv
     μ
     (λ c κs. search rules)
     loop-holds
-    (λ c. omega (arith, c.before.before.loop.invariant.0.few))
+    (λ c. omega (arith, c.loop-at.invariant.0.few))
     (λ c κs. search rules)
     returns
     (λ c κs. search rules)
     read-line-requires
     (λ c. search rules)
     (λ c. search rules)
-    (λ c. omega (arith, room c.before.before.before.before))
+    (λ c. omega (arith, room c.before.before))
     (λ c κs. search rules)
     returns-2
-    (λ c. omega (arith, room (line c).before))
-    (λ c. omega (arith, room (line c).before))
-    (λ c. omega (arith, room (line c).before))
-    (λ c. omega (arith, room (line c).before))
-    (λ c. omega (arith, room (line c).before))
-    (λ c. omega (arith, bounds (line c).before, (loop (line c).before).loop.inv.1))
-    (λ c. omega (arith, bounds (line c).before))
+    (λ c. omega (arith, room c.before.before.before.before))
+    (λ c. omega (arith, room c.before.before.before.before))
+    (λ c. omega (arith, room c.before.before.before.before))
+    (λ c. omega (arith, room c.before.before.before.before))
+    (λ c. omega (arith, room c.before.before.before.before))
+    (λ c. omega (arith, bounds c.before.before.before.before, c.loop-at.invariant.1))
+    (λ c. omega (arith, bounds c.before.before.before.before))
     loop-again
     returns-3)

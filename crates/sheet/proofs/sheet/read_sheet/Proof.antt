@@ -6,30 +6,30 @@ use borrow.Author.Rules.{rules}
 use Rattle.sheet.proofs.sheet.read_sheet.Statement.{statement}
 use Rattle.sheet.proofs.sheet.read_sheet.Tie as tie
 
-abbrev text : tie.After-is-ended → Text
-text c = c.before.before.before.args.text.now
+abbrev text : tie.After-is_ended → Text
+text c = c.args.text.now
 
-ended : (c : tie.Then2) → same_text (behind (text c.before)) [] ≡ true
-ended c = sym c.before.is-ended.ensures ∙ c.if2.true
+ended : (c : tie.Then-is_ended) → same_text (behind (text c.before)) [] ≡ true
+ended c = sym c.is_ended.ensures ∙ c.if-is_ended.true
 
-returns : tie.Need-returns
-returns c = c.refused.ensures ∙ sheet-long c.before.before.before.args.text.now c.before.if1.true
+returns : tie.Need-returns-then-text-gt-MAX_FILE
+returns c = c.refused.ensures ∙ sheet-long c.args.text.now c.if-text-gt-MAX_FILE.true
 
-read-lines-requires : tie.Need-read-lines-requires
-read-lines-requires c κs = (c.before.before.if1.false, (same_text-is (behind (text c.before)) []).0 (ended c))
+read-lines-requires : tie.Need-read_lines-requires
+read-lines-requires c κs = (c.if-text-gt-MAX_FILE.false, (same_text-is (behind (text c.before)) []).0 (ended c))
 
-returns-2 : tie.Need-returns-2
+returns-2 : tie.Need-returns-then-is_ended
 returns-2 c =
-    let t = c.before in
-    c.read-lines.ensures ∙ sheet-begin (text t.before) t.before.before.if1.false (ended t)
+    let t = c in
+    c.read_lines.ensures ∙ sheet-begin (text t.before.before) t.if-text-gt-MAX_FILE.false (ended t.before)
 
-returns-3 : tie.Need-returns-3
+returns-3 : tie.Need-returns
 returns-3 c =
-    let e = c.before in
-    c.refused2.ensures ∙ sheet-unended (text e.before) e.before.before.if1.false (sym e.before.is-ended.ensures ∙ e.if2.false)
+    let e = c in
+    c.refused-2.ensures ∙ sheet-unended (text e.before.before) e.if-text-gt-MAX_FILE.false (sym e.is_ended.ensures ∙ e.if-is_ended.false)
 
-pub read-sheet-spec : {M : Type 1} → statement M
-read-sheet-spec =
+pub read_sheet_spec : {M : Type 1} → statement M
+read_sheet_spec =
     tie.close
     (tie.spec
     (λ c κs. search rules)

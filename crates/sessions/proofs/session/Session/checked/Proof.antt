@@ -5,32 +5,29 @@ use borrow.Author.Rules.{rules}
 use Rattle.sessions.proofs.session.Session.checked.Statement.{statement}
 use Rattle.sessions.proofs.session.Session.checked.Tie as tie
 
-abbrev start : tie.After-is-readable → tie.Start
-start c = c.before.before.before
-
-returns : tie.Need-returns
+returns : tie.Need-returns-then-whole
 returns c =
-    let i = c.before in
-    let w = i.before.before in
-    let a = (start w.before).args in
-    let by = checked-by a.self a.trail.now _ w.before.is-readable.ensures w.if1.true in
-    sym (by _ _ true i.before.names.ensures i.is-intact.ensures c.if2.true)
+    let i = c in
+    let w = i in
+    let a = w.args in
+    let by = checked-by a.self a.trail.now _ w.is_readable-good.ensures w.if-good.true in
+    sym (by _ _ true i.names-names.ensures i.is_intact-whole.ensures c.if-whole.true)
 
-returns-2 : tie.Need-returns-2
+returns-2 : tie.Need-returns-then-good
 returns-2 c =
-    let i = c.before in
-    let w = i.before.before in
-    let a = (start w.before).args in
-    let by = checked-by a.self a.trail.now _ w.before.is-readable.ensures w.if1.true in
-    sym (by _ _ false i.before.names.ensures i.is-intact.ensures c.if2.false)
+    let i = c in
+    let w = i in
+    let a = w.args in
+    let by = checked-by a.self a.trail.now _ w.is_readable-good.ensures w.if-good.true in
+    sym (by _ _ false i.names-names.ensures i.is_intact-whole.ensures c.if-whole.false)
 
-returns-3 : tie.Need-returns-3
+returns-3 : tie.Need-returns
 returns-3 c =
-    let a = (start c.before).args in
-    sym (checked-no-model a.self a.trail.now _ c.before.is-readable.ensures c.if1.false)
+    let a = c.args in
+    sym (checked-no-model a.self a.trail.now _ c.is_readable-good.ensures c.if-good.false)
 
-pub checked-spec : {M : Type 1} → statement M
-checked-spec =
+pub checked_spec : {M : Type 1} → statement M
+checked_spec =
     tie.close
     (tie.spec
     (λ c κs. search rules)

@@ -7,23 +7,20 @@ use borrow.Author.Rules.{rules}
 use Rattle.sessions.proofs.session.Session.open.Statement.{statement}
 use Rattle.sessions.proofs.session.Session.open.Tie as tie
 
-abbrev start : tie.After-is-readable → tie.Start
-start c = c.before.before
-
-returns : tie.Need-returns
+returns : tie.Need-returns-then-good
 returns c =
-    let f = c.before.before.before in
-    let w = f.before.before in
-    let a = (start w.before).args in
-    let e = opening-by a.rule a.self a.trail.now _ true w.before.is-readable.ensures w.if1.true in
+    let f = c in
+    let w = f in
+    let a = w.args in
+    let e = opening-by a.rule a.self a.trail.now _ true w.is_readable-good.ensures w.if-good.true in
     let d = completed (opening a.rule) a.self a.trail.now _ e c.done.ensures in
     (d.0, f.free_all.ensures ∙ d.1)
 
-returns-2 : tie.Need-returns-2
+returns-2 : tie.Need-returns
 returns-2 c =
-    let w = c.before in
-    let a = (start w.before).args in
-    let e = opening-by a.rule a.self a.trail.now _ false w.before.is-readable.ensures w.if1.false in
+    let w = c in
+    let a = w.args in
+    let e = opening-by a.rule a.self a.trail.now _ false w.is_readable-good.ensures w.if-good.false in
     refused (opening a.rule) a.self a.trail.now Unreadable _ e c.refused.ensures
 
 pub open_spec : {M : Type 1} → statement M

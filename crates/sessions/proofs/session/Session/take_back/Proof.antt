@@ -8,48 +8,44 @@ use Rattle.sessions.proofs.session.Session.take_back.Statement.{statement}
 use Rattle.sessions.proofs.session.Session.take_back.Tie as tie
 
 -- the call, from where 40 and 42 were tried; that, from where both are known not to be there
-abbrev start : tie.After-checked → tie.Start
-start c = c.before.before.before.before
+abbrev tried : tie.In-Done → tie.After-checked
+tried c = c.before
+passed : (c : tie.In-Done) → checked c.args.self c.args.trail.now ≡ Done
+passed c = sym c.checked.ensures ∙ c.in-Done.is
 
-abbrev tried : tie.After-enum-told → tie.After-checked
-tried c = c.before.before
-
-passed : (c : tie.After-enum-told) → checked (start (tried c)).args.self (start (tried c)).args.trail.now ≡ Done
-passed c = sym (tried c).checked.ensures ∙ c.enum_told.given.1
-
-returns : tie.Need-returns
+returns : tie.Need-returns-then-children-eq0
 returns c =
-    let o = c.before.before in
-    let a = (start (tried o)).args in
-    let e = taking-none a.self a.trail.now (passed o) c.before.if1.true in
-    refused taking_back a.self a.trail.now NothingToTakeBack _ e c.refused2.ensures
+    let o = c in
+    let a = o.args in
+    let e = taking-none a.self a.trail.now (passed o.before.before) c.if-children-eq0.true in
+    refused taking_back a.self a.trail.now NothingToTakeBack _ e c.refused-then-children-eq0.ensures
 
-mul-trail : tie.Need-overflow-mul-trail
+mul-trail : tie.Need-offset_bounds-trail-children
 mul-trail c =
     let h = checked-fits _ _ (passed c.before) in
     search rules
 
-slice-write-trail : tie.Need-slice-write-trail
+slice-write-trail : tie.Need-bounds-trail-children
 slice-write-trail c =
     let h = checked-fits _ _ (passed c.before) in
     search rules
 
-returns-2 : tie.Need-returns-2
+returns-2 : tie.Need-returns-in-Refused
 returns-2 c =
-    let o = c.before.before in
-    let k = o.before.before in
-    let a = (start k).args in
-    let e = taking-refused a.self a.trail.now _ (sym k.checked.ensures ∙ o.fault.given.1) in
+    let o = c in
+    let k = o in
+    let a = k.args in
+    let e = taking-refused a.self a.trail.now _ (sym k.checked.ensures ∙ o.in-Refused.is) in
     refused taking_back a.self a.trail.now _ _ e c.refused.ensures
 
-returns-3 : tie.Need-returns-3
+returns-3 : tie.Need-returns-else-children-eq0
 returns-3 c =
-    let o = c.before.before in
-    let a = (start (tried o)).args in
-    completed taking_back a.self a.trail.now _ (taking-done a.self a.trail.now (passed o) (search rules)) c.done.ensures
+    let o = c in
+    let a = o.args in
+    completed taking_back a.self a.trail.now _ (taking-done a.self a.trail.now (passed o.before.before) (search rules)) c.done.ensures
 
-pub take-back-spec : {M : Type 1} → statement M
-take-back-spec =
+pub take_back_spec : {M : Type 1} → statement M
+take_back_spec =
     tie.close
     (tie.spec
     (λ c κs. search rules)

@@ -6,39 +6,36 @@ use borrow.Author.Rules.{rules}
 use Rattle.sessions.proofs.session.Session.verdict.Statement.{statement}
 use Rattle.sessions.proofs.session.Session.verdict.Tie as tie
 
-abbrev start : tie.After-is-intact → tie.Start
-start c = c.before.before.before.before
-
-part-judge-row-end : tie.Need-slice-bounds-judge-row-end
+part-judge-row-end : tie.Need-slice_bounds-judge_row-end
 part-judge-row-end c =
-    let i = c.before in
-    let a = (start i).args in
-    intact-fits a.self.children _ a.trail.now (sym i.is-intact.ensures ∙ c.if1.true)
+    let i = c in
+    let a = i.args in
+    intact-fits a.self.children _ a.trail.now (sym i.is_intact-whole.ensures ∙ c.if-whole.true)
 
-returns : tie.Need-returns
+returns : tie.Need-returns-then-whole
 returns c =
-    let h = c.before.before in
-    let i = h.before in
-    let a = (start i).args in
-    let whole = ap (λ m. intact a.self.children m a.trail.now) (sym i.before.names.ensures) ∙ sym i.is-intact.ensures ∙ h.if1.true in
-    c.judge-row.ensures ∙ asked-judged a.self a.trail.now whole
+    let h = c in
+    let i = h in
+    let a = i.args in
+    let whole = ap (λ m. intact a.self.children m a.trail.now) (sym i.names.ensures) ∙ sym i.is_intact-whole.ensures ∙ h.if-whole.true in
+    c.judge_row.ensures ∙ asked-judged a.self a.trail.now whole
 
-returns-2 : tie.Need-returns-2
+returns-2 : tie.Need-returns-then-good
 returns-2 c =
-    let w = c.before in
-    let i = w.before.before in
-    let a = (start i).args in
-    let by = checked-by a.self a.trail.now _ w.is-readable.ensures c.if2.true in
-    asked-refused a.self a.trail.now _ (by _ _ false i.before.names.ensures i.is-intact.ensures w.before.if1.false)
+    let w = c in
+    let i = w in
+    let a = i.args in
+    let by = checked-by a.self a.trail.now _ w.is_readable-good.ensures c.if-good.true in
+    asked-refused a.self a.trail.now _ (by _ _ false i.names.ensures i.is_intact-whole.ensures w.if-whole.false)
 
-returns-3 : tie.Need-returns-3
+returns-3 : tie.Need-returns
 returns-3 c =
-    let w = c.before in
-    let a = (start w.before.before).args in
-    asked-refused a.self a.trail.now _ (checked-no-model a.self a.trail.now _ w.is-readable.ensures c.if2.false)
+    let w = c in
+    let a = w.args in
+    asked-refused a.self a.trail.now _ (checked-no-model a.self a.trail.now _ w.is_readable-good.ensures c.if-good.false)
 
-pub verdict-spec : {M : Type 1} → statement M
-verdict-spec =
+pub verdict_spec : {M : Type 1} → statement M
+verdict_spec =
     tie.close
     (tie.spec
     (λ c κs. search rules)
