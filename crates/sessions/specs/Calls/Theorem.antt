@@ -32,10 +32,10 @@ plays-all u (q ∷ qs) =
 keeps : {n : ℕ} {b : Book} {u₁ u₂ : World} {qs : List Call} {rs : List CallReply} → Matches n b → u₁ ≡ shown n b → PlaysAll u₁ qs rs u₂ →
     (c : Book) × Keeps n b qs rs c × (u₂ ≡ shown n c) × (length c.row ≤ room n)
 keeps {b = b} k e no_more = (b, done, e, k.fits)
-keeps {n} {b} k e (and_then p ps) =
-    let (c, h, f, l) = agrees n b k (rw e at p) in
-    let (d, hs, g, m) = keeps l f ps in
-    (d, next h hs, g, m)
+keeps {n} {b} k e (and_then {u₁ = u₁} {q = q} {a = a} p ps) =
+    let o = agrees n b k (rw e at p) in
+    let (d, hs, g, m) = keeps {n = n} {b = o.0} o.3 o.2 ps in
+    (d, next o.1 hs, g, m)
 
 -- Each reply is the book's, and at the end the session and the trail show the book.
 pub agrees-with-book : {u₀ u₁ u₂ : World} {r : Rule} {qs : List Call} {rs : List CallReply}

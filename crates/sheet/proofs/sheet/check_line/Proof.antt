@@ -62,7 +62,6 @@ check_line_spec =
     (λ c. search rules)
     (λ c. search rules)
     (λ c. omega (arith, (three c.before).ascending))
-    (λ c. search rules)
     (λ c κs. search rules)
     returns-3
     (λ c. omega (arith, (three c.before.before.before.before.before.before).ascending))

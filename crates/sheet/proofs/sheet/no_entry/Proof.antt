@@ -8,4 +8,4 @@ returns : tie.Need-returns
 returns c = entry-made c.no_place.ensures c.read_model-none.ensures
 
 pub no_entry_spec : {M : Type 1} → statement M
-no_entry_spec = tie.close (tie.spec (λ c. search rules) (λ c κs. search rules) (λ c κs. search rules) returns)
+no_entry_spec = tie.close (tie.spec (λ c κs. search rules) (λ c κs. search rules) returns)
