@@ -61,9 +61,9 @@ loop-again c =
     let r = l.requires in
     let e = c.unpacked-next.ensures in
     ⊎_elim
-    (λ (t, a). listing-kept r l.loop-k.invariant (left k.before.before.before.before.before.before) e a (sym (sign_is l.before.before.before.before.before.before.before) ∙ t.true))
-    (λ (t, g, i, a). listing-sorted r l.loop-k.invariant (left k.before.before.before.before.before.before) e a (λ s. t.left (sign_is l.before.before.before.before.before.before.before ∙ s)) i.ensures)
-    j.if-head-eq44.branch
+    (λ w. listing-kept r l.loop-k.invariant (left k.before.before.before.before.before.before) e w.list-is (sym (sign_is l.before.before.before.before.before.before.before) ∙ w.if-head-eq44.true))
+    (λ w. listing-sorted r l.loop-k.invariant (left k.before.before.before.before.before.before) e w.list-is (λ s. w.if-head-eq44.false (sign_is l.before.before.before.before.before.before.before ∙ s)) w.insert.ensures)
+    j.if-head-eq44.branch-raw
 
 returns : tie.Need-returns invariant-loop decreases-loop
 returns c = members-listed c.requires c.loop-k.invariant (end_is c.before) c.loop-k-test.false

@@ -49,13 +49,13 @@ element-copy-out-last c = omega (arith, c.requires.range)
 
 module _ (c : tie.After-last-1 invariant-loop decreases-loop) where
   abbrev first : tie.Start invariant-loop decreases-loop
-  first = begin c.before
+  first = begin c.before.before
 
   last-place : TwoMembers first.args.text.now first.args.stack.now first.args.m c.name_end-name.result
       (get_or first.args.list.now (first.args.end - 1) 0)
   last-place =
       let h = c.if-start-end.true in
-      two-members first.requires (own-end c.before) (first.args.end - 1) (omega (arith, h)) (omega (arith, h))
+      two-members first.requires (own-end c.before.before) (first.args.end - 1) (omega (arith, h)) (omega (arith, h))
 
 cast-is-behind : tie.Need-overflow_cast-last invariant-loop decreases-loop
 cast-is-behind c = omega (arith, (last-place c).second)
@@ -83,11 +83,11 @@ element-copy-out-other c = omega (arith, mid-listed c.before, c.requires.range)
 
 module _ (c : tie.After-other-1 invariant-loop decreases-loop) where
   abbrev at : tie.At-loop-low invariant-loop decreases-loop
-  at = c
+  at = c.before.before.before
 
   mid-place : TwoMembers at.args.text.now at.args.stack.now at.args.m at.name_end-name.result
       (get_or at.args.list.now (mid at) 0)
-  mid-place = two-members at.requires (own-end at) (mid at) (mid-listed c.before).0 (mid-listed c.before).1
+  mid-place = two-members at.requires (own-end at.before.before.before.before.before) (mid at) (mid-listed c.before.before).0 (mid-listed c.before.before).1
 
 cast-is-behind-2 : tie.Need-overflow_cast-other invariant-loop decreases-loop
 cast-is-behind-2 c = omega (arith, (mid-place c).second)

@@ -81,7 +81,7 @@ module _ (t : ℕ) where
   shared-slice-read-if1 : lts.Need-bounds-text-at (claims t) (at t) tidy.Post invariant-loop decreases-loop
   shared-slice-read-if1 c = tree-inside c.requires.1.stands
   atom-requires : lts.Need-atom-a-requires (claims t) (at t) tidy.Post invariant-loop decreases-loop
-  atom-requires c κs = (((here c).atom-a, atom-stands (here c).stands), omega (arith, c.requires.1.short))
+  atom-requires c κs = (((here c).atom, atom-stands (here c).stands), omega (arith, c.requires.1.short))
   returns : lts.Need-returns-then-text-at-ne40 (claims t) (at t) tidy.Post invariant-loop decreases-loop
   returns c =
       let s = c in
@@ -90,7 +90,7 @@ module _ (t : ℕ) where
       let stack = s.args.stack.now in
       every-tree (λ (u : Syntax). TidiedAt x stack stack s.args.at s.args.top c.with_mark.result u)
       h.stands
-      (subst (λ (y : Tidied). TidiedAt x stack stack s.args.at s.args.top y (marked h.mark (leaf h.atom-a)))
+      (subst (λ (y : Tidied). TidiedAt x stack stack s.args.at s.args.top y (marked h.mark (leaf h.atom)))
       (sym (c.with_mark.ensures ∙ ap (marked_by s.args.text.now) c.atom-a.ensures))
       (atom-tidied s.args.stack.now s.args.top h.stands s.requires.1.heads))
   add-p : lts.Need-overflow_add-p (claims t) (at t) tidy.Post invariant-loop decreases-loop

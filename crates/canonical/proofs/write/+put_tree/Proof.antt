@@ -116,7 +116,7 @@ module _ (t : ℕ) where
   add-put-mark : lts.Need-overflow_add-p-2 (claims t) (at t) put-tree.Post invariant-loop decreases-loop
   add-put-mark c =
       let l = c in
-      omega (arith, bracket c.before, put-length l.loop-k.invariant.put, l.well-formed)
+      omega (arith, bracket c.before, put-length l.loop-k.invariant.put, l.well_formed)
   put-mark-requires-2 : lts.Need-put_mark-requires-2 (claims t) (at t) put-tree.Post invariant-loop decreases-loop
   put-mark-requires-2 c κs =
       let l = c in
@@ -148,9 +148,9 @@ pub +put_tree_spec : {M : Type 1} → statement M
     (members-requires t)
     (loop-holds t)
     (λ c. search rules)
-    (λ c. (next t c).on_list)
+    (λ c. (next t c.before).on_list)
     (cast-m t)
-    (λ c. (next t c.before).byte_fits)
+    (λ c. (next t c.before.before).byte_fits)
     (add-put-tree t)
     (put-tree-requires t)
     (λ c. search rules)

@@ -43,13 +43,13 @@ atom-own x {g} e t k o = rw (← e, eq-eqb g.sign 1 t) (o ∙ ap (λ n. n - g.le
 group-own : (x : Text) {g h : Head} {own : ℕ} → g ≡ h → (g.sign ≡ 1 → ⊥) → own ≡ 1 → own ≡ plain_length x h
 group-own x {g} e t o = rw (← e, ne_eqb g.sign 1 t) o
 
-own_first : (j : tie.Joined-head-eq-ATOM invariant-loop decreases-loop) → j.if-head-eq-ATOM.own_val ≡ plain_length (whole j.before.before.before.before.before.before) (head j.before.before.before.before.before.before)
+own_first : (j : tie.Joined-head-eq-ATOM invariant-loop decreases-loop) → j.if-head-eq-ATOM.own ≡ plain_length (whole j.before.before.before.before.before.before) (head j.before.before.before.before.before.before)
 own_first j =
     let x = whole j.before.before.before.before.before.before in
     ⊎_elim
-    (λ (t, s, n, k, o). atom-own x (head-is j.before) t.true k.ensures o)
-    (λ (t, o). group-own x (head-is j.before) t.left o)
-    j.if-head-eq-ATOM.branch
+    (λ w. atom-own x (head-is j.before) w.if-head-eq-ATOM.true w.kept_end.ensures w.own-is)
+    (λ w. group-own x (head-is j.before) w.if-head-eq-ATOM.false w.own-is)
+    j.if-head-eq-ATOM.branch-raw
 
 -- and of its mark
 more-is : (c : tie.After-mark_length-more invariant-loop decreases-loop) → c.mark_length-more.result ≡ length (mark_text (head c.before.before.before.before.before.before.before).mark)
@@ -62,12 +62,12 @@ plain-short x h i l =
     (λ e. rw e (omega (arith, kept-inside {x = x} {p = h.least} (record { name_is = refl; kept_is = refl }) i)))
     (λ e. rw e (omega arith))
 
-first_short : (j : tie.Joined-head-eq-ATOM invariant-loop decreases-loop) → j.if-head-eq-ATOM.own_val ≤ 4096
+first_short : (j : tie.Joined-head-eq-ATOM invariant-loop decreases-loop) → j.if-head-eq-ATOM.own ≤ 4096
 first_short j =
     let l = j in
     rw (own_first j) (plain-short (whole l.before.before.before.before.before.before) (head l.before.before.before.before.before.before) (inside j.before.before.before.before.before refl) l.requires.short)
 
-own-short : (c : tie.After-mark_length-more invariant-loop decreases-loop) → c.if-head-eq-ATOM.own_val + c.mark_length-more.result ≤ 4097
+own-short : (c : tie.After-mark_length-more invariant-loop decreases-loop) → c.if-head-eq-ATOM.own + c.mark_length-more.result ≤ 4097
 own-short c = omega (arith, first_short c.before, more-is c, mark-short (head c.before.before.before.before.before.before.before).mark)
 
 loop-holds : tie.Need-loop-i-init invariant-loop decreases-loop

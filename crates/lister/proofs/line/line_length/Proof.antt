@@ -10,66 +10,61 @@ use Rattle.lister.proofs.line.line_length.Statement.{statement}
 use Rattle.lister.proofs.line.line_length.Tie as tie
 
 -- the call, from where the ends of the fields are known; that, from where the children are counted; and that, from the word's length
-abbrev start : tie.After-first-fields → tie.Start
-start c = c.before.before
-
-abbrev ends : tie.After-times-in → tie.After-first-fields
+abbrev ends : tie.After-times_in-children → tie.After-first_fields-ends
 ends c = c.before.before
-
-abbrev counted : tie.After-word-length → tie.After-times-in
+abbrev counted : tie.After-word_length → tie.After-times_in-children
 counted c = c.before.before
+three : (c : tie.After-first_fields-ends) → Three c.args.cue.now c.first_fields-ends.result
+three c = cue-three c.first_fields-ends.ensures.0 c.requires
 
-three : (c : tie.After-first-fields) → Three (start c).args.cue.now c.first-fields.result
-three c = cue-three c.first-fields.ensures.0 (start c).requires
+children-are : (c : tie.After-times_in-children) → c.times_in-children.result ≡ length (children c.args.cue.now)
+children-are c = c.times_in-children.ensures ∙ sym (children-count _ _ (three c.before.before))
 
-children-are : (c : tie.After-times-in) → c.times-in.result ≡ length (children (start (ends c)).args.cue.now)
-children-are c = c.times-in.ensures ∙ sym (children-count _ _ (three (ends c)))
-
-add-times-in : tie.Need-overflow-add-times-in
+add-times-in : tie.Need-overflow_add-second
 add-times-in c = omega (arith, (three c).ascending)
 
-sub-times-in : tie.Need-overflow-sub-times-in
+sub-times-in : tie.Need-slice_bounds-times_in-count
 sub-times-in c = omega (arith, (three c).ascending)
 
-part-times-in-start : tie.Need-slice-bounds-times-in-start
+part-times-in-start : tie.Need-slice_bounds-times_in-start
 part-times-in-start c = omega (arith, (three c).ascending)
 
-sub-fields : tie.Need-overflow-sub-fields
-sub-fields c = omega (arith, (three (ends c.before)).ascending)
+sub-fields : tie.Need-overflow_sub-fields
+sub-fields c = omega (arith, (three c.before.before.before).ascending)
 
-sub-fields-2 : tie.Need-overflow-sub-fields-2
-sub-fields-2 c = omega (arith, (three (ends c.before)).ascending)
+sub-fields-2 : tie.Need-overflow_sub-fields-2
+sub-fields-2 c = omega (arith, (three c.before.before.before).ascending)
 
-add-result : tie.Need-overflow-add-result
+add-result : tie.Need-overflow_add-result
 add-result c =
-    let e = ends (counted c) in
-    omega (arith, (three e).ascending, c.word-length.ensures, word-short (start e).args.said, (start e).pre.short)
+    let e = c in
+    omega (arith, (three e.before.before.before.before).ascending, c.word_length.ensures, word-short e.args.said, e.requires.short)
 
-number-length-requires : tie.Need-number-length-requires
-number-length-requires c κs = omega (arith, children-are (counted c), (start (ends (counted c))).requires.few)
+number-length-requires : tie.Need-number_length-requires
+number-length-requires c κs = omega (arith, children-are c.before.before, c.requires.few)
 
-add-result-2 : tie.Need-overflow-add-result-2
+add-result-2 : tie.Need-overflow_add-result-2
 add-result-2 c =
-    let w = c.before in
-    let e = ends (counted w) in
-    let digits-few = digits-length 4 (counted w).times-in.result (omega (arith, children-are (counted w), (start e).pre.few)) in
-    omega (arith, (three e).ascending, w.word-length.ensures, word-short (start e).args.said, (start e).pre.short, c.number-length.ensures, digits-few)
+    let w = c in
+    let e = w in
+    let digits-few = digits-length 4 w.times_in-children.result (omega (arith, children-are w.before.before.before, e.requires.few)) in
+    omega (arith, (three e.before.before.before.before.before).ascending, w.word_length.ensures, word-short e.args.said, e.requires.short, c.number_length.ensures, digits-few)
 
-add-result-3 : tie.Need-overflow-add-result-3
+add-result-3 : tie.Need-overflow_add-result-3
 add-result-3 c =
-    let w = c.before in
-    let e = ends (counted w) in
-    let digits-few = digits-length 4 (counted w).times-in.result (omega (arith, children-are (counted w), (start e).pre.few)) in
-    omega (arith, (three e).ascending, w.word-length.ensures, word-short (start e).args.said, (start e).pre.short, c.number-length.ensures, digits-few)
+    let w = c in
+    let e = w in
+    let digits-few = digits-length 4 w.times_in-children.result (omega (arith, children-are w.before.before.before, e.requires.few)) in
+    omega (arith, (three e.before.before.before.before.before).ascending, w.word_length.ensures, word-short e.args.said, e.requires.short, c.number_length.ensures, digits-few)
 
 returns : tie.Need-returns
 returns c =
-    let w = c.before in
-    let e = ends (counted w) in
-    omega (arith, w.word-length.ensures, c.number-length.ensures, line-length (start e).args.said (three e) (children-are (counted w)))
+    let w = c in
+    let e = w in
+    omega (arith, w.word_length.ensures, c.number_length.ensures, line-length e.args.said (three e.before.before.before.before.before) (children-are w.before.before.before))
 
-pub line-length-spec : {M : Type 1} → statement M
-line-length-spec =
+pub line_length_spec : {M : Type 1} → statement M
+line_length_spec =
     tie.close
     (tie.spec
     (λ c κs. search rules)

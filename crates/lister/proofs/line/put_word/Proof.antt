@@ -3,28 +3,28 @@ use borrow.Author.Rules.{rules}
 use Rattle.lister.proofs.line.put_word.Statement.{statement}
 use Rattle.lister.proofs.line.put_word.Tie as tie
 
-returns : tie.Need-returns
+returns : tie.Need-returns-in-Complete
 returns c =
-    let p = c.before.before in
-    rw p.before.before.before.enum_told.given.1 p.put.ensures
+    let p = c in
+    rw p.in-Complete.is p.put.ensures
 
-returns-2 : tie.Need-returns-2
+returns-2 : tie.Need-returns-in-Open
 returns-2 c =
-    let p = c.before.before in
-    rw p.before.before.before.enum-told2.given.1 p.put2.ensures
+    let p = c in
+    rw p.in-Open.is p.put-in-Open.ensures
 
-returns-3 : tie.Need-returns-3
+returns-3 : tie.Need-returns-in-Dead
 returns-3 c =
-    let p = c.before.before in
-    rw p.before.before.before.enum-told3.given.1 p.put3.ensures
+    let p = c in
+    rw p.in-Dead.is p.put-in-Dead.ensures
 
-returns-4 : tie.Need-returns-4
+returns-4 : tie.Need-returns-in-NoSheet
 returns-4 c =
-    let p = c.before.before in
-    rw p.before.before.before.enum-told4.given.1 p.put4.ensures
+    let p = c in
+    rw p.in-NoSheet.is p.put-in-NoSheet.ensures
 
-pub put-word-spec : {M : Type 1} → statement M
-put-word-spec =
+pub put_word_spec : {M : Type 1} → statement M
+put_word_spec =
     tie.close
     (tie.spec
     (λ c. search rules)

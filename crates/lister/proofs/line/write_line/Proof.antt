@@ -11,57 +11,39 @@ use Rattle.lister.proofs.line.write_line.Statement.{statement}
 use Rattle.lister.proofs.line.write_line.Tie as tie
 
 -- the call, from where the ends of the fields are known; that, from where the children are counted; then back from each piece to the one before it
-abbrev start : tie.After-first-fields → tie.Start
-start c = c.before.before.before
-
-abbrev ends : tie.After-times-in → tie.After-first-fields
+abbrev ends : tie.After-times_in-children → tie.After-first_fields-ends
 ends c = c.before.before
-
-abbrev counted : tie.After-put → tie.After-times-in
+abbrev counted : tie.After-put-a → tie.After-times_in-children
 counted c = c.before.before.before
+abbrev put1 : tie.After-put-b → tie.After-put-a
+put1 c = c.before.before.before.before.before.before
+three : (c : tie.After-first_fields-ends) → Three c.args.cue.now c.first_fields-ends.result
+three c = cue-three c.first_fields-ends.ensures.0 c.requires.0
 
-abbrev put1 : tie.After-put2 → tie.After-put
-put1 c = c.before.before.before.before.before
+children-are : (c : tie.After-times_in-children) → c.times_in-children.result ≡ length (children c.args.cue.now)
+children-are c = c.times_in-children.ensures ∙ sym (children-count _ _ (three c.before.before))
 
-abbrev put2 : tie.After-put3 → tie.After-put2
-put2 c = c.before.before.before.before.before
-
-abbrev put3 : tie.After-put-word → tie.After-put3
-put3 c = c.before.before.before.before
-
-abbrev word-put : tie.After-put-number → tie.After-put-word
-word-put c = c.before.before.before.before
-
-abbrev number_put : tie.After-put4 → tie.After-put-number
-number_put c = c.before.before.before.before.before
-
-three : (c : tie.After-first-fields) → Three (start c).args.cue.now c.first-fields.result
-three c = cue-three c.first-fields.ensures.0 (start c).requires.0
-
-children-are : (c : tie.After-times-in) → c.times-in.result ≡ length (children (start (ends c)).args.cue.now)
-children-are c = c.times-in.ensures ∙ sym (children-count _ _ (three (ends c)))
-
-room : (c : tie.After-times-in)
-    → let a = (start (ends c)).args in
-    length (pieces a.cue.now (ends c).first-fields.result a.said c.times-in.result) ≤ length a.buffer.now
+room : (c : tie.After-times_in-children)
+    → let a = c.args in
+    length (pieces a.cue.now c.first_fields-ends.result a.said c.times_in-children.result) ≤ length a.buffer.now
 room c =
-    let s = start (ends c) in
-    omega (arith, s.pre.1, ap length (pieces_are s.args.said (three (ends c)) (children-are c)))
+    let s = c in
+    omega (arith, s.requires.1, ap length (pieces_are s.args.said (three c.before.before) (children-are c)))
 
-add-times-in : tie.Need-overflow-add-times-in
+add-times-in : tie.Need-overflow_add-second
 add-times-in c = omega (arith, (three c).ascending)
 
-sub-times-in : tie.Need-overflow-sub-times-in
+sub-times-in : tie.Need-slice_bounds-times_in-count
 sub-times-in c = omega (arith, (three c).ascending)
 
 part-times-in-start : tie.Need-slice-bounds-times-in-start
 part-times-in-start c = omega (arith, (three c).ascending)
 
-add-put : tie.Need-overflow-add-put
-add-put c = omega (arith, (three (ends c.before)).ascending)
+add-put : tie.Need-overflow_add-first
+add-put c = omega (arith, (three c.before.before.before).ascending)
 
-sub-put : tie.Need-overflow-sub-put
-sub-put c = omega (arith, (three (ends c.before)).ascending)
+sub-put : tie.Need-slice_bounds-put-count
+sub-put c = omega (arith, (three c.before.before.before).ascending)
 
 part-put-start : tie.Need-slice-bounds-put-start
 part-put-start c = omega (arith, (three (ends c.before)).ascending)
@@ -69,11 +51,11 @@ part-put-start c = omega (arith, (three (ends c.before)).ascending)
 part-put-end : tie.Need-slice-bounds-put-end
 part-put-end c = omega (arith, (three (ends c.before)).ascending)
 
-add-put-2 : tie.Need-overflow-add-put-2
-add-put-2 c = omega (arith, (three (ends (counted (put1 c.before.before.before)))).ascending)
+add-put-2 : tie.Need-overflow_add-second-2
+add-put-2 c = omega (arith, (three c.before.before.before.before.before.before.before.before.before.before.before.before.before.before).ascending)
 
-sub-put-2 : tie.Need-overflow-sub-put-2
-sub-put-2 c = omega (arith, (three (ends (counted (put1 c.before.before.before)))).ascending)
+sub-put-2 : tie.Need-slice_bounds-put-count-2
+sub-put-2 c = omega (arith, (three c.before.before.before.before.before.before.before.before.before.before.before.before.before.before).ascending)
 
 part-put-start-2 : tie.Need-slice-bounds-put-start-2
 part-put-start-2 c = omega (arith, (three (ends (counted (put1 c.before.before.before)))).ascending)
@@ -83,23 +65,23 @@ part-put-end-2 c = omega (arith, (three (ends (counted (put1 c.before.before.bef
 
 returns : tie.Need-returns
 returns c =
-    let f = c.before.before in
-    let e = number_put f in
-    let w = word-put e in
-    let d = put3 w in
-    let b = put2 d in
-    let a = put1 b in
-    let n = counted a in
-    let number = begun-put _ _ (begun-none (room n)) a.put.ensures.0 a.put.ensures.1 in
-    let parted = begun-put (tab ∷ []) _ number b.put2.ensures.0 b.put2.ensures.1 in
-    let kind = begun-put _ _ parted d.put3.ensures.0 d.put3.ensures.1 in
-    let said = begun-put _ _ kind w.put_word.ensures.0 w.put_word.ensures.1 in
-    let count = begun-put _ _ said e.put-number.ensures.0 e.put-number.ensures.1 in
-    rw (← pieces_are (start (ends n)).args.said (three (ends n)) (children-are n))
-    (begun-end (begun-put (line_feed ∷ []) [] count f.put4.ensures.0 f.put4.ensures.1))
+    let f = c in
+    let e = f in
+    let w = e in
+    let d = w in
+    let b = d in
+    let a = b in
+    let n = a in
+    let number = begun-put _ _ (begun-none (room n.before.before.before.before.before.before.before.before.before.before.before.before.before.before.before.before.before.before.before.before.before.before.before.before.before.before.before.before.before.before)) a.put.ensures.0 a.put.ensures.1 in
+    let parted = begun-put (tab ∷ []) _ number b.put-b.ensures.0 b.put-b.ensures.1 in
+    let kind = begun-put _ _ parted d.put-c.ensures.0 d.put-c.ensures.1 in
+    let said = begun-put _ _ kind w.put_word-d.ensures.0 w.put_word-d.ensures.1 in
+    let count = begun-put _ _ said e.put_number-e.ensures.0 e.put_number-e.ensures.1 in
+    rw (← pieces_are n.args.said (three n.before.before.before.before.before.before.before.before.before.before.before.before.before.before.before.before.before.before.before.before.before.before.before.before.before.before.before.before.before.before.before.before) (children-are n.before.before.before.before.before.before.before.before.before.before.before.before.before.before.before.before.before.before.before.before.before.before.before.before.before.before.before.before.before.before))
+    (begun-end (begun-put (line_feed ∷ []) [] count f.put.ensures.0 f.put.ensures.1))
 
-pub write-line-spec : {M : Type 1} → statement M
-write-line-spec =
+pub write_line_spec : {M : Type 1} → statement M
+write_line_spec =
     tie.close
     (tie.spec
     (λ c κs. search rules)

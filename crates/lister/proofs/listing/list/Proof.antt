@@ -15,95 +15,80 @@ use Rattle.lister.proofs.listing.list.Tie as tie
 
 -- the call, from where the sheet was read, that from where it is known to be good, that from where the list is, that from where all is
 -- said, and that from the end
-abbrev start : tie.After-read-sheet → tie.Start
-start c = c.before.before.before.before
+told : (c : tie.After-read_sheet-read) → sheet_outcome c.args.sheet.now ≡ c.read_sheet-read.result.outcome-1
+told c = sym (outcome-is c.args.sheet.now) ∙ sym (ap (λ r. r.outcome-1) c.read_sheet-read.ensures)
 
-abbrev loaded : tie.After-enum-told → tie.After-read-sheet
-loaded c = c.before.before
-
-abbrev sheet-good : tie.After-n → tie.After-enum-told
-sheet-good c = c.before.before.before
-
-abbrev counted : tie.After-say-all → tie.After-n
-counted c = c.before.before.before.before.before
-
-abbrev all_said : tie.After-write-listing → tie.After-say-all
-all_said c = c.before.before.before.before.before
-
-told : (c : tie.After-read-sheet) → sheet_outcome (start c).args.sheet.now ≡ c.read-sheet.result.outcome
-told c = sym (outcome-is (start c).args.sheet.now) ∙ sym (ap (λ r. r.outcome) c.read-sheet.ensures)
-
-sheet-read : (c : tie.After-enum-told) → sheet_outcome (start (loaded c)).args.sheet.now ≡ Read
-sheet-read c = told (loaded c) ∙ c.enum_told.given.1
+sheet-read : (c : tie.In-Read) → sheet_outcome c.args.sheet.now ≡ Read
+sheet-read c = told c.before ∙ c.in-Read.is
 
 -- the texts
-abbrev sheet : tie.After-n → Text
-sheet c = (start (loaded (sheet-good c))).args.sheet.now
+abbrev sheet : tie.In-Count → Text
+sheet c = c.args.sheet.now
 
-abbrev cues : tie.After-n → Text
-cues c = (start (loaded (sheet-good c))).args.cues.now
+abbrev cues : tie.In-Count → Text
+cues c = c.args.cues.now
 
-cues-read : (c : tie.After-n) → cues_read (cues c) ≡ Count c.n.given.0.0
-cues-read c = sym c.before.before.read-cues.ensures ∙ c.n.given.1
+cues-read : (c : tie.In-Count) → cues_read (cues c) ≡ Count c.in-Count.n
+cues-read c = sym c.read_cues.ensures ∙ c.in-Count.is
 
-good : (c : tie.After-n) → GoodCues (cues c)
+good : (c : tie.In-Count) → GoodCues (cues c)
 good c = good-cues (cues c) _ (cues-read c)
 
-count_is : (c : tie.After-n) → c.n.given.0.0 ≡ length (lines (cues c))
+count_is : (c : tie.In-Count) → c.in-Count.n ≡ length (lines (cues c))
 count_is c = ((cues-exactly (cues c) _).0 (cues-read c)).1
 
-coded : (c : tie.After-say-all)
-    → let n = counted c in
-    take (n.n.given.0.0 - 0) c.say-all.new.1.1.1.0 ≡ map code_of (map (said (lines (sheet n))) (lines (cues n)))
-coded c = let n = counted c in coded-all (sheet n) (cues n) _ c.say-all.ensures (count_is n)
+coded : (c : tie.After-say_all)
+    → let n = c in
+    take (n.in-Count.n - 0) c.say_all.new.codes ≡ map code_of (map (said (lines (sheet n.before.before.before.before))) (lines (cues n.before.before.before.before)))
+coded c = let n = c in coded-all (sheet n.before.before.before.before) (cues n.before.before.before.before) _ c.say_all.ensures (count_is n.before.before.before.before)
 
-returns : tie.Need-returns
+returns : tie.Need-returns-in-Refused
 returns c =
-    let l = c.before.before.before in
-    let a = (start l).args in
-    (listed-sheet a.sheet.now a.cues.now (length a.buffer.now) (told l ∙ c.before.outcome.given.1), refl)
+    let l = c in
+    let a = l.args in
+    (listed-sheet a.sheet.now a.cues.now (length a.buffer.now) (told l.before ∙ c.in-Refused.is), refl)
 
-returns-2 : tie.Need-returns-2
+returns-2 : tie.Need-returns-in-Refused-read_cues
 returns-2 c =
-    let r = c.before.before.before in
-    let a = (start (loaded r.before)).args in
-    let refused = sym r.read-cues.ensures ∙ c.before.f.given.1 in
-    (listed-cues a.sheet.now a.cues.now (length a.buffer.now) (sheet-read r.before) refused, refl)
+    let r = c in
+    let a = r.args in
+    let refused = sym r.read_cues.ensures ∙ c.in-Refused-read_cues.is in
+    (listed-cues a.sheet.now a.cues.now (length a.buffer.now) (sheet-read r.before.before) refused, refl)
 
-say-all-requires : tie.Need-say-all-requires
+say-all-requires : tie.Need-say_all-requires
 say-all-requires c κs =
-    let n = c.before.before.before.before in
-    let s = sheet-good n in
-    (rw (loaded s).read-sheet.ensures (sheet-loaded _ (sheet-read s)), good n, search rules)
+    let n = c in
+    let s = n in
+    (rw s.read_sheet-read.ensures (sheet-loaded _ (sheet-read s.before.before.before.before.before)), good n.before.before.before, search rules)
 
-part-write-listing-end : tie.Need-slice-bounds-write-listing-end
+part-write-listing-end : tie.Need-slice_bounds-write_listing-end
 part-write-listing-end c =
-    let w = c.before.before.before in
-    let n = counted w in
-    let room : length w.before.before.no-codes.result ≡ 65535 = search rules in
-    omega (arith, count_is n, lines-few (cues n), (good n).short, w.say-all.auto.1.1.1.0, room)
+    let w = c in
+    let n = w in
+    let room : length w.no_codes-codes.result ≡ 65535 = search rules in
+    omega (arith, count_is n.before.before.before.before.before.before, lines-few (cues n.before.before.before.before.before.before), (good n.before.before.before.before.before.before).short, w.say_all.auto.1.1.1.0, room)
 
-write-listing-requires : tie.Need-write-listing-requires
+write-listing-requires : tie.Need-write_listing-requires
 write-listing-requires c κs =
-    let w = c.before.before.before.before in
-    let n = counted w in
-    cues-coded (sheet n) (cues n) (coded w) (good n)
+    let w = c in
+    let n = w in
+    cues-coded (sheet n.before.before.before.before.before.before.before) (cues n.before.before.before.before.before.before.before) (coded w.before.before.before) (good n.before.before.before.before.before.before.before)
 
-returns-3 : tie.Need-returns-3
+returns-3 : tie.Need-returns
 returns-3 c =
-    let p = c.before.before in
-    let w = all_said p in
-    let n = counted w in
-    let s = sheet-good n in
-    let old = (start (loaded s)).args.buffer.now in
-    let listing-is = listing-coded (sheet n) (cues n) (coded w) in
-    let answer = p.write-listing.ensures.0 ∙ ap (λ x. by_room x (length old)) listing-is in (
-      answer ∙ listed-room (sheet n) (cues n) (length old) (sheet-read s) (cues-read n),
-      p.write-listing.ensures.1 ∙ ap (λ x. buffer_after p.write-listing.result x old) listing-is,
+    let p = c in
+    let w = p in
+    let n = w in
+    let s = n in
+    let old = s.args.buffer.now in
+    let listing-is = listing-coded (sheet n.before.before.before.before.before.before.before.before.before.before) (cues n.before.before.before.before.before.before.before.before.before.before) (coded w.before.before.before.before.before.before) in
+    let answer = p.write_listing.ensures.0 ∙ ap (λ x. by_room x (length old)) listing-is in (
+      answer ∙ listed-room (sheet n.before.before.before.before.before.before.before.before.before.before) (cues n.before.before.before.before.before.before.before.before.before.before) (length old) (sheet-read s.before.before.before.before.before.before.before.before.before.before.before.before) (cues-read n.before.before.before.before.before.before.before.before.before.before),
+      p.write_listing.ensures.1 ∙ ap (λ x. buffer_after p.write_listing.result x old) listing-is,
     )
 
-pub list-spec : {M : Type 1} → statement M
-list-spec =
+pub list_spec : {M : Type 1} → statement M
+list_spec =
     tie.close
     (tie.spec
     (λ c κs. search rules)

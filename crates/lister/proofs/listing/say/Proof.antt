@@ -6,25 +6,22 @@ use borrow.Author.Rules.{rules}
 use Rattle.lister.proofs.listing.say.Statement.{statement}
 use Rattle.lister.proofs.listing.say.Tie as tie
 
-abbrev start : tie.After-first-fields → tie.Start
-start c = c.before.before.before.before.before.before
-
-returns : tie.Need-returns
+returns : tie.Need-returns-then-third-cue
 returns c =
-    let t = c.before.before.before in
-    let s = start t.before in
-    let said-is = say-some s.pre (part-at-place s.args.sheet.now s.args.place) t.before.first-fields.ensures.0 t.if1.true in
-    c.said-from.ensures ∙ ap said_from c.before.judge-children.ensures ∙ said-is
+    let t = c in
+    let s = t in
+    let said-is = say-some s.requires (part-at-place s.args.sheet.now s.args.place) t.first_fields-ends.ensures.0 t.if-third-cue.true in
+    c.said_from.ensures ∙ ap said_from c.judge_children.ensures ∙ said-is
 
-returns-2 : tie.Need-returns-2
+returns-2 : tie.Need-returns
 returns-2 c =
-    let e = c.before.before.before in
-    let s = start e.before in
-    let said-is = say-none s.pre (part-at-place s.args.sheet.now s.args.place) e.before.first-fields.ensures.0 e.if1.false in
-    c.said-from2.ensures ∙ ap said_from c.before.judge-children2.ensures ∙ said-is
+    let e = c in
+    let s = e in
+    let said-is = say-none s.requires (part-at-place s.args.sheet.now s.args.place) e.first_fields-ends.ensures.0 e.if-third-cue.false in
+    c.said_from-2.ensures ∙ ap said_from c.judge_children-2.ensures ∙ said-is
 
-pub say-spec : {M : Type 1} → statement M
-say-spec =
+pub say_spec : {M : Type 1} → statement M
+say_spec =
     tie.close
     (tie.spec
     (λ c. search rules)

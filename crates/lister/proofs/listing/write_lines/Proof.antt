@@ -12,110 +12,100 @@ use native.Mathlib.Omega.{arith}
 use Rattle.lister.proofs.listing.write_lines.Statement.{statement}
 use Rattle.lister.proofs.listing.write_lines.Tie as tie
 
-abbrev invariant-loop : tie.invariant-loop
+abbrev invariant-loop : tie.invariant-loop-at
 invariant-loop buffer₀ cues codes written₀ n₀ at₀ buffer written n at =
     AtLine cues n at × (length codes ≡ length (lines cues))
     × Begun buffer₀ buffer (unlines (lines_coded codes (lines cues))) written (unlines (lines_coded (drop n codes) (drop n (lines cues))))
 
-abbrev decreases-loop : tie.decreases-loop
+abbrev decreases-loop : tie.decreases-loop-at
 decreases-loop buffer₀ cues codes written₀ n₀ at₀ buffer written n at = length cues - at
 
 -- the call, from a turn of the loop; the turn and the end of its line, from where the line's verdict is known; and that, from the turn's end
-abbrev start : tie.At-loop invariant-loop decreases-loop → tie.Start invariant-loop decreases-loop
-start l = l.before.before.before.before
-
-abbrev loop : tie.After-part-end invariant-loop decreases-loop → tie.At-loop invariant-loop decreases-loop
+abbrev loop : tie.After-part_end-end invariant-loop decreases-loop → tie.At-loop-at invariant-loop decreases-loop
 loop c = c.before.before
-
-abbrev ended : tie.After-decode invariant-loop decreases-loop → tie.After-part-end invariant-loop decreases-loop
-ended c = c.before.before
-
-abbrev decoded : tie.After-slice-known2 invariant-loop decreases-loop → tie.After-decode invariant-loop decreases-loop
-decoded c = c.before.before.before.before.before
-
-cue : (c : tie.After-part-end invariant-loop decreases-loop) → Cue (start (loop c)).args.cues.now (loop c).loop.n (loop c).loop.at c.part_end.result
-cue c = before-cue (loop c).loop.invariant.0 c.before.loop-test.true c.part_end.ensures
+cue : (c : tie.After-part_end-end invariant-loop decreases-loop) → Cue c.args.cues.now c.loop-at.n c.loop-at.at c.part_end-end.result
+cue c = before-cue c.loop-at.invariant.0 c.loop-at-test.true c.part_end-end.ensures
 
 -- the line that is to be written, and those behind it
-abbrev line : tie.After-decode invariant-loop decreases-loop → Text
+abbrev line : tie.After-decode-said invariant-loop decreases-loop → Text
 line c =
-    let l = loop (ended c) in
-    listing_line (part (start l).args.cues.now l.loop.at (ended c).part_end.result) c.decode.result ++ (line_feed ∷ [])
+    let l = c in
+    listing_line (part l.args.cues.now l.loop-at.at c.part_end-end.result) c.decode-said.result ++ (line_feed ∷ [])
 
-abbrev rest : tie.After-decode invariant-loop decreases-loop → Text
+abbrev rest : tie.After-decode-said invariant-loop decreases-loop → Text
 rest c =
-    let l = loop (ended c) in
-    unlines (lines_coded (drop (l.loop.n + 1) (start l).args.codes.now) (drop (l.loop.n + 1) (lines (start l).args.cues.now)))
+    let l = c in
+    unlines (lines_coded (drop (l.loop-at.n + 1) l.args.codes.now) (drop (l.loop-at.n + 1) (lines l.args.cues.now)))
 
-begun : (c : tie.After-decode invariant-loop decreases-loop)
-    → let l = loop (ended c) in
-    let a = (start l).args in
-    Begun a.buffer.now l.loop.buffer (unlines (lines_coded a.codes.now (lines a.cues.now))) l.loop.written (line c ++ rest c)
+begun : (c : tie.After-decode-said invariant-loop decreases-loop)
+    → let l = c in
+    let a = l.args in
+    Begun a.buffer.now l.loop-at.buffer (unlines (lines_coded a.codes.now (lines a.cues.now))) l.loop-at.written (line c ++ rest c)
 begun c =
-    let l = loop (ended c) in
-    rw (coded-next (start l).args.codes.now l.loop.inv.1 (cue (ended c)) c.decode.ensures) at l.loop.inv.2
+    let l = c in
+    rw (coded-next l.args.codes.now l.loop-at.invariant.1 (cue c.before.before) c.decode-said.ensures) at l.loop-at.invariant.2
 
-fits : (c : tie.After-decode invariant-loop decreases-loop) → (loop (ended c)).loop.written + length (line c) ≤ length (loop (ended c)).loop.buffer
+fits : (c : tie.After-decode-said invariant-loop decreases-loop) → c.loop-at.written + length (line c) ≤ length c.loop-at.buffer
 fits c = omega (arith, piece-fits (line c) (rest c) (begun c), (begun c).room, begun-length (begun c))
 
-loop-holds : tie.Need-loop-init invariant-loop decreases-loop
+loop-holds : tie.Need-loop-at-init invariant-loop decreases-loop
 loop-holds c =
-    let pre = c.before.before.before.requires in
+    let pre = c.requires in
     (before-first pre.0.good, pre.0.counted, begun-none pre.1)
 
-shared-slice-read-decode : tie.Need-shared-slice-read-decode invariant-loop decreases-loop
-shared-slice-read-decode c = omega (arith, (cue c.before).counted, (loop c.before).loop.inv.1)
+shared-slice-read-decode : tie.Need-bounds-codes-n invariant-loop decreases-loop
+shared-slice-read-decode c = omega (arith, (cue c.before).counted, c.loop-at.invariant.1)
 
-sub-write-line : tie.Need-overflow-sub-write-line invariant-loop decreases-loop
+sub-write-line : tie.Need-slice_bounds-write_line-count invariant-loop decreases-loop
 sub-write-line c = omega (arith, fits c)
 
-part-write-line-start : tie.Need-slice-bounds-write-line-start invariant-loop decreases-loop
+part-write-line-start : tie.Need-slice_bounds-write_line-start invariant-loop decreases-loop
 part-write-line-start c = omega (arith, fits c)
 
-part-write-line-end : tie.Need-slice-bounds-write-line-end invariant-loop decreases-loop
+part-write-line-end : tie.Need-slice_bounds-write_line-end invariant-loop decreases-loop
 part-write-line-end c = omega (arith, fits c)
 
-sub-write-line-2 : tie.Need-overflow-sub-write-line-2 invariant-loop decreases-loop
-sub-write-line-2 c = omega (arith, (cue (ended c.before)).bounds)
+sub-write-line-2 : tie.Need-slice_bounds-write_line-count-in-loop-at invariant-loop decreases-loop
+sub-write-line-2 c = omega (arith, (cue c.before.before.before).bounds)
 
-part-write-line-start-2 : tie.Need-slice-bounds-write-line-start-2 invariant-loop decreases-loop
-part-write-line-start-2 c = omega (arith, (cue (ended c.before)).bounds)
+part-write-line-start-2 : tie.Need-slice_bounds-write_line-start-in-loop-at invariant-loop decreases-loop
+part-write-line-start-2 c = omega (arith, (cue c.before.before.before).bounds)
 
-part-write-line-end-2 : tie.Need-slice-bounds-write-line-end-2 invariant-loop decreases-loop
-part-write-line-end-2 c = omega (arith, (cue (ended c.before)).bounds)
+part-write-line-end-2 : tie.Need-slice_bounds-write_line-end-in-loop-at invariant-loop decreases-loop
+part-write-line-end-2 c = omega (arith, (cue c.before.before.before).bounds)
 
-write-line-requires : tie.Need-write-line-requires invariant-loop decreases-loop
+write-line-requires : tie.Need-write_line-more-requires invariant-loop decreases-loop
 write-line-requires c κs =
-    let d = c.before.before in
-    ((cue (ended d)).fits, piece-room (line d) (rest d) (begun d))
+    let d = c in
+    ((cue d.before.before.before.before).fits, piece-room (line d.before.before) (rest d.before.before) (begun d.before.before))
 
-add-written : tie.Need-overflow-add-written invariant-loop decreases-loop
-add-written c = omega (arith, fits (decoded c), begun-length (begun (decoded c)), c.before.before.write-line.ensures.end_is)
+add-written : tie.Need-overflow_add-written invariant-loop decreases-loop
+add-written c = omega (arith, fits c.before.before.before.before.before, begun-length (begun c.before.before.before.before.before), c.write_line-more.ensures.end_is)
 
-add-n : tie.Need-overflow-add-n invariant-loop decreases-loop
-add-n c = omega (arith, (cue (ended (decoded c))).bounds)
+add-n : tie.Need-overflow_add-n invariant-loop decreases-loop
+add-n c = omega (arith, (cue c.before.before.before.before.before.before.before).bounds)
 
-add_at : tie.Need-overflow-add-at invariant-loop decreases-loop
-add_at c = omega (arith, (cue (ended (decoded c))).bounds)
+add_at : tie.Need-overflow_add-at invariant-loop decreases-loop
+add_at c = omega (arith, (cue c.before.before.before.before.before.before.before).bounds)
 
-loop-less : tie.Need-loop-smaller invariant-loop decreases-loop
-loop-less c = omega (arith, (cue (ended (decoded c))).bounds)
+loop-less : tie.Need-loop-at-smaller invariant-loop decreases-loop
+loop-less c = omega (arith, (cue c.before.before.before.before.before.before.before).bounds)
 
-loop-again : tie.Need-loop-preserved invariant-loop decreases-loop
+loop-again : tie.Need-loop-at-preserved invariant-loop decreases-loop
 loop-again c =
-    let d = decoded c in
-    ((cue (ended d)).next, (loop (ended d)).loop.inv.1, piece-put (line d) (rest d) (begun d) c.before.before.write-line.ensures)
+    let d = c in
+    ((cue d.before.before.before.before.before.before.before).next, d.loop-at.invariant.1, piece-put (line d.before.before.before.before.before) (rest d.before.before.before.before.before) (begun d.before.before.before.before.before) c.write_line-more.ensures)
 
-same_length : tie.Need-same-length invariant-loop decreases-loop
-same_length c = begun-length c.before.loop.invariant.2
+same_length : tie.Need-shape_of-buffer invariant-loop decreases-loop
+same_length c = begun-length c.loop-at.invariant.2
 
 returns : tie.Need-returns invariant-loop decreases-loop
 returns c =
-    let l = c.before in
-    begun_all (rw (coded-end (start l).args.codes.now l.loop.invariant.0 c.loop-test.false) at l.loop.invariant.2)
+    let l = c in
+    begun_all (rw (coded-end l.args.codes.now l.loop-at.invariant.0 c.loop-at-test.false) at l.loop-at.invariant.2)
 
-pub write-lines-spec : {M : Type 1} → statement M
-write-lines-spec =
+pub write_lines_spec : {M : Type 1} → statement M
+write_lines_spec =
     tie.close
     (tie.spec
     invariant-loop

@@ -12,82 +12,72 @@ use Rattle.lister.proofs.listing.write_listing.Statement.{statement}
 use Rattle.lister.proofs.listing.write_listing.Tie as tie
 
 -- the call, from where the last line is known; that, from where the lines are measured; that, from where they are written; that, from the end
-abbrev start : tie.After-write-total → tie.Start
-start c = c.before.before.before.before.before
-
-abbrev totalled : tie.After-lines-length → tie.After-write-total
-totalled c = c.before.before
-
-abbrev measured : tie.After-write-lines → tie.After-lines-length
+abbrev measured : tie.After-write_lines → tie.After-lines_length-above
 measured c = c.before.before.before
-
-abbrev lined : tie.After-put → tie.After-write-lines
-lined c = c.before.before.before.before.before.before
-
 abbrev above : tie.Start → Text
 above s = unlines (lines_coded s.args.codes.now (lines s.args.cues.now))
 
 abbrev below : tie.Start → Text
 below s = total_line (words_coded s.args.codes.now) ++ (line_feed ∷ [])
 
-size : (c : tie.After-lines-length)
-    → let a = (start (totalled c)).args in
-    c.lines-length.result + (totalled c).write-total.result ≡ length (listing_coded a.codes.now a.cues.now)
+size : (c : tie.After-lines_length-above)
+    → let a = c.args in
+    c.lines_length-above.result + c.write_total-below.result ≡ length (listing_coded a.codes.now a.cues.now)
 size c =
-    let t = totalled c in
-    let s = start t in
-    omega (arith, c.lines-length.ensures.0, t.write-total.ensures.end_is, length-append (above s) (below s))
+    let t = c in
+    let s = t in
+    omega (arith, c.lines_length-above.ensures.0, t.write_total-below.ensures.end_is, length-append (above s.before.before.before.before.before.before.before) (below s.before.before.before.before.before.before.before))
 
-write-total-requires : tie.Need-write-total-requires
+write-total-requires : tie.Need-write_total-below-requires
 write-total-requires c κs =
-    let r = c.before.before.before.before.requires in
-    (omega (arith, r.counted, lines-few c.before.before.before.before.args.cues.now, r.good.short), r.are_codes, omega arith)
+    let r = c.requires in
+    (omega (arith, r.counted, lines-few c.args.cues.now, r.good.short), r.are_codes, omega arith)
 
-add-length : tie.Need-overflow-add-length
-add-length c = let p = (totalled c).write-total.ensures in omega (arith, c.lines-length.ensures.1, p.fits, p.end_is)
+add-length : tie.Need-overflow_add-length
+add-length c = let p = c.write_total-below.ensures in omega (arith, c.lines_length-above.ensures.1, p.fits, p.end_is)
 
-returns : tie.Need-returns
+returns : tie.Need-returns-then-buffer-length
 returns c =
-    let l = c.before in
-    let a = (start (totalled l)).args in
-    (room-short (listing_coded a.codes.now a.cues.now) (size l) (length a.buffer.now) c.if1.true, refl)
+    let l = c in
+    let a = l.args in
+    (room-short (listing_coded a.codes.now a.cues.now) (size l.before) (length a.buffer.now) c.if-buffer-length.true, refl)
 
-write-lines-requires : tie.Need-write-lines-requires
+write-lines-requires : tie.Need-write_lines-requires
 write-lines-requires c κs =
-    let l = c.before.before in
-    let s = start (totalled l) in
-    (s.pre, omega (arith, size l, length-append (above s) (below s), c.before.if1.false))
+    let l = c in
+    let s = l in
+    (s.requires, omega (arith, size l.before.before, length-append (above s.before.before.before.before.before.before.before.before.before) (below s.before.before.before.before.before.before.before.before.before), c.if-buffer-length.false))
 
-part-put-end : tie.Need-slice-bounds-put-end
+part-put-end : tie.Need-slice_bounds-put-end
 part-put-end c =
-    let p = (totalled (measured c.before.before.before.before)).write-total.ensures in
+    let p = c.write_total-below.ensures in
     omega (arith, p.fits, put-ends p)
 
 -- the last line behind the others
 written : (c : tie.After-put)
-    → let s = start (totalled (measured (lined c))) in
-    Put s.args.buffer.now c.put.new.0 0 (above s ++ below s) c.put.result
+    → let s = c in
+    Put s.args.buffer.now c.put.new.buffer 0 (above s.before.before.before.before.before.before.before.before.before.before.before.before.before.before.before ++ below s.before.before.before.before.before.before.before.before.before.before.before.before.before.before.before) c.put.result
 written c =
-    let w = lined c in
-    let l = measured w in
-    let t = totalled l in
-    let s = start t in
-    let last = ap (λ n. take n t.write-total.last.0) (sub-zero t.write-total.result) ∙ put_front t.write-total.ensures in
-    let room : l.lines-length.result + length (below s) ≤ length s.args.buffer.now =
-    omega (arith, t.write-total.ensures.end_is, w.before.before.if1.left) in
-    written_behind (above s) (below s) _ w.write-lines.ensures l.lines-length.ensures.0 last room c.put.ensures.0 c.put.ensures.1
+    let w = c in
+    let l = w in
+    let t = l in
+    let s = t in
+    let last = ap (λ n. take n t.write_total-below.new.buffer) (sub-zero t.write_total-below.result) ∙ put_front t.write_total-below.ensures in
+    let room : l.lines_length-above.result + length (below s.before.before.before.before.before.before.before.before.before.before.before.before.before.before.before) ≤ length s.args.buffer.now =
+    omega (arith, t.write_total-below.ensures.end_is, w.if-buffer-length.false) in
+    written_behind (above s.before.before.before.before.before.before.before.before.before.before.before.before.before.before.before) (below s.before.before.before.before.before.before.before.before.before.before.before.before.before.before.before) _ w.write_lines.ensures l.lines_length-above.ensures.0 last room c.put.ensures.0 c.put.ensures.1
 
-returns-2 : tie.Need-returns-2
+returns-2 : tie.Need-returns
 returns-2 c =
-    let p = c.before.before in
-    let w = lined p in
-    let l = measured w in
-    let a = (start (totalled l)).args in
+    let p = c in
+    let w = p in
+    let l = w in
+    let a = l.args in
     let x = listing_coded a.codes.now a.cues.now in
-    (room-enough x (size l) (length a.buffer.now) w.before.before.if1.left, buffer-written x (size l) (written p))
+    (room-enough x (size l.before.before.before.before.before.before.before.before.before.before) (length a.buffer.now) w.if-buffer-length.false, buffer-written x (size l.before.before.before.before.before.before.before.before.before.before) (written p.before.before))
 
-pub write-listing-spec : {M : Type 1} → statement M
-write-listing-spec =
+pub write_listing_spec : {M : Type 1} → statement M
+write_listing_spec =
     tie.close
     (tie.spec
     (λ c. search rules)

@@ -4,17 +4,17 @@ use borrow.Author.Tests.{eq-eqb, ne_eqb}
 use Rattle.lister.proofs.said.decode.Statement.{statement}
 use Rattle.lister.proofs.said.decode.Tie as tie
 
-returns : tie.Need-returns
-returns c = rw (eq-eqb _ _ c.if1.true) refl
+returns : tie.Need-returns-then-code-eq0
+returns c = rw (eq-eqb _ _ c.if-code-eq0.true) refl
 
-returns-2 : tie.Need-returns-2
-returns-2 c = rw (ne_eqb _ _ c.before.if1.false, eq-eqb _ _ c.if2.true) refl
+returns-2 : tie.Need-returns-then-code-eq1
+returns-2 c = rw (ne_eqb _ _ c.if-code-eq0.false, eq-eqb _ _ c.if-code-eq1.true) refl
 
-returns-3 : tie.Need-returns-3
-returns-3 c = rw (ne_eqb _ _ c.before.before.if1.false, ne_eqb _ _ c.before.if2.false, eq-eqb _ _ c.if3.true) refl
+returns-3 : tie.Need-returns-then-code-eq2
+returns-3 c = rw (ne_eqb _ _ c.if-code-eq0.false, ne_eqb _ _ c.if-code-eq1.false, eq-eqb _ _ c.if-code-eq2.true) refl
 
-returns-4 : tie.Need-returns-4
-returns-4 c = rw (ne_eqb _ _ c.before.before.if1.false, ne_eqb _ _ c.before.if2.false, ne_eqb _ _ c.if3.false) refl
+returns-4 : tie.Need-returns
+returns-4 c = rw (ne_eqb _ _ c.if-code-eq0.false, ne_eqb _ _ c.if-code-eq1.false, ne_eqb _ _ c.if-code-eq2.false) refl
 
-pub decode-spec : {M : Type 1} → statement M
-decode-spec = tie.close (tie.spec returns returns-2 returns-3 returns-4)
+pub decode_spec : {M : Type 1} → statement M
+decode_spec = tie.close (tie.spec returns returns-2 returns-3 returns-4)

@@ -6,12 +6,12 @@ use Rattle.lister.proofs.total.totals_of.Tie as tie
 
 returns : tie.Need-returns
 returns c =
-    let dead = c.before in
-    let open' = dead.before in
-    let complete = open'.before in
-    let s = complete.before.before in
-    totals-coded s.args.codes.now s.requires complete.times-said.ensures open'.times-said2.ensures dead.times-said3.ensures
-    c.times-said4.ensures
+    let dead = c in
+    let open' = dead in
+    let complete = open' in
+    let s = complete in
+    totals-coded s.args.codes.now s.requires complete.times_said-complete.ensures open'.times_said-open.ensures dead.times_said-dead.ensures
+    c.times_said-nosheet.ensures
 
-pub totals-of-spec : {M : Type 1} → statement M
-totals-of-spec = tie.close (tie.spec (λ c κs. search rules) (λ c κs. search rules) (λ c κs. search rules) (λ c κs. search rules) returns)
+pub totals_of_spec : {M : Type 1} → statement M
+totals_of_spec = tie.close (tie.spec (λ c κs. search rules) (λ c κs. search rules) (λ c κs. search rules) (λ c κs. search rules) returns)
