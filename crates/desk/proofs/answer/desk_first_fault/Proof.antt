@@ -8,45 +8,41 @@ use Rattle.desk.proofs.answer.desk_first_fault.Statement.{statement}
 use Rattle.desk.proofs.answer.desk_first_fault.Tie as tie
 
 -- the judge's call, from its answer where the texts are good
-abbrev call : tie.After-fault → tie.After-search-children
-call c = c.before.before
-
-abbrev found : tie.After-known-told2 → tie.After-fault
-found c = c.before.before.before.before
-
-cast-result : tie.Need-overflow-cast-result
+abbrev call : tie.In-Found → tie.After-search_children
+call c = c.before
+cast-result : tie.Need-overflow_cast-result
 cast-result c =
-    let f = found c in
-    omega (arith, place-few _ _ (call f).search-children.ensures f.fault.given.1 (ap Found c.before.fault2.given.1))
+    let f = c in
+    omega (arith, place-few _ _ f.search_children.ensures f.in-Found.is (ap Found c.in-At.is))
 
-add-result : tie.Need-overflow-add-result
-add-result c = omega (arith, c.model-number.ensures, model-under c.before.before.f.given.0.0)
+add-result : tie.Need-overflow_add-result
+add-result c = omega (arith, c.model_number.ensures, model-under c.in-ModelRefused.f)
 
-add-result-2 : tie.Need-overflow-add-result-2
-add-result-2 c = omega (arith, c.cue-number.ensures, cue-under c.before.before.f2.given.0.0)
+add-result-2 : tie.Need-overflow_add-result-in-ChildrenRefused
+add-result-2 c = omega (arith, c.cue_number.ensures, cue-under c.in-ChildrenRefused.f)
 
-returns : tie.Need-returns
+returns : tie.Need-returns-in-At
 returns c =
-    let f = found c in
-    searched-number _ _ (call f).search-children.ensures (f.fault.given.1 ∙ ap Found c.before.fault2.given.1)
+    let f = c in
+    searched-number _ _ f.search_children.ensures (f.in-Found.is ∙ ap Found c.in-At.is)
 
-returns-2 : tie.Need-returns-2
+returns-2 : tie.Need-returns-in-Nothing
 returns-2 c =
-    let f = c.before.before.before in
-    searched-number _ _ (call f).search-children.ensures (f.fault.given.1 ∙ ap Found c.enum_told.given.1)
+    let f = c in
+    searched-number _ _ f.search_children.ensures (f.in-Found.is ∙ ap Found c.in-Nothing.is)
 
-returns-3 : tie.Need-returns-3
+returns-3 : tie.Need-returns-in-ModelRefused
 returns-3 c =
-    let f = c.before.before in
-    rw c.model-number.ensures (searched-number _ _ f.before.before.search-children.ensures f.f.given.1)
+    let f = c in
+    rw c.model_number.ensures (searched-number _ _ f.search_children.ensures f.in-ModelRefused.is)
 
-returns-4 : tie.Need-returns-4
+returns-4 : tie.Need-returns-in-ChildrenRefused
 returns-4 c =
-    let f = c.before.before in
-    rw c.cue-number.ensures (searched-number _ _ f.before.before.search-children.ensures f.f2.given.1)
+    let f = c in
+    rw c.cue_number.ensures (searched-number _ _ f.search_children.ensures f.in-ChildrenRefused.is)
 
-pub desk-first-fault-spec : {M : Type 1} → statement M
-desk-first-fault-spec =
+pub desk_first_fault_spec : {M : Type 1} → statement M
+desk_first_fault_spec =
     tie.close
     (tie.spec
     (λ c κs. search rules)

@@ -5,32 +5,29 @@ use borrow.Author.Rules.{rules}
 use Rattle.desk.proofs.answer.desk_judge.Statement.{statement}
 use Rattle.desk.proofs.answer.desk_judge.Tie as tie
 
-abbrev start : tie.After-judge-children → tie.Start
-start j = j.before.before.before
-
-returns : tie.Need-returns
+returns : tie.Need-returns-in-Verdict
 returns c =
-    let v = c.before.before in
-    let j = v.before.before in
-    let a = (start j).args in
-    c.verdict-number.ensures ∙ judged-number a.model.now a.children.now j.judge-children.ensures v.v.given.1
+    let v = c in
+    let j = v in
+    let a = j.args in
+    c.verdict_number.ensures ∙ judged-number a.model.now a.children.now j.judge_children.ensures v.in-Verdict.is
 
-returns-2 : tie.Need-returns-2
+returns-2 : tie.Need-returns-in-ModelRefused
 returns-2 c =
-    let f = c.before.before in
-    let j = f.before.before in
-    let a = (start j).args in
-    c.model-number.ensures ∙ judged-number a.model.now a.children.now j.judge-children.ensures f.f.given.1
+    let f = c in
+    let j = f in
+    let a = j.args in
+    c.model_number.ensures ∙ judged-number a.model.now a.children.now j.judge_children.ensures f.in-ModelRefused.is
 
-returns-3 : tie.Need-returns-3
+returns-3 : tie.Need-returns-in-ChildrenRefused
 returns-3 c =
-    let f = c.before.before in
-    let j = f.before.before in
-    let a = (start j).args in
-    c.cue-number.ensures ∙ judged-number a.model.now a.children.now j.judge-children.ensures f.f2.given.1
+    let f = c in
+    let j = f in
+    let a = j.args in
+    c.cue_number.ensures ∙ judged-number a.model.now a.children.now j.judge_children.ensures f.in-ChildrenRefused.is
 
-pub desk-judge-spec : {M : Type 1} → statement M
-desk-judge-spec =
+pub desk_judge_spec : {M : Type 1} → statement M
+desk_judge_spec =
     tie.close
     (tie.spec
     (λ c κs. search rules)

@@ -5,46 +5,42 @@ use Rattle.desk.proofs.child.asked.Statement.{statement}
 use Rattle.desk.proofs.child.asked.Tie as tie
 
 -- the call, and the children as they are counted: the text is neither too long nor empty
-abbrev start : tie.After-count-children → tie.Start
-start c = c.before.before.before.before
-
-abbrev counted : tie.After-known-told → tie.After-count-children
-counted c = c.before.before.before
-
-returns : tie.Need-returns
+abbrev counted : tie.In-Count → tie.After-count_children
+counted c = c.before
+returns : tie.Need-returns-then-size-gt-MAX_FILE
 returns c =
-    let a = c.before.before.args in
-    asked-long a.children.now a.k c.if1.true
+    let a = c.args in
+    asked-long a.children.now a.k c.if-size-gt-MAX_FILE.true
 
-returns-2 : tie.Need-returns-2
+returns-2 : tie.Need-returns-then-size-eq0
 returns-2 c =
-    let a = c.before.before.before.args in
-    asked-none a.children.now a.k c.if2.true
+    let a = c.args in
+    asked-none a.children.now a.k c.if-size-eq0.true
 
-returns-3 : tie.Need-returns-3
+returns-3 : tie.Need-returns-then-k-n
 returns-3 c =
-    let n = c.before in
-    let k = counted n in
-    let a = (start k).args in
-    asked-there a.children.now a.k k.before.before.if1.left k.before.if2.left k.count-children.ensures n.before.n.given.1
-    c.if3.true
+    let n = c in
+    let k = n in
+    let a = k.args in
+    asked-there a.children.now a.k k.if-size-gt-MAX_FILE.false k.if-size-eq0.false k.count_children.ensures n.in-Count.is
+    c.if-k-n.true
 
-returns-4 : tie.Need-returns-4
+returns-4 : tie.Need-returns-else-k-n
 returns-4 c =
-    let n = c.before in
-    let k = counted n in
-    let a = (start k).args in
-    asked-missing a.children.now a.k k.before.before.if1.left k.before.if2.left k.count-children.ensures n.before.n.given.1
-    c.if3.false
+    let n = c in
+    let k = n in
+    let a = k.args in
+    asked-missing a.children.now a.k k.if-size-gt-MAX_FILE.false k.if-size-eq0.false k.count_children.ensures n.in-Count.is
+    c.if-k-n.false
 
-returns-5 : tie.Need-returns-5
+returns-5 : tie.Need-returns-in-Refused
 returns-5 c =
-    let k = c.before.before.before in
-    let a = (start k).args in
-    asked-bad a.children.now a.k k.before.before.if1.false k.before.if2.false k.count-children.ensures c.before.f.given.1
+    let k = c in
+    let a = k.args in
+    asked-bad a.children.now a.k k.if-size-gt-MAX_FILE.false k.if-size-eq0.false k.count_children.ensures c.in-Refused.is
 
-pub asked-spec : {M : Type 1} → statement M
-asked-spec =
+pub asked_spec : {M : Type 1} → statement M
+asked_spec =
     tie.close
     (tie.spec
     returns

@@ -6,33 +6,33 @@ use Rattle.desk.specs.Child.Code.{ChildReached, reached-first, reached-end, reac
 use Rattle.desk.proofs.child.child_start.Statement.{statement}
 use Rattle.desk.proofs.child.child_start.Tie as tie
 
-abbrev invariant-loop : tie.invariant-loop
+abbrev invariant-loop : tie.invariant-loop-i
 invariant-loop children k last at₀ i₀ at i = (last ≡ k - 1) × (i ≤ last) × ChildReached children i at
 
-abbrev decreases-loop : tie.decreases-loop
+abbrev decreases-loop : tie.decreases-loop-i
 decreases-loop children k last at₀ i₀ at i = last - i
 
-loop-holds : tie.Need-loop-init invariant-loop decreases-loop
-loop-holds c = (refl, omega arith, reached-first c.before.args.children.now)
+loop-holds : tie.Need-loop-i-init invariant-loop decreases-loop
+loop-holds c = (refl, omega arith, reached-first c.args.children.now)
 
-add_at : tie.Need-overflow-add-at invariant-loop decreases-loop
-add_at c = omega (arith, (reached-end c.before.before.loop.invariant.2 (omega arith) c.part_end.ensures).bounds)
+add_at : tie.Need-overflow_add-at invariant-loop decreases-loop
+add_at c = omega (arith, (reached-end c.loop-i.invariant.2 (omega arith) c.part_end-at.ensures).bounds)
 
-loop-again : tie.Need-loop-preserved invariant-loop decreases-loop
+loop-again : tie.Need-loop-i-preserved invariant-loop decreases-loop
 loop-again c =
-    let inv = c.before.before.loop.invariant in
-    (inv.0, omega arith, reached-next inv.2 (omega arith) (omega arith) c.part_end.ensures)
+    let inv = c.loop-i.invariant in
+    (inv.0, omega arith, reached-next inv.2 (omega arith) (omega arith) c.part_end-at.ensures)
 
 returns : tie.Need-returns invariant-loop decreases-loop
 returns c =
-    let s = c.before.before.before in
-    let l = c.before.loop in
+    let s = c in
+    let l = c.loop-i in
     let e : l.i ≡ s.args.k - 1 = omega (arith, l.invariant.0) in
     let r = subst (λ j. ChildReached s.args.children.now j l.at) e l.invariant.2 in
     (r.at_is, r)
 
-pub child-start-spec : {M : Type 1} → statement M
-child-start-spec =
+pub child_start_spec : {M : Type 1} → statement M
+child_start_spec =
     tie.close
     (tie.spec
     invariant-loop

@@ -4,24 +4,21 @@ use borrow.Author.Rules.{rules}
 use Rattle.desk.proofs.child.locate.Statement.{statement}
 use Rattle.desk.proofs.child.locate.Tie as tie
 
-abbrev start : tie.After-read-model → tie.Start
-start r = r.before.before.before
-
-returns : tie.Need-returns
+returns : tie.Need-returns-in-Read
 returns c =
-    let o = c.before.before in
-    let r = o.before.before in
-    let a = (start r).args in
-    located-read a.model.now a.children.now a.k r.read-model.ensures c.locate-read.ensures o.enum_told.given.1
+    let o = c in
+    let r = o in
+    let a = r.args in
+    located-read a.model.now a.children.now a.k r.read_model-read.ensures c.locate_read.ensures o.in-Read.is
 
-returns-2 : tie.Need-returns-2
+returns-2 : tie.Need-returns-in-Refused
 returns-2 c =
-    let r = c.before.before.before in
-    let a = (start r).args in
-    located-unread a.model.now a.children.now a.k r.read-model.ensures c.before.outcome.given.1
+    let r = c in
+    let a = r.args in
+    located-unread a.model.now a.children.now a.k r.read_model-read.ensures c.in-Refused.is
 
-pub locate-spec : {M : Type 1} → statement M
-locate-spec =
+pub locate_spec : {M : Type 1} → statement M
+locate_spec =
     tie.close
     (tie.spec
     (λ c κs. search rules)

@@ -5,19 +5,19 @@ use borrow.Author.Rules.{rules}
 use Rattle.desk.proofs.child.name_place.Statement.{statement}
 use Rattle.desk.proofs.child.name_place.Tie as tie
 
-returns : tie.Need-returns
+returns : tie.Need-returns-then-number-eq0
 returns c =
-    let a = c.before.args in
-    located-none a.t1 a.number a.at (a.end - a.at) c.if1.true
+    let a = c.args in
+    located-none a.names a.number a.at (a.end - a.at) c.if-number-eq0.true
 
-returns-2 : tie.Need-returns-2
+returns-2 : tie.Need-returns
 returns-2 c =
-    let e = c.before.before.before in
-    let a = e.before.args in
-    located-some a.t1 a.number a.at (a.end - a.at) e.if1.false
+    let e = c in
+    let a = e.args in
+    located-some a.names a.number a.at (a.end - a.at) e.if-number-eq0.false
 
-pub name-place-spec : {M : Type 1} → statement M
-name-place-spec =
+pub name_place_spec : {M : Type 1} → statement M
+name_place_spec =
     tie.close
     (tie.spec
     (λ c. search rules)

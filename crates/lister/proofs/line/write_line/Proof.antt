@@ -15,8 +15,6 @@ abbrev ends : tie.After-times_in-children → tie.After-first_fields-ends
 ends c = c.before.before
 abbrev counted : tie.After-put-a → tie.After-times_in-children
 counted c = c.before.before.before
-abbrev put1 : tie.After-put-b → tie.After-put-a
-put1 c = c.before.before.before.before.before.before
 three : (c : tie.After-first_fields-ends) → Three c.args.cue.now c.first_fields-ends.result
 three c = cue-three c.first_fields-ends.ensures.0 c.requires.0
 
@@ -36,7 +34,7 @@ add-times-in c = omega (arith, (three c).ascending)
 sub-times-in : tie.Need-slice_bounds-times_in-count
 sub-times-in c = omega (arith, (three c).ascending)
 
-part-times-in-start : tie.Need-slice-bounds-times-in-start
+part-times-in-start : tie.Need-slice_bounds-times_in-start
 part-times-in-start c = omega (arith, (three c).ascending)
 
 add-put : tie.Need-overflow_add-first
@@ -45,11 +43,11 @@ add-put c = omega (arith, (three c.before.before.before).ascending)
 sub-put : tie.Need-slice_bounds-put-count
 sub-put c = omega (arith, (three c.before.before.before).ascending)
 
-part-put-start : tie.Need-slice-bounds-put-start
-part-put-start c = omega (arith, (three (ends c.before)).ascending)
+part-put-start : tie.Need-slice_bounds-put-start
+part-put-start c = omega (arith, (three c.before.before.before).ascending)
 
-part-put-end : tie.Need-slice-bounds-put-end
-part-put-end c = omega (arith, (three (ends c.before)).ascending)
+part-put-end : tie.Need-slice_bounds-put-end
+part-put-end c = omega (arith, (three c.before.before.before).ascending)
 
 add-put-2 : tie.Need-overflow_add-second-2
 add-put-2 c = omega (arith, (three c.before.before.before.before.before.before.before.before.before.before.before.before.before.before).ascending)
@@ -57,11 +55,11 @@ add-put-2 c = omega (arith, (three c.before.before.before.before.before.before.b
 sub-put-2 : tie.Need-slice_bounds-put-count-2
 sub-put-2 c = omega (arith, (three c.before.before.before.before.before.before.before.before.before.before.before.before.before.before).ascending)
 
-part-put-start-2 : tie.Need-slice-bounds-put-start-2
-part-put-start-2 c = omega (arith, (three (ends (counted (put1 c.before.before.before)))).ascending)
+part-put-start-2 : tie.Need-slice_bounds-put-start-2
+part-put-start-2 c = omega (arith, (three c.before.before.before.before.before.before.before.before.before.before.before.before.before.before).ascending)
 
-part-put-end-2 : tie.Need-slice-bounds-put-end-2
-part-put-end-2 c = omega (arith, (three (ends (counted (put1 c.before.before.before)))).ascending)
+part-put-end-2 : tie.Need-slice_bounds-put-end-3
+part-put-end-2 c = omega (arith, (three c.before.before.before.before.before.before.before.before.before.before.before.before.before.before).ascending)
 
 returns : tie.Need-returns
 returns c =
@@ -72,7 +70,7 @@ returns c =
     let b = d in
     let a = b in
     let n = a in
-    let number = begun-put _ _ (begun-none (room n.before.before.before.before.before.before.before.before.before.before.before.before.before.before.before.before.before.before.before.before.before.before.before.before.before.before.before.before.before.before)) a.put.ensures.0 a.put.ensures.1 in
+    let number = begun-put _ _ (begun-none (room n.before.before.before.before.before.before.before.before.before.before.before.before.before.before.before.before.before.before.before.before.before.before.before.before.before.before.before.before.before.before)) a.put-a.ensures.0 a.put-a.ensures.1 in
     let parted = begun-put (tab ∷ []) _ number b.put-b.ensures.0 b.put-b.ensures.1 in
     let kind = begun-put _ _ parted d.put-c.ensures.0 d.put-c.ensures.1 in
     let said = begun-put _ _ kind w.put_word-d.ensures.0 w.put_word-d.ensures.1 in
@@ -95,7 +93,6 @@ write_line_spec =
     part-put-start
     part-put-end
     (λ c κs. search rules)
-    (λ c. search rules)
     (λ c κs. search rules)
     add-put-2
     sub-put-2
@@ -104,7 +101,6 @@ write_line_spec =
     (λ c κs. search rules)
     (λ c κs. search rules)
     (λ c κs. search rules)
-    (λ c. search rules)
     (λ c κs. search rules)
     (λ c. search rules)
     returns)

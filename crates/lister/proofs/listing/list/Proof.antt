@@ -15,8 +15,8 @@ use Rattle.lister.proofs.listing.list.Tie as tie
 
 -- the call, from where the sheet was read, that from where it is known to be good, that from where the list is, that from where all is
 -- said, and that from the end
-told : (c : tie.After-read_sheet-read) → sheet_outcome c.args.sheet.now ≡ c.read_sheet-read.result.outcome-1
-told c = sym (outcome-is c.args.sheet.now) ∙ sym (ap (λ r. r.outcome-1) c.read_sheet-read.ensures)
+told : (c : tie.After-read_sheet-read) → sheet_outcome c.args.sheet.now ≡ c.read_sheet-read.result.outcome
+told c = sym (outcome-is c.args.sheet.now) ∙ sym (ap (λ r. r.outcome) c.read_sheet-read.ensures)
 
 sheet-read : (c : tie.In-Read) → sheet_outcome c.args.sheet.now ≡ Read
 sheet-read c = told c.before ∙ c.in-Read.is
@@ -66,7 +66,7 @@ part-write-listing-end c =
     let w = c in
     let n = w in
     let room : length w.no_codes-codes.result ≡ 65535 = search rules in
-    omega (arith, count_is n.before.before.before.before.before.before, lines-few (cues n.before.before.before.before.before.before), (good n.before.before.before.before.before.before).short, w.say_all.auto.1.1.1.0, room)
+    omega (arith, count_is n.before.before.before.before.before.before, lines-few (cues n.before.before.before.before.before.before), (good n.before.before.before.before.before.before).short, w.say_all.auto.codes, room)
 
 write-listing-requires : tie.Need-write_listing-requires
 write-listing-requires c κs =

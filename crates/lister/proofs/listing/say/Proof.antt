@@ -38,7 +38,6 @@ say_spec =
     (λ c κs. search rules)
     (λ c κs. search rules)
     returns
-    (λ c. search rules)
     (λ c κs. search rules)
     (λ c κs. search rules)
     returns-2)

@@ -11,7 +11,7 @@ use Rattle.lister.proofs.listing.say_all.Tie as tie
 
 abbrev invariant-loop : tie.invariant-loop-at
 invariant-loop sheet cues codes₀ rules kinds n₀ at₀ codes n at =
-    AtLine cues n at × Loaded sheet rules × (kinds ≡ rules.kinds-1) × (length codes ≡ 65535) × CodedUpTo n sheet cues codes
+    AtLine cues n at × Loaded sheet rules × (kinds ≡ rules.kinds) × (length codes ≡ 65535) × CodedUpTo n sheet cues codes
 
 abbrev decreases-loop : tie.decreases-loop-at
 decreases-loop sheet cues codes₀ rules kinds n₀ at₀ codes n at = length cues - at
@@ -25,7 +25,7 @@ cue c = before-cue c.loop-at.invariant.0 c.loop-at-test.true c.part_end-end.ensu
 few : (c : tie.After-one_less-i invariant-loop decreases-loop) → c.one_less-i.result < 64
 few c =
     let inv = c.loop-at.invariant in
-    omega (arith, rule-few inv.1 inv.2 (cue c.before.before.before) c.Line-of.ensures, c.one_less-i.ensures)
+    omega (arith, rule-few inv.1 inv.2 (cue c.before.before.before) c.line_of-number.ensures, c.one_less-i.ensures)
 
 free : (c : tie.After-part_end-end invariant-loop decreases-loop) → c.loop-at.n < length c.loop-at.codes
 free c = omega (arith, (cue c).bounds, c.loop-at.invariant.3)
@@ -62,7 +62,7 @@ element-copy-out-t24 c = few c
 code-for-requires : tie.Need-code_for-requires invariant-loop decreases-loop
 code-for-requires c κs =
     let inv = c.loop-at.invariant in
-    rw c.one_less-i.ensures (place-ready inv.1 inv.2 (cue c.before.before.before) c.Line-of.ensures _)
+    rw c.one_less-i.ensures (place-ready inv.1 inv.2 (cue c.before.before.before) c.line_of-number.ensures _)
 
 slice-write-codes : tie.Need-bounds-codes-n invariant-loop decreases-loop
 slice-write-codes c = free c.before.before.before.before
@@ -83,7 +83,7 @@ loop-again c =
     let l = o in
     let inv = l.loop-at.invariant in
     let a = l.args in
-    let said-is = code-said inv.1 inv.2 m o.Line-of.ensures _ (rw o.one_less-i.ensures at c.code_for.ensures) in
+    let said-is = code-said inv.1 inv.2 m o.line_of-number.ensures _ (rw o.one_less-i.ensures at c.code_for.ensures) in
     let coded = coded_set a.sheet.now a.cues.now l.loop-at.codes l.loop-at.n (free o.before.before.before.before) m.counted inv.4 said-is in
     (m.next, inv.1, inv.2, rw length-set inv.3, coded)
 

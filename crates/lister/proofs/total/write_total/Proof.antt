@@ -13,13 +13,13 @@ use Rattle.lister.proofs.total.write_total.Tie as tie
 
 -- what was begun before the first number goes on behind number i
 abbrev invariant-loop : tie.invariant-loop-i
-invariant-loop buffer₀ codes numbers end₀ i₀ t7 t8 buffer end i =
+invariant-loop buffer₀ codes numbers end₀ i₀ buffer end i =
     (i ≤ 5)
     × ((old : Text) → Begun old buffer₀ (bytes "total" ++ tabbed numbers) end₀ (tabbed numbers)
     → Begun old buffer (bytes "total" ++ tabbed numbers) end (tabbed (drop i numbers)))
 
 abbrev decreases-loop : tie.decreases-loop-i
-decreases-loop buffer₀ codes numbers end₀ i₀ t7 t8 buffer end i = 5 - i
+decreases-loop buffer₀ codes numbers end₀ i₀ buffer end i = 5 - i
 
 -- the call, from where the numbers are known; that from where `total` is put; that from a turn of the loop; that from its tab, and that from its number
 abbrev turn : tie.After-put-end-in-loop-i invariant-loop decreases-loop → tie.At-loop-i invariant-loop decreases-loop
@@ -86,10 +86,8 @@ write_total_spec =
     invariant-loop
     decreases-loop
     (λ c κs. c.requires.1)
-    (λ c. search rules)
     (λ c κs. search rules)
     (λ c. (omega arith, λ old g. g))
-    (λ c. search rules)
     (λ c κs. search rules)
     (λ c. search rules)
     (λ c. search rules)
@@ -97,7 +95,6 @@ write_total_spec =
     (λ c. search rules)
     (λ c. search rules)
     loop-again
-    (λ c. search rules)
     (λ c κs. search rules)
     same_length
     returns)

@@ -5,24 +5,20 @@ use Rattle.tidying.proofs.write.put_model.Statement.{statement}
 use Rattle.tidying.proofs.write.put_model.Tie as tie
 
 -- the call, from where the answer is told; and the start
-abbrev called : tie.After-slice-known2 → tie.After-write-model
-called c = c.before.before
-
-abbrev start : tie.After-write-model → tie.Start
+abbrev start : tie.After-write_model → tie.Start
 start c = c.before.before.before.before
-
-returns : tie.Need-returns
+returns : tie.Need-returns-in-Length
 returns c =
-    let w = called c.before.before.before in
-    model-put _ (start w).pre w.write-model.ensures.0 w.write-model.ensures.1 c.before.n.given.1
+    let w = c in
+    model-put _ w.requires w.write_model.ensures.0 w.write_model.ensures.1 c.in-Length.is
 
-returns-2 : tie.Need-returns-2
+returns-2 : tie.Need-returns-in-Refused
 returns-2 c =
-    let w = called c.before.before in
-    model-not-refused (start w).args.buffer.now (start w).pre w.write-model.ensures.0 c.enum_told.given.1
+    let w = c in
+    model-not-refused w.args.buffer.now w.requires w.write_model.ensures.0 c.in-Refused.is
 
-pub put-model-spec : {M : Type 1} → statement M
-put-model-spec =
+pub put_model_spec : {M : Type 1} → statement M
+put_model_spec =
     tie.close
     (tie.spec
     (λ c κs. search rules)
