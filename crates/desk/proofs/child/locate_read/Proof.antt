@@ -32,7 +32,7 @@ name-place-requires : tie.Need-name_place-requires
 name-place-requires c κs =
     let p = c in
     let s = p in
-    let l : length s.args.names.places ≡ 64 = search (rules, unmapped, s.good) in
+    let l : length s.args.names.places ≡ 64 = search (rules, unmapped, s.well_formed) in
     (number-few s.args.model.now s.args.names _ l c.number_of-number.ensures, (here p.before.before).bounds.0)
 
 returns : tie.Need-returns-in-Count

@@ -37,7 +37,7 @@ head-is : (p : tie.After-put-head)
 head-is p = put-fits _ _ _ _ _ (rw (length-take, length-drop) (omega (arith, room p.before.before.before.before))) p.put-head.ensures.0 p.put-head.ensures.1
 
 head-inside : (p : tie.After-put-head) → p.put-head.result ≤ length p.put-head.new.buffer
-head-inside p = omega (arith, put-ends (head-is p), (head-is p).ranges)
+head-inside p = omega (arith, put-ends (head-is p), (head-is p).fits)
 
 sub-put-model-2 : tie.Need-slice_bounds-put_model-count-2
 sub-put-model-2 c = omega (arith, (three c.before.before.before.before.before.before.before).ascending)
@@ -79,7 +79,7 @@ write_rule_spec =
     (λ c. search rules)
     part-put-end
     (λ c κs. search rules)
-    (λ c. head-inside c)
+    (λ c. head-inside c.before.before)
     (λ c. head-inside c.before.before)
     (λ c. search rules)
     sub-put-model-2
@@ -87,7 +87,6 @@ write_rule_spec =
     (λ c. search rules)
     put-model-requires
     add-put
-    (λ c. search rules)
     (λ c κs. search rules)
     (λ c. search rules)
     returns)

@@ -64,7 +64,7 @@ part-write-rule-end-2 c = omega (arith, (rule c.before).bounds)
 write-rule-requires : tie.Need-write_rule-more-requires invariant-loop decreases-loop
 write-rule-requires c κs =
     let e = c in
-    ((rule e.before.before).ranges, piece-room (line e.before.before) (rest e.before.before) (begun e.before.before))
+    ((rule e.before.before).fits, piece-room (line e.before.before) (rest e.before.before) (begun e.before.before))
 
 add-written : tie.Need-overflow_add-written invariant-loop decreases-loop
 add-written c =
