@@ -8,8 +8,7 @@ use Rattle.canonical.proofs.atom.copy_part.Tie as tie
 
 returns : tie.Need-returns
 returns c =
-    let p = c in
-    put-fits _ _ _ _ _ (rw (length-take, length-drop) (omega (arith, p.requires))) p.put.ensures.0 p.put.ensures.1
+    put-fits _ _ _ _ _ (rw (length-take, length-drop) (omega (arith, c.requires))) c.put.ensures.0 c.put.ensures.1
 
 pub copy_part_spec : {M : Type 1} → statement M
 copy_part_spec =

@@ -15,7 +15,7 @@ inside : (c : tie.After-count_end-end) → (c.args.name ≤ c.count_end-end.resu
 inside c = ended-inside (ends c) c.requires.0
 
 count-end-requires : tie.Need-count_end-end-requires
-count-end-requires c κs = let s = c in rw s.requires.1 (name-inside s.args.text.now s.args.at s.requires.0)
+count-end-requires c κs = rw c.requires.1 (name-inside c.args.text.now c.args.at c.requires.0)
 
 add-if1 : tie.Need-overflow_add-name
 add-if1 c = omega (arith, inside c)
@@ -27,10 +27,10 @@ shared-slice-read-if2-2 : tie.Need-bounds-text-name-then-end-name
 shared-slice-read-if2-2 c = omega (arith, inside c.before.before.before)
 
 returns : tie.Need-returns-then-text-name
-returns c = let t = c in kept-six (ends t.before.before.before.before) t.if-end-name.true c.if-text-name.true
+returns c = kept-six (ends c.before.before.before.before) c.if-end-name.true c.if-text-name.true
 
 returns-2 : tie.Need-returns-else-text-name
-returns-2 c = let t = c in kept-six (ends t.before.before.before.before) t.if-end-name.true c.if-text-name.false
+returns-2 c = kept-six (ends c.before.before.before.before) c.if-end-name.true c.if-text-name.false
 
 returns-3 : tie.Need-returns-else-end-name
 returns-3 c = kept-other (ends c.before) c.if-end-name.false

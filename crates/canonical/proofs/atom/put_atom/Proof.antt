@@ -19,8 +19,7 @@ room : (c : tie.After-kept_end-end) → c.args.to + (c.kept_end-end.result - c.a
 room c = omega (arith, piece-length (ends c) c.requires.0, c.requires.1)
 
 -- where the ends are known and the copy is made
-abbrev known : tie.After-copy_part-next → tie.After-kept_end-end
-known c = c.before.before
+
 copy-part-requires : tie.Need-copy_part-next-requires
 copy-part-requires c κs = omega (arith, inside c.before, room c.before)
 
@@ -31,27 +30,24 @@ shared-slice-read-if2 : tie.Need-bounds-text-name
 shared-slice-read-if2 c = omega (arith, inside c.before.before.before.before.before.before)
 
 add-buffer-2 : tie.Need-overflow_add-buffer-then-text-name-eq48
-add-buffer-2 c = let k = c in omega (arith, room k.before.before.before.before.before.before.before, inside k.before.before.before.before.before.before.before)
+add-buffer-2 c = omega (arith, room c.before.before.before.before.before.before.before, inside c.before.before.before.before.before.before.before)
 
 slice-write-buffer : tie.Need-bounds-buffer-to
 slice-write-buffer c =
-    let k = c in
-    omega (arith, room k.before.before.before.before.before.before.before, inside k.before.before.before.before.before.before.before, c.copy_part-next.auto)
+    omega (arith, room c.before.before.before.before.before.before.before, inside c.before.before.before.before.before.before.before, c.copy_part-next.auto)
 
 returns : tie.Need-returns-then-text-name-eq48
 returns c =
-    let k = c in
-    let j = k.name_end-name.result + 1 - k.args.at in
-    rw (piece-raised (ends k.before.before.before.before.before.before.before) (omega arith) c.if-text-name-eq48.true)
-    (put-set c.copy_part-next.ensures j (code "1") (omega (arith, kept-length (ends k.before.before.before.before.before.before.before) k.requires.0, inside k.before.before.before.before.before.before.before)))
+    let j = c.name_end-name.result + 1 - c.args.at in
+    rw (piece-raised (ends c.before.before.before.before.before.before.before) (omega arith) c.if-text-name-eq48.true)
+    (put-set c.copy_part-next.ensures j (code "1") (omega (arith, kept-length (ends c.before.before.before.before.before.before.before) c.requires.0, inside c.before.before.before.before.before.before.before)))
 
 returns-2 : tie.Need-returns-else-text-name-eq48
 returns-2 c = rw (piece-same (ends c.before.before.before.before.before.before.before) c.if-text-name-eq48.false) c.copy_part-next.ensures
 
 returns-3 : tie.Need-returns-else-name-end
 returns-3 c =
-    let p = c in
-    rw (piece-short (ends p.before.before.before.before.before) p.requires.0 c.if-name-end.false) p.copy_part-next.ensures
+    rw (piece-short (ends c.before.before.before.before.before) c.requires.0 c.if-name-end.false) c.copy_part-next.ensures
 
 pub put_atom_spec : {M : Type 1} → statement M
 put_atom_spec =

@@ -26,13 +26,11 @@ loop-holds c = (omega arith, count-some c.args.text.now _ c.if-text-at-ne91.fals
 
 returns-3 : tie.Need-returns-then-b-eq93 invariant-loop decreases-loop
 returns-3 c =
-    let l = c in
-    sym (l.loop-i.invariant.1 ∙ count-last _ l.loop-i.i (omega arith) c.if-b-eq93.true)
+    sym (c.loop-i.invariant.1 ∙ count-last _ c.loop-i.i (omega arith) c.if-b-eq93.true)
 
 loop-again : tie.Need-loop-i-preserved invariant-loop decreases-loop
 loop-again c =
-    let l = c in
-    (omega arith, l.loop-i.invariant.1 ∙ count-step _ l.loop-i.i (omega arith) c.if-b-eq93.false)
+    (omega arith, c.loop-i.invariant.1 ∙ count-step _ c.loop-i.i (omega arith) c.if-b-eq93.false)
 
 returns-4 : tie.Need-returns invariant-loop decreases-loop
 returns-4 c = sym (c.loop-i.invariant.1 ∙ count-over _ c.loop-i.i (omega arith))

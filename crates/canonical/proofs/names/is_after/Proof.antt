@@ -41,8 +41,6 @@ told l e = e ∙ sym (ap not l.loop-i.invariant.3)
 turn-inner : (c : tie.In-loop-i invariant-loop decreases-loop) → Inner (whole c.before) (first c.before)
 turn-inner c = name-goes _ _ (omega (arith, c.loop-i-test.true, c.loop-i.invariant))
 
-abbrev turn : tie.Else-c-d invariant-loop decreases-loop → tie.In-loop-i invariant-loop decreases-loop
-turn c = c.before.before.before
 loop-holds : tie.Need-loop-i-init invariant-loop decreases-loop
 loop-holds c = let p = c.requires in (omega arith, c.lesser-most.ensures, simp add-zero p.1, simp add-zero)
 
@@ -60,38 +58,33 @@ shared-slice-read-d c = search rules
 
 returns : tie.Need-returns-then-c-d invariant-loop decreases-loop
 returns c =
-    let t = c in
-    let f = t in
-    let l = f in
-    told l.before.before.before.before.before (rw c.is_inner-inner.ensures (after-differs (whole l.before.before.before.before.before) (first l.before.before.before.before.before) (second l.before.before.before.before.before) (turn-inner f.before.before.before.before) (omega arith) t.if-c-d.true))
+    told c.before.before.before.before.before (rw c.is_inner-inner.ensures (after-differs (whole c.before.before.before.before.before) (first c.before.before.before.before.before) (second c.before.before.before.before.before) (turn-inner c.before.before.before.before) (omega arith) c.if-c-d.true))
 
 loop-again : tie.Need-loop-i-preserved invariant-loop decreases-loop
 loop-again c =
-    let l = c in
     let i = turn-inner c.before.before.before in
     let s = c.if-c-d.false in
-    let e : l.args.a + (l.loop-i.i + 1) ≡ first l.before.before.before.before + 1 = omega arith in
-    let f : l.args.b + (l.loop-i.i + 1) ≡ second l.before.before.before.before + 1 = omega arith in
-    let j : Inner (whole l.before.before.before.before) (second l.before.before.before.before) = record { inside = omega arith; inner = subst (λ (b : ℕ). is_inner b ≡ true) s i.inner } in (
+    let e : c.args.a + (c.loop-i.i + 1) ≡ first c.before.before.before.before + 1 = omega arith in
+    let f : c.args.b + (c.loop-i.i + 1) ≡ second c.before.before.before.before + 1 = omega arith in
+    let j : Inner (whole c.before.before.before.before) (second c.before.before.before.before) = record { inside = omega arith; inner = subst (λ (b : ℕ). is_inner b ≡ true) s i.inner } in (
       omega arith,
-      l.loop-i.invariant.1,
-      rw e (l.loop-i.invariant.2 ∙ name-step (whole l.before.before.before.before) (first l.before.before.before.before) i.inside i.inner),
-      rw (e, f) (l.loop-i.invariant.3 ∙ after_same (whole l.before.before.before.before) (first l.before.before.before.before) (second l.before.before.before.before) i j s),
+      c.loop-i.invariant.1,
+      rw e (c.loop-i.invariant.2 ∙ name-step (whole c.before.before.before.before) (first c.before.before.before.before) i.inside i.inner),
+      rw (e, f) (c.loop-i.invariant.3 ∙ after_same (whole c.before.before.before.before) (first c.before.before.before.before) (second c.before.before.before.before) i j s),
     )
 
 -- the name at a goes on where the text ends at b, or it is over
 returns-2 : tie.Need-returns invariant-loop decreases-loop
 returns-2 c =
-    let l = c in
-    let x = whole l.before in
-    let n = l.args.end - l.args.a in
-    let m = l.loop-i.invariant.2 in
-    told l.before
-    (by-test (ltb l.loop-i.i n)
+    let x = whole c.before in
+    let n = c.args.end - c.args.a in
+    let m = c.loop-i.invariant.2 in
+    told c.before
+    (by-test (ltb c.loop-i.i n)
     (λ e.
-    let h = ltb-true l.loop-i.i n e in
-    rw e (after-longer x (first l.before) (second l.before) (name-goes x (first l.before) (omega (arith, h, m))) (front_out is_inner x (second l.before) (omega (arith, h)))))
-    (λ e. rw e (after-over x (first l.before) (second l.before) (name-over x (first l.before) (omega (arith, ltb-false l.loop-i.i n e, m))))))
+    let h = ltb-true c.loop-i.i n e in
+    rw e (after-longer x (first c.before) (second c.before) (name-goes x (first c.before) (omega (arith, h, m))) (front_out is_inner x (second c.before) (omega (arith, h)))))
+    (λ e. rw e (after-over x (first c.before) (second c.before) (name-over x (first c.before) (omega (arith, ltb-false c.loop-i.i n e, m))))))
 
 pub is_after_spec : {M : Type 1} → statement M
 is_after_spec =

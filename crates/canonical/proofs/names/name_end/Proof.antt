@@ -19,13 +19,11 @@ loop-holds c = (omega arith, refl)
 
 loop-again : tie.Need-loop-i-preserved invariant-loop decreases-loop
 loop-again c =
-    let l = c in
-    (omega arith, l.loop-i.invariant.1 ∙ name-step _ l.loop-i.i (omega arith) (sym c.is_inner.ensures ∙ c.if-is_inner.true))
+    (omega arith, c.loop-i.invariant.1 ∙ name-step _ c.loop-i.i (omega arith) (sym c.is_inner.ensures ∙ c.if-is_inner.true))
 
 returns : tie.Need-returns-else-is_inner invariant-loop decreases-loop
 returns c =
-    let l = c in
-    sym (l.loop-i.invariant.1 ∙ name-stop _ l.loop-i.i (omega arith) (sym c.is_inner.ensures ∙ c.if-is_inner.false))
+    sym (c.loop-i.invariant.1 ∙ name-stop _ c.loop-i.i (omega arith) (sym c.is_inner.ensures ∙ c.if-is_inner.false))
 
 returns-2 : tie.Need-returns invariant-loop decreases-loop
 returns-2 c = sym (c.loop-i.invariant.1 ∙ name_out _ c.loop-i.i (omega arith))

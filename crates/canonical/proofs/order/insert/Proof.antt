@@ -15,22 +15,19 @@ decreases-loop text stack list₀ start end m place k₀ list k = k
 
 loop-holds : tie.Need-loop-k-init invariant-loop decreases-loop
 loop-holds c =
-    let e = c in
-    let a = e.args in
-    (moved_none a.list.now a.start a.end e.requires.range.0 (omega (arith, e.requires.range, e.requires.list_length)), c.place_of-place.ensures.inside.2)
+    let a = c.args in
+    (moved_none a.list.now a.start a.end c.requires.range.0 (omega (arith, c.requires.range, c.requires.list_length)), c.place_of-place.ensures.inside.2)
 
 loop-again : tie.Need-loop-k-preserved invariant-loop decreases-loop
 loop-again c =
-    let l = c in
     let h = c.loop-k-test.true in
-    (moved_more l.loop-k.invariant.0 (omega (arith, h, l.place_of-place.ensures.inside)), omega (arith, h))
+    (moved_more c.loop-k.invariant.0 (omega (arith, h, c.place_of-place.ensures.inside)), omega (arith, h))
 
 returns : tie.Need-returns invariant-loop decreases-loop
 returns c =
-    let l = c in
-    let p = l.requires in
-    inserted-there l.place_of-place.ensures (omega (arith, p.range, p.list_length)) (omega (arith, c.loop-k-test.false, l.loop-k.invariant.1))
-    l.loop-k.invariant.0
+    let p = c.requires in
+    inserted-there c.place_of-place.ensures (omega (arith, p.range, p.list_length)) (omega (arith, c.loop-k-test.false, c.loop-k.invariant.1))
+    c.loop-k.invariant.0
 
 pub insert_spec : {M : Type 1} → statement M
 insert_spec =

@@ -7,14 +7,12 @@ use Rattle.canonical.proofs.order.is_behind.Statement.{statement}
 use Rattle.canonical.proofs.order.is_behind.Tie as tie
 
 -- the start, from where both heads are read
-abbrev start : tie.After-struct_known-2-1 → tie.Start
-start c = c.before.before.before.before.before.before.before.before
+
 is-after-requires : tie.Need-is_after-requires
 is-after-requires c κs =
-    let e = c in
-    let p = e.requires in
-    let x = e.args.text.now in
-    let stack = e.args.stack.now in (
+    let p = c.requires in
+    let x = c.args.text.now in
+    let stack = c.args.stack.now in (
       least_inside x stack p.first.0 (omega (arith, p.entries, p.first)) p.heads c.unpacked-head.ensures,
       rw c.unpacked-head.ensures p.name-end,
       least_inside x stack p.second.0 (omega (arith, p.entries, p.second)) p.heads c.unpacked-before.ensures,
@@ -22,14 +20,12 @@ is-after-requires c κs =
 
 returns : tie.Need-returns
 returns c =
-    let f = c in
-    let e = c in
-    let p = e.requires in
-    let x = e.args.text.now in
-    let stack = e.args.stack.now in
+    let p = c.requires in
+    let x = c.args.text.now in
+    let stack = c.args.stack.now in
     c.is_after.ensures ∙ ap₂ (λ a b. not (not_after a b))
-    (name_is x stack p.first.0 (omega (arith, p.entries, p.first)) p.heads f.unpacked-head.ensures)
-    (name_is x stack p.second.0 (omega (arith, p.entries, p.second)) p.heads f.unpacked-before.ensures)
+    (name_is x stack p.first.0 (omega (arith, p.entries, p.first)) p.heads c.unpacked-head.ensures)
+    (name_is x stack p.second.0 (omega (arith, p.entries, p.second)) p.heads c.unpacked-before.ensures)
 
 pub is_behind_spec : {M : Type 1} → statement M
 is_behind_spec =

@@ -41,8 +41,7 @@ element-write-list c = omega (arith, left c.before.before.before, c.requires.roo
 
 insert-requires : tie.Need-insert-requires invariant-loop decreases-loop
 insert-requires c κs =
-    let k = c in
-    insert-ready k.requires k.loop-k.invariant (left k.before.before.before) (λ s. c.if-head-eq44.false (sign_is k.before.before.before.before ∙ s))
+    insert-ready c.requires c.loop-k.invariant (left c.before.before.before) (λ s. c.if-head-eq44.false (sign_is c.before.before.before.before ∙ s))
 
 mul-unpacked-2 : tie.Need-offset_bounds-stack-m invariant-loop decreases-loop
 mul-unpacked-2 c = omega (arith, next c.before.before)
@@ -51,19 +50,16 @@ element-copy-out-unpacked-2 : tie.Need-bounds-stack-m invariant-loop decreases-l
 element-copy-out-unpacked-2 c = omega (arith, next c.before.before.before)
 
 add-m-2 : tie.Need-overflow_add-m-in-loop-k invariant-loop decreases-loop
-add-m-2 c = let k = c in omega (arith, next k.before.before.before.before.before.before, k.struct_known-in-loop-k-1.given)
+add-m-2 c = omega (arith, next c.before.before.before.before.before.before, c.struct_known-in-loop-k-1.given)
 
 loop-again : tie.Need-loop-k-preserved invariant-loop decreases-loop
 loop-again c =
-    let j = c in
-    let k = j in
-    let l = k in
-    let r = l.requires in
+    let r = c.requires in
     let e = c.unpacked-next.ensures in
     ⊎_elim
-    (λ w. listing-kept r l.loop-k.invariant (left k.before.before.before.before.before.before) e w.list-is (sym (sign_is l.before.before.before.before.before.before.before) ∙ w.if-head-eq44.true))
-    (λ w. listing-sorted r l.loop-k.invariant (left k.before.before.before.before.before.before) e w.list-is (λ s. w.if-head-eq44.false (sign_is l.before.before.before.before.before.before.before ∙ s)) w.insert.ensures)
-    j.if-head-eq44.branch-raw
+    (λ w. listing-kept r c.loop-k.invariant (left c.before.before.before.before.before.before) e w.list-is (sym (sign_is c.before.before.before.before.before.before.before) ∙ w.if-head-eq44.true))
+    (λ w. listing-sorted r c.loop-k.invariant (left c.before.before.before.before.before.before) e w.list-is (λ s. w.if-head-eq44.false (sign_is c.before.before.before.before.before.before.before ∙ s)) w.insert.ensures)
+    c.if-head-eq44.branch-raw
 
 returns : tie.Need-returns invariant-loop decreases-loop
 returns c = members-listed c.requires c.loop-k.invariant (end_is c.before) c.loop-k-test.false

@@ -19,6 +19,7 @@ decreases-loop text stack list start end m name last low₀ high₀ low high = h
 -- where the end of the name is known: there are members, and the start
 abbrev begin : tie.After-name_end-name invariant-loop decreases-loop → tie.Start invariant-loop decreases-loop
 begin c = c.before.before.before.before.before.before.before
+
 own-end : (c : tie.After-name_end-name invariant-loop decreases-loop)
     → c.name_end-name.result ≡ behind_name c.args.text.now (head_at c.args.stack.now c.args.m).least
 own-end c = c.name_end-name.ensures ∙ ap (λ (h : Head). behind_name c.args.text.now h.least) c.unpacked-head.ensures
@@ -39,10 +40,8 @@ returns c =
 
 name-end-requires : tie.Need-name_end-name-requires invariant-loop decreases-loop
 name-end-requires c κs =
-    let u = c in
-    let s = u in
-    let p = s.requires in
-    least_inside s.args.text.now s.args.stack.now p.place.0 (omega (arith, p.entries, p.place)) p.heads u.unpacked-head.ensures
+    let p = c.requires in
+    least_inside c.args.text.now c.args.stack.now p.place.0 (omega (arith, p.entries, p.place)) p.heads c.unpacked-head.ensures
 
 element-copy-out-last : tie.Need-bounds-list-end invariant-loop decreases-loop
 element-copy-out-last c = omega (arith, c.requires.range)
@@ -62,18 +61,14 @@ cast-is-behind c = omega (arith, (last-place c).second)
 
 returns-2 : tie.Need-returns-else-is_behind invariant-loop decreases-loop
 returns-2 c =
-    let f = c in
-    let e = f in
-    let h = f.if-start-end.true in
-    narrowed-above (narrowed_none refl e.requires.range.0) (e.args.end - 1) (omega (arith, h)) c.is_behind.ensures (omega (arith, h))
+    let h = c.if-start-end.true in
+    narrowed-above (narrowed_none refl c.requires.range.0) (c.args.end - 1) (omega (arith, h)) c.is_behind.ensures (omega (arith, h))
     c.if-is_behind.false
 
 loop-holds : tie.Need-loop-low-init invariant-loop decreases-loop
 loop-holds c =
-    let f = c in
-    let e = f in
-    narrowed-below (narrowed_none refl e.requires.range.0) (e.args.end - 1) (omega (arith, f.if-start-end.true)) c.is_behind.ensures
-    e.requires.falling c.if-is_behind.true
+    narrowed-below (narrowed_none refl c.requires.range.0) (c.args.end - 1) (omega (arith, c.if-start-end.true)) c.is_behind.ensures
+    c.requires.falling c.if-is_behind.true
 
 add-mid : tie.Need-overflow_add-mid invariant-loop decreases-loop
 add-mid c = omega (arith, mid-listed c, c.requires.range)
@@ -97,30 +92,24 @@ loop-less c = omega (arith, mid-inside c.before.before.before.before)
 
 loop-again : tie.Need-loop-low-preserved-then-is_behind-2 invariant-loop decreases-loop
 loop-again c =
-    let f = c in
-    let l = f in
-    narrowed-below l.loop-low.invariant (mid l.before.before.before.before.before) (mid-inside f.before.before.before.before) c.is_behind-in-loop-low.ensures l.requires.falling c.if-is_behind-2.true
+    narrowed-below c.loop-low.invariant (mid c.before.before.before.before.before) (mid-inside c.before.before.before.before) c.is_behind-in-loop-low.ensures c.requires.falling c.if-is_behind-2.true
 
 add_low : tie.Need-overflow_add-low invariant-loop decreases-loop
 add_low c =
-    let f = c in
-    omega (arith, mid-listed f.before.before.before.before, f.requires.range)
+    omega (arith, mid-listed c.before.before.before.before, c.requires.range)
 
 loop-less-2 : tie.Need-loop-low-smaller invariant-loop decreases-loop
 loop-less-2 c = omega (arith, mid-inside c.before.before.before.before)
 
 loop-again-2 : tie.Need-loop-low-preserved invariant-loop decreases-loop
 loop-again-2 c =
-    let f = c in
-    let l = f in
-    narrowed-above l.loop-low.invariant (mid l.before.before.before.before.before) (mid-inside f.before.before.before.before) c.is_behind-in-loop-low.ensures refl c.if-is_behind-2.false
+    narrowed-above c.loop-low.invariant (mid c.before.before.before.before.before) (mid-inside c.before.before.before.before) c.is_behind-in-loop-low.ensures refl c.if-is_behind-2.false
 
 returns-3 : tie.Need-returns invariant-loop decreases-loop
 returns-3 c =
-    let l = c in
-    let a = l.args in
-    let e : l.loop-low.low ≡ l.loop-low.high = omega (arith, c.loop-low-test.false, l.loop-low.invariant.inside) in
-    subst (λ k. Narrowed a.text.now a.stack.now a.list.now a.start a.end a.m k l.loop-low.high) e l.loop-low.invariant
+    let a = c.args in
+    let e : c.loop-low.low ≡ c.loop-low.high = omega (arith, c.loop-low-test.false, c.loop-low.invariant.inside) in
+    subst (λ k. Narrowed a.text.now a.stack.now a.list.now a.start a.end a.m k c.loop-low.high) e c.loop-low.invariant
 
 pub place_of_spec : {M : Type 1} → statement M
 place_of_spec =

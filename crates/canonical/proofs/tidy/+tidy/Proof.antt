@@ -52,21 +52,16 @@ claims t = (
   closed-reads.Asked,
   closed-reads.Learnt,
 )
+
 abbrev invariant-loop : lts.invariant-loop-p
 invariant-loop text stack₀ place top g₀ sign₀ p₀ stack g sign p = Looping text stack₀ stack place top p sign g
+
 abbrev decreases-loop : lts.decreases-loop-p
 decreases-loop text stack₀ place top g₀ sign₀ p₀ stack g sign p = length text - p
 
 module _ (t : ℕ) where
   -- the start, and the loop's head, from where an atom was read and from behind a member
-  abbrev atom-start : lts.After-with_mark (claims t) (at t) tidy.Post invariant-loop decreases-loop → lts.Start (claims t) (at t) tidy.Post invariant-loop decreases-loop
-  atom-start c = c.before.before.before.before.before
-  abbrev start : lts.At-loop-p (claims t) (at t) tidy.Post invariant-loop decreases-loop → lts.Start (claims t) (at t) tidy.Post invariant-loop decreases-loop
-  start c = c.before.before.before.before.before
-  abbrev head : lts.After-tidy-t (claims t) (at t) tidy.Post invariant-loop decreases-loop → lts.At-loop-p (claims t) (at t) tidy.Post invariant-loop decreases-loop
-  head c = c.before.before.before.before
-  abbrev past : lts.After-gather-g (claims t) (at t) tidy.Post invariant-loop decreases-loop → lts.After-tidy-t (claims t) (at t) tidy.Post invariant-loop decreases-loop
-  past c = c.before.before.before.before.before
+
   here : (c : lts.Then-text-at-ne40 (claims t) (at t) tidy.Post invariant-loop decreases-loop)
       → AtomHere c.args.text.now c.args.at
   here c = let r = c.requires.1 in atom-here r.tree r.stands c.if-text-at-ne40.true
@@ -74,77 +69,84 @@ module _ (t : ℕ) where
   -- the member of a turn
   member : (c : lts.After-tidy-t (claims t) (at t) tidy.Post invariant-loop decreases-loop) → Turn c.loop-p.invariant
   member c = turn c.loop-p.invariant c.loop-p-test.true
+
   tidied : (c : lts.After-tidy-t (claims t) (at t) tidy.Post invariant-loop decreases-loop)
       → TidiedAt c.args.text.now c.loop-p.stack c.tidy-t.new.stack c.loop-p.p c.loop-p.g.top c.tidy-t.result
       (member c).member
   tidied c = c.tidy-t.ensures (member c).member (member-stands c.loop-p.invariant (member c))
+
   shared-slice-read-if1 : lts.Need-bounds-text-at (claims t) (at t) tidy.Post invariant-loop decreases-loop
   shared-slice-read-if1 c = tree-inside c.requires.1.stands
+
   atom-requires : lts.Need-atom-a-requires (claims t) (at t) tidy.Post invariant-loop decreases-loop
   atom-requires c κs = (((here c).atom, atom-stands (here c).stands), omega (arith, c.requires.1.short))
+
   returns : lts.Need-returns-then-text-at-ne40 (claims t) (at t) tidy.Post invariant-loop decreases-loop
   returns c =
-      let s = c in
       let h = here c.before.before in
-      let x = s.args.text.now in
-      let stack = s.args.stack.now in
-      every-tree (λ (u : Syntax). TidiedAt x stack stack s.args.at s.args.top c.with_mark.result u)
+      let x = c.args.text.now in
+      let stack = c.args.stack.now in
+      every-tree (λ (u : Syntax). TidiedAt x stack stack c.args.at c.args.top c.with_mark.result u)
       h.stands
-      (subst (λ (y : Tidied). TidiedAt x stack stack s.args.at s.args.top y (marked h.mark (leaf h.atom)))
-      (sym (c.with_mark.ensures ∙ ap (marked_by s.args.text.now) c.atom-a.ensures))
-      (atom-tidied s.args.stack.now s.args.top h.stands s.requires.1.heads))
+      (subst (λ (y : Tidied). TidiedAt x stack stack c.args.at c.args.top y (marked h.mark (leaf h.atom)))
+      (sym (c.with_mark.ensures ∙ ap (marked_by c.args.text.now) c.atom-a.ensures))
+      (atom-tidied c.args.stack.now c.args.top h.stands c.requires.1.heads))
+
   add-p : lts.Need-overflow_add-p (claims t) (at t) tidy.Post invariant-loop decreases-loop
-  add-p c = let s = c in omega (arith, tree-inside s.requires.1.stands, s.requires.1.short)
+  add-p c = omega (arith, tree-inside c.requires.1.stands, c.requires.1.short)
+
   loop-holds : lts.Need-loop-p-init (claims t) (at t) tidy.Post invariant-loop decreases-loop
   loop-holds c = rw c.no_members-g.ensures (begins c.requires.1 c.if-text-at-ne40.false)
+
   shared-slice-read-if2 : lts.Need-bounds-text-p (claims t) (at t) tidy.Post invariant-loop decreases-loop
   shared-slice-read-if2 c = place_inside c.loop-p.invariant
+
   tidy-requires : lts.Need-tidy-t-requires (claims t) (at t) tidy.Post invariant-loop decreases-loop
   tidy-requires c κs =
-      let l = c in
-      let i = l.loop-p.invariant in
-      (omega (arith, l.requires.0, i.from, place_inside i), member-ready i (turn i c.loop-p-test.true))
+      let i = c.loop-p.invariant in
+      (omega (arith, c.requires.0, i.from, place_inside i), member-ready i (turn i c.loop-p-test.true))
+
   shared-slice-read-behind : lts.Need-bounds-text-next (claims t) (at t) tidy.Post invariant-loop decreases-loop
   shared-slice-read-behind c =
-      let b = c in
-      next-inside b.loop-p.invariant (member b.before) b.tidy-t.new.stack b.tidy-t.result (tidied b.before)
+      next-inside c.loop-p.invariant (member c.before) c.tidy-t.new.stack c.tidy-t.result (tidied c.before)
+
   member-by-requires : lts.Need-member_by-p-requires (claims t) (at t) tidy.Post invariant-loop decreases-loop
   member-by-requires c κs =
-      let b = c in
-      omega (arith, next-inside b.loop-p.invariant (member b.before.before) b.tidy-t.new.stack b.tidy-t.result (tidied b.before.before), b.loop-p.invariant.short)
+      omega (arith, next-inside c.loop-p.invariant (member c.before.before) c.tidy-t.new.stack c.tidy-t.result (tidied c.before.before), c.loop-p.invariant.short)
+
   gather-requires : lts.Need-gather-g-requires (claims t) (at t) tidy.Post invariant-loop decreases-loop
   gather-requires c κs =
-      let b = c in
-      rw c.sign_by-sign.ensures (member-fits b.loop-p.invariant (member b.before.before.before.before) b.tidy-t.new.stack b.tidy-t.result (tidied b.before.before.before.before))
+      rw c.sign_by-sign.ensures (member-fits c.loop-p.invariant (member c.before.before.before.before) c.tidy-t.new.stack c.tidy-t.result (tidied c.before.before.before.before))
+
   loop-less : lts.Need-loop-p-smaller (claims t) (at t) tidy.Post invariant-loop decreases-loop
   loop-less c =
-      let b = c in
       omega (
         arith,
         c.member_by-p.ensures,
-        further b.loop-p.invariant (member b.before.before.before.before.before) b.tidy-t.new.stack b.tidy-t.result (tidied b.before.before.before.before.before),
-        place_inside b.loop-p.invariant,
+        further c.loop-p.invariant (member c.before.before.before.before.before) c.tidy-t.new.stack c.tidy-t.result (tidied c.before.before.before.before.before),
+        place_inside c.loop-p.invariant,
       )
+
   loop-again : lts.Need-loop-p-preserved (claims t) (at t) tidy.Post invariant-loop decreases-loop
   loop-again c =
-      let b = c in
       rw (c.gather-g.ensures.0, c.member_by-p.ensures, c.sign_by-sign.ensures)
-      (goes_on-is b.loop-p.invariant (member b.before.before.before.before.before) b.tidy-t.new.stack b.tidy-t.result (tidied b.before.before.before.before.before) c.gather-g.new.stack
+      (goes_on-is c.loop-p.invariant (member c.before.before.before.before.before) c.tidy-t.new.stack c.tidy-t.result (tidied c.before.before.before.before.before) c.gather-g.new.stack
       (rw c.sign_by-sign.ensures at c.gather-g.ensures.1))
+
   add-closed : lts.Need-overflow_add-p-2 (claims t) (at t) tidy.Post invariant-loop decreases-loop
   add-closed c = let i = c.loop-p.invariant in omega (arith, place_inside i, i.short)
+
   closed-requires : lts.Need-closed-t-requires (claims t) (at t) tidy.Post invariant-loop decreases-loop
   closed-requires c κs =
       let i = c.loop-p.invariant in
       let w = i.walking in
       (omega (arith, w.top_is, i.inside), omega (arith, w.keeps.nodes_are, w.top_is, i.inside))
+
   returns-2 : lts.Need-returns (claims t) (at t) tidy.Post invariant-loop decreases-loop
   returns-2 c =
-      let l = c in
-      let s = l in
-      every-tree (λ (u : Syntax). TidiedAt s.args.text.now s.args.stack.now l.loop-p.stack s.args.at s.args.top c.with_mark-2.result u)
-      l.loop-p.invariant.stands
-      (rw (c.with_mark-2.ensures, c.closed-t.ensures) (group-tidied l.loop-p.invariant c.loop-p-test.false))
+      every-tree (λ (u : Syntax). TidiedAt c.args.text.now c.args.stack.now c.loop-p.stack c.args.at c.args.top c.with_mark-2.result u)
+      c.loop-p.invariant.stands
+      (rw (c.with_mark-2.ensures, c.closed-t.ensures) (group-tidied c.loop-p.invariant c.loop-p-test.false))
 
 pub +tidy_spec : {M : Type 1} → statement M
 +tidy_spec = close μ-tidy λ t. lts.spec

@@ -25,10 +25,8 @@ add-t17 c = omega (arith, c.requires)
 
 returns-2 : tie.Need-returns-then-t-sign
 returns-2 c =
-    let j = c in
-    let k = j in
-    rw (ne_eqb _ _ k.if-t-eq-NO_SIGN.false, joins j.before.before.before.before)
-    (cc (k.holds_empty-own.ensures, k.nullable_with-nullable.ensures, k.least_with-least.ensures), refl)
+    rw (ne_eqb _ _ c.if-t-eq-NO_SIGN.false, joins c.before.before.before.before)
+    (cc (c.holds_empty-own.ensures, c.nullable_with-nullable.ensures, c.least_with-least.ensures), refl)
 
 add-t22 : tie.Need-overflow_add-result-2
 add-t22 c = omega (arith, c.requires)
@@ -38,12 +36,9 @@ add-t23 c = omega (arith, c.requires)
 
 returns-3 : tie.Need-returns
 returns-3 c =
-    let p = c in
-    let h = p in
-    let k = h in
-    rw (ne_eqb _ _ k.if-t-eq-NO_SIGN.false, stays h.before.before.before.before.before.before.before) (
-      cc (k.holds_empty-own.ensures, k.nullable_with-nullable.ensures, k.least_with-least.ensures),
-      (p.packed.result, p.packed.ensures ∙ p.head_of-head.ensures, refl),
+    rw (ne_eqb _ _ c.if-t-eq-NO_SIGN.false, stays c.before.before.before.before.before.before.before) (
+      cc (c.holds_empty-own.ensures, c.nullable_with-nullable.ensures, c.least_with-least.ensures),
+      (c.packed.result, c.packed.ensures ∙ c.head_of-head.ensures, refl),
     )
 
 pub added_spec : {M : Type 1} → statement M

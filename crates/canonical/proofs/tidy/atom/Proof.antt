@@ -18,7 +18,7 @@ name-end-requires : tie.Need-name_end-name-requires
 name-end-requires c κs = omega (arith, inside c.before)
 
 count-end-requires : tie.Need-count_end-end-requires
-count-end-requires c κs = let s = c in rw c.name_end-name.ensures (name-inside s.args.text.now s.args.at (omega (arith, inside s.before.before)))
+count-end-requires c κs = rw c.name_end-name.ensures (name-inside c.args.text.now c.args.at (omega (arith, inside c.before.before)))
 
 count-mark-requires : tie.Need-count_mark-mark-requires
 count-mark-requires c κs = ended-inside (ends c) (omega (arith, inside c.before.before.before))
@@ -28,9 +28,8 @@ cast-t7 c = omega (arith, inside c.before.before.before.before)
 
 returns : tie.Need-returns
 returns c =
-    let k = c in
-    let z = c.count_mark-mark.ensures ∙ ap count_mark (sym (zero-inside (ends k.before))) in
-    let e = k.count_end-end.ensures ∙ ap (behind_count k.args.text.now) k.name_end-name.ensures in
+    let z = c.count_mark-mark.ensures ∙ ap count_mark (sym (zero-inside (ends c.before))) in
+    let e = c.count_end-end.ensures ∙ ap (behind_count c.args.text.now) c.name_end-name.ensures in
     rw (z, e)
 
 pub atom_spec : {M : Type 1} → statement M

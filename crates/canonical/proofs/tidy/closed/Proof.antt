@@ -4,7 +4,7 @@ use Rattle.canonical.proofs.tidy.closed.Statement.{statement}
 use Rattle.canonical.proofs.tidy.closed.Tie as tie
 
 returns : tie.Need-returns-then-sign-g
-returns c = let t = c in rw (t.if-sign-g.true, ← t.grouped-t.ensures) c.marking.ensures
+returns c = rw (c.if-sign-g.true, ← c.grouped-t.ensures) c.marking.ensures
 
 returns-2 : tie.Need-returns-else-sign-g
 returns-2 c = rw c.if-sign-g.false c.grouped-t.ensures

@@ -8,7 +8,7 @@ added-requires c κs =
     rw (c.noted-h.ensures, c.stripped-u.ensures) c.requires
 
 returns : tie.Need-returns
-returns c = let s = c in rw (s.noted-h.ensures, s.stripped-u.ensures) at c.added.ensures
+returns c = rw (c.noted-h.ensures, c.stripped-u.ensures) at c.added.ensures
 
 pub gather_spec : {M : Type 1} → statement M
 gather_spec = tie.close (tie.spec (λ c κs. search rules) (λ c κs. search rules) added-requires returns)

@@ -8,11 +8,10 @@ returns c = rw (eq-eqb _ _ c.if-g-eq0.true) c.nothing.ensures
 
 returns-2 : tie.Need-returns-then-g-eq1
 returns-2 c =
-    let t = c in
-    rw (ne_eqb _ _ t.if-g-eq0.false, eq-eqb _ _ t.if-g-eq1.true) c.placed.ensures
+    rw (ne_eqb _ _ c.if-g-eq0.false, eq-eqb _ _ c.if-g-eq1.true) c.placed.ensures
 
 returns-3 : tie.Need-returns
-returns-3 c = let e = c in rw (ne_eqb _ _ e.if-g-eq0.false, ne_eqb _ _ e.if-g-eq1.false)
+returns-3 c = rw (ne_eqb _ _ c.if-g-eq0.false, ne_eqb _ _ c.if-g-eq1.false)
 
 pub grouped_spec : {M : Type 1} → statement M
 grouped_spec =

@@ -17,13 +17,11 @@ returns c = rw (eq-eqb _ _ c.if-members-eq0.true)
 
 returns-2 : tie.Need-returns-then-is_after
 returns-2 c =
-    let a = c in
-    rw (ne_eqb _ _ a.if-members-eq0.false, not-true (kept a.before) (sym a.is_after.ensures ∙ c.if-is_after.true))
+    rw (ne_eqb _ _ c.if-members-eq0.false, not-true (kept c.before) (sym c.is_after.ensures ∙ c.if-is_after.true))
 
 returns-3 : tie.Need-returns-else-is_after
 returns-3 c =
-    let a = c in
-    rw (ne_eqb _ _ a.if-members-eq0.false, not-false (kept a.before) (sym a.is_after.ensures ∙ c.if-is_after.false))
+    rw (ne_eqb _ _ c.if-members-eq0.false, not-false (kept c.before) (sym c.is_after.ensures ∙ c.if-is_after.false))
 
 pub least_with_spec : {M : Type 1} → statement M
 least_with_spec = tie.close (tie.spec returns (λ c κs. search rules) (λ c κs. search rules) returns-2 returns-3)

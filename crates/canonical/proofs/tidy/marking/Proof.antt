@@ -8,8 +8,7 @@ returns c = rw (← c.is_plain-plain.ensures, c.if-plain-t.true)
 
 returns-2 : tie.Need-returns-else-plain-t
 returns-2 c =
-    let e = c in
-    rw (← e.is_plain-plain.ensures, e.if-plain-t.false, ← c.fitting.ensures) c.remarked.ensures
+    rw (← c.is_plain-plain.ensures, c.if-plain-t.false, ← c.fitting.ensures) c.remarked.ensures
 
 pub marking_spec : {M : Type 1} → statement M
 marking_spec = tie.close (tie.spec (λ c κs. search rules) (λ c κs. search rules) (λ c κs. search rules) returns returns-2)

@@ -26,12 +26,11 @@ returns c =
 
 returns-2 : tie.Need-returns
 returns-2 c =
-    let e = c in
-    let a = e.args in
+    let a = c.args in
     c.placed.ensures
     ∙ ap (placed_at a.t.top (a.t.next + 1))
-    (c.marking-u.ensures ∙ ap (λ (k : Mark). marking_by k a.t) e.mark_at-mark.ensures)
-    ∙ some-behind a.text.now a.t (marked e.before.before)
+    (c.marking-u.ensures ∙ ap (λ (k : Mark). marking_by k a.t) c.mark_at-mark.ensures)
+    ∙ some-behind a.text.now a.t (marked c.before.before)
 
 pub with_mark_spec : {M : Type 1} → statement M
 with_mark_spec =

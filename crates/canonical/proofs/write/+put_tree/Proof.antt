@@ -40,95 +40,91 @@ claims t = (
   below t,
   put-tree.Post,
 )
+
 abbrev invariant-loop : lts.invariant-loop-k
 invariant-loop text stack list₀ buffer₀ at start to head mark end before₀ p₀ k₀ list buffer before p k =
     Writing text stack list₀ list buffer₀ buffer at start end to before p k
+
 abbrev decreases-loop : lts.decreases-loop-k
 decreases-loop text stack list₀ buffer₀ at start to head mark end before₀ p₀ k₀ list buffer before p k = k
 
 module _ (t : ℕ) where
-  abbrev entry : lts.After-unpacked-head (claims t) (at t) put-tree.Post invariant-loop decreases-loop → lts.Start (claims t) (at t) put-tree.Post invariant-loop decreases-loop
-  entry c = c.before.before.before.before.before
   abbrev head : lts.After-unpacked-head (claims t) (at t) put-tree.Post invariant-loop decreases-loop → Head
   head c = head_at c.args.stack.now c.args.at
 
   -- An atom.
-  abbrev piece : lts.After-put_atom-end (claims t) (at t) put-tree.Post invariant-loop decreases-loop → lts.Then-head-eq-ATOM (claims t) (at t) put-tree.Post invariant-loop decreases-loop
-  piece c = c.before.before.before
   is-atom : (c : lts.Then-head-eq-ATOM (claims t) (at t) put-tree.Post invariant-loop decreases-loop) → eqb (head c.before.before).sign 1 ≡ true
   is-atom c = rw c.unpacked-head.ensures at (eq-eqb c.unpacked-head.result.sign 1 c.if-head-eq-ATOM.true)
+
   put-atom-requires : lts.Need-put_atom-end-requires (claims t) (at t) put-tree.Post invariant-loop decreases-loop
   put-atom-requires c κs =
-      let u = c in
-      rw u.unpacked-head.ensures (atom-fits u.requires.1 (is-atom c.before.before))
+      rw c.unpacked-head.ensures (atom-fits c.requires.1 (is-atom c.before.before))
+
   atom-so : (c : lts.After-put_atom-end (claims t) (at t) put-tree.Post invariant-loop decreases-loop)
-      → let u = c in
-      Put u.args.buffer.now c.put_atom-end.new.buffer u.args.to (piece_at u.args.text.now (head u.before.before.before.before.before).least) c.put_atom-end.result
+      → Put c.args.buffer.now c.put_atom-end.new.buffer c.args.to (piece_at c.args.text.now (head c.before.before.before.before.before).least) c.put_atom-end.result
   atom-so c = rw c.unpacked-head.ensures at c.put_atom-end.ensures
+
   put-mark-requires : lts.Need-put_mark-requires (claims t) (at t) put-tree.Post invariant-loop decreases-loop
   put-mark-requires c κs =
-      let a = c in
-      let u = a in
-      rw u.unpacked-head.ensures (atom-mark-fits u.requires.1 (is-atom a.before.before.before.before.before.before) (atom-so a.before.before.before))
+      rw c.unpacked-head.ensures (atom-mark-fits c.requires.1 (is-atom c.before.before.before.before.before.before) (atom-so c.before.before.before))
+
   returns : lts.Need-returns-then-head-eq-ATOM (claims t) (at t) put-tree.Post invariant-loop decreases-loop
   returns c =
-      let m = c in
-      let a = m in
-      let u = a in
-      atom-put u.requires.1 (is-atom a.before.before.before.before.before.before.before.before.before) (atom-so a.before.before.before.before.before.before) (rw u.unpacked-head.ensures at m.put_mark.ensures)
+      atom-put c.requires.1 (is-atom c.before.before.before.before.before.before.before.before.before) (atom-so c.before.before.before.before.before.before) (rw c.unpacked-head.ensures at c.put_mark.ensures)
 
   -- A group.
-  abbrev unpacked : lts.After-members-end (claims t) (at t) put-tree.Post invariant-loop decreases-loop → lts.After-unpacked-head (claims t) (at t) put-tree.Post invariant-loop decreases-loop
-  unpacked c = c.before.before.before.before
   is-group : (c : lts.Else-head-eq-ATOM (claims t) (at t) put-tree.Post invariant-loop decreases-loop) → eqb (head c.before.before).sign 1 ≡ false
   is-group c = rw c.unpacked-head.ensures at (ne_eqb c.unpacked-head.result.sign 1 c.if-head-eq-ATOM.false)
+
   members-requires : lts.Need-members-end-requires (claims t) (at t) put-tree.Post invariant-loop decreases-loop
   members-requires c κs = members-ready c.requires.1
+
   loop-holds : lts.Need-loop-k-init (claims t) (at t) put-tree.Post invariant-loop decreases-loop
   loop-holds c = writing_begins c.requires.1 (is-group c.before.before) c.members-end.ensures
+
   abbrev start : lts.At-loop-k (claims t) (at t) put-tree.Post invariant-loop decreases-loop → lts.Start (claims t) (at t) put-tree.Post invariant-loop decreases-loop
   start l = l.before.before.before.before.before.before.before.before.before.before
+
   next : (c : lts.In-loop-k (claims t) (at t) put-tree.Post invariant-loop decreases-loop)
       → let l = c in
       let a = l.args in
       MemberNext a.text.now a.stack.now l.loop-k.list l.loop-k.buffer a.at
       l.members-end.result l.loop-k.before l.loop-k.p l.loop-k.k
   next c = let l = c in member-next l.requires.1 l.members-end.ensures l.loop-k.invariant c.loop-k-test.true
+
   cast-m : lts.Need-overflow_cast-m (claims t) (at t) put-tree.Post invariant-loop decreases-loop
   cast-m c = omega (arith, (next c.before.before).ready.inside)
+
   add-put-tree : lts.Need-overflow_add-p (claims t) (at t) put-tree.Post invariant-loop decreases-loop
   add-put-tree c = omega (arith, (next c.before.before.before.before).byte_fits)
+
   put-tree-requires : lts.Need-put_tree-p-requires (claims t) (at t) put-tree.Post invariant-loop decreases-loop
   put-tree-requires c κs =
       let n = next c.before.before.before.before in
       (omega (arith, c.requires.0, n.above, n.ready.inside), n.ready)
+
   loop-again : lts.Need-loop-k-preserved (claims t) (at t) put-tree.Post invariant-loop decreases-loop
   loop-again c =
-      let q = c in
-      let i = q in
-      let l = i in
-      rw l.unpacked-head.ensures
-      (writing-goes-on l.requires.1 l.members-end.ensures l.loop-k.invariant i.loop-k-test.true q.put_tree-p.ensures)
+      rw c.unpacked-head.ensures
+      (writing-goes-on c.requires.1 c.members-end.ensures c.loop-k.invariant c.loop-k-test.true c.put_tree-p.ensures)
 
   -- Behind the members.
   bracket : (c : lts.After-loop-k (claims t) (at t) put-tree.Post invariant-loop decreases-loop) → c.loop-k.p < length c.loop-k.buffer
-  bracket c = let l = c in bracket-fits l.requires.1 l.members-end.ensures l.loop-k.invariant c.loop-k-test.false
+  bracket c = bracket-fits c.requires.1 c.members-end.ensures c.loop-k.invariant c.loop-k-test.false
+
   add-put-mark : lts.Need-overflow_add-p-2 (claims t) (at t) put-tree.Post invariant-loop decreases-loop
   add-put-mark c =
-      let l = c in
-      omega (arith, bracket c.before, put-length l.loop-k.invariant.put, l.well_formed)
+      omega (arith, bracket c.before, put-length c.loop-k.invariant.put, c.well_formed)
+
   put-mark-requires-2 : lts.Need-put_mark-requires-2 (claims t) (at t) put-tree.Post invariant-loop decreases-loop
   put-mark-requires-2 c κs =
-      let l = c in
-      rw l.unpacked-head.ensures
-      (group-mark-fits l.requires.1 l.members-end.ensures l.loop-k.invariant c.loop-k-test.false)
+      rw c.unpacked-head.ensures
+      (group-mark-fits c.requires.1 c.members-end.ensures c.loop-k.invariant c.loop-k-test.false)
+
   returns-2 : lts.Need-returns (claims t) (at t) put-tree.Post invariant-loop decreases-loop
   returns-2 c =
-      let m = c in
-      let e = m in
-      let l = e in
-      group-put l.requires.1 l.members-end.ensures l.loop-k.invariant e.loop-k-test.false
-      (rw l.unpacked-head.ensures at m.put_mark-2.ensures)
+      group-put c.requires.1 c.members-end.ensures c.loop-k.invariant c.loop-k-test.false
+      (rw c.unpacked-head.ensures at c.put_mark-2.ensures)
 
 pub +put_tree_spec : {M : Type 1} → statement M
 +put_tree_spec = close μ-put-tree λ t. lts.spec

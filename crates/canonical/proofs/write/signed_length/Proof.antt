@@ -26,12 +26,9 @@ whole l = l.args.text.now
 abbrev head : tie.At-loop-i invariant-loop decreases-loop → Head
 head l = head_at l.args.stack.now l.loop-i.i
 
-abbrev turn : tie.After-struct_known-1 invariant-loop decreases-loop → tie.At-loop-i invariant-loop decreases-loop
-turn k = k.before.before.before.before.before
 inside : (k : tie.In-loop-i invariant-loop decreases-loop) {h : Head} → h ≡ head k.before → h.least ≤ length (whole k.before)
 inside k e =
-    let l = k in
-    least_inside (whole l.before) l.args.stack.now l.loop-i.invariant.0 (omega (arith, l.requires.entries)) l.requires.heads e
+    least_inside (whole k.before) k.args.stack.now k.loop-i.invariant.0 (omega (arith, k.requires.entries)) k.requires.heads e
 
 head-is : (k : tie.After-struct_known-1 invariant-loop decreases-loop) → k.unpacked-head.result ≡ head k.before.before.before.before.before
 head-is k = k.unpacked-head.ensures
@@ -64,8 +61,7 @@ plain-short x h i l =
 
 first_short : (j : tie.Joined-head-eq-ATOM invariant-loop decreases-loop) → j.if-head-eq-ATOM.own ≤ 4096
 first_short j =
-    let l = j in
-    rw (own_first j) (plain-short (whole l.before.before.before.before.before.before) (head l.before.before.before.before.before.before) (inside j.before.before.before.before.before refl) l.requires.short)
+    rw (own_first j) (plain-short (whole j.before.before.before.before.before.before) (head j.before.before.before.before.before.before) (inside j.before.before.before.before.before refl) j.requires.short)
 
 own-short : (c : tie.After-mark_length-more invariant-loop decreases-loop) → c.if-head-eq-ATOM.own + c.mark_length-more.result ≤ 4097
 own-short c = omega (arith, first_short c.before, more-is c, mark-short (head c.before.before.before.before.before.before.before).mark)
@@ -79,21 +75,17 @@ known k = inside k.before.before.before.before (head-is k)
 
 sub-own : tie.Need-overflow_sub-own invariant-loop decreases-loop
 sub-own c =
-    let k = c in
-    let i = known k.before.before.before.before in
-    omega (arith, kept-inside {x = whole k.before.before.before.before.before.before.before.before.before} {p = k.unpacked-head.result.least} (record { name_is = refl; kept_is = c.kept_end.ensures }) i)
+    let i = known c.before.before.before.before in
+    omega (arith, kept-inside {x = whole c.before.before.before.before.before.before.before.before.before} {p = c.unpacked-head.result.least} (record { name_is = refl; kept_is = c.kept_end.ensures }) i)
 
 loop-again : tie.Need-loop-i-preserved invariant-loop decreases-loop
 loop-again c =
-    let m = c in
-    let l = m in
-    let w = words_step (whole l.before.before.before.before.before.before.before.before) l.args.stack.now l.loop-i.i (omega (arith, l.requires.entries)) in
-    (omega arith, omega arith, omega (arith, own-short c.before), omega (arith, own_first m.before.before, more-is c.before, w, l.loop-i.invariant.3))
+    let w = words_step (whole c.before.before.before.before.before.before.before.before) c.args.stack.now c.loop-i.i (omega (arith, c.requires.entries)) in
+    (omega arith, omega arith, omega (arith, own-short c.before), omega (arith, own_first c.before.before, more-is c.before, w, c.loop-i.invariant.3))
 
 returns : tie.Need-returns invariant-loop decreases-loop
 returns c =
-    let l = c in
-    omega (arith, l.loop-i.invariant.3, words-over (whole l.before) l.args.stack.now l.loop-i.i (omega (arith, l.requires.entries)))
+    omega (arith, c.loop-i.invariant.3, words-over (whole c.before) c.args.stack.now c.loop-i.i (omega (arith, c.requires.entries)))
 
 pub signed_length_spec : {M : Type 1} → statement M
 signed_length_spec =

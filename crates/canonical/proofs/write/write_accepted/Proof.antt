@@ -11,20 +11,16 @@ use Rattle.canonical.proofs.write.write_accepted.Statement.{statement}
 use Rattle.canonical.proofs.write.write_accepted.Tie as tie
 
 -- the start, and the tree of the text as it is tidied
-abbrev start : tie.After-tidy-t → tie.Start
-start c = c.before.before.before.before
+
 known : (c : tie.After-tidy-t) → TidiedAt c.args.text.now (replicate max_nodes 0) c.tidy-t.new.stack 0 max_nodes c.tidy-t.result c.requires.0
 known c = let p = c.requires in c.tidy-t.ensures p.0 (whole-stands c.args.text.now p.0 p.1)
 
-abbrev tidied : tie.Else-t-eq-NO_SIGN → tie.After-tidy-t
-tidied c = c.before.before
-
 -- there is room for the head
 room : (c : tie.Else-t-eq-NO_SIGN) → (0 < c.tidy-t.result.top) × (c.tidy-t.result.top ≤ max_nodes)
-room c = let s = c in head-room s.args.text.now s.requires.0 s.requires.1 (known c.before.before) c.if-t-eq-NO_SIGN.false
+room c = head-room c.args.text.now c.requires.0 c.requires.1 (known c.before.before) c.if-t-eq-NO_SIGN.false
 
 tidy-requires : tie.Need-tidy-t-requires
-tidy-requires c κs = let s = c in whole_ready s.args.text.now s.requires.0 s.requires.1
+tidy-requires c κs = whole_ready c.args.text.now c.requires.0 c.requires.1
 
 write-nothing-requires : tie.Need-write_nothing-requires
 write-nothing-requires c κs = search rules
@@ -34,9 +30,7 @@ same_length c = search rules
 
 returns : tie.Need-returns-then-t-eq-NO_SIGN
 returns c =
-    let t = c in
-    let s = t in
-    rw (s.requires.1, nil-text s.args.text.now s.requires.0 s.requires.1 (known t.before.before.before.before.before.before) c.if-t-eq-NO_SIGN.true)
+    rw (c.requires.1, nil-text c.args.text.now c.requires.0 c.requires.1 (known c.before.before.before.before.before.before) c.if-t-eq-NO_SIGN.true)
     c.write_nothing.ensures
 
 sub-top : tie.Need-overflow_sub-top
@@ -49,29 +43,21 @@ array-write-stack : tie.Need-bounds-stack-top
 array-write-stack c = omega (arith, room c.before.before.before)
 
 -- the head stands on the stack
-abbrev other : tie.After-packed → tie.Else-t-eq-NO_SIGN
-other p = p.before.before.before
+
 head-is : (p : tie.After-packed) → head_in p.packed.result ≡ head_of p.tidy-t.result
 head-is p = p.packed.ensures ∙ p.head_of-head.ensures
 
 write-tree-requires : tie.Need-write_tree-requires
 write-tree-requires c κs =
-    let p = c in
-    let l = p in
-    let s = l in
-    one-tree s.args.text.now s.requires.0 s.requires.1 (known l.before.before.before.before.before.before.before) l.if-t-eq-NO_SIGN.false p.packed.result (head-is p.before.before)
+    one-tree c.args.text.now c.requires.0 c.requires.1 (known c.before.before.before.before.before.before.before) c.if-t-eq-NO_SIGN.false c.packed.result (head-is c.before.before)
 
 same-length-2 : tie.Need-shape_of-buffer
 same-length-2 c = search rules
 
 returns-2 : tie.Need-returns
 returns-2 c =
-    let w = c in
-    let p = w in
-    let l = p in
-    let s = l in
-    rw (s.requires.1, ← tree-text s.args.text.now s.requires.0 s.requires.1 (known l.before.before.before.before.before.before.before.before.before.before) l.if-t-eq-NO_SIGN.false p.packed.result (head-is p.before.before.before.before.before))
-    w.write_tree.ensures
+    rw (c.requires.1, ← tree-text c.args.text.now c.requires.0 c.requires.1 (known c.before.before.before.before.before.before.before.before.before.before) c.if-t-eq-NO_SIGN.false c.packed.result (head-is c.before.before.before.before.before))
+    c.write_tree.ensures
 
 pub write_accepted_spec : {M : Type 1} → statement M
 write_accepted_spec =

@@ -8,15 +8,13 @@ use Rattle.canonical.proofs.write.write_model.Tie as tie
 
 write-accepted-requires : tie.Need-write_accepted-requires
 write-accepted-requires c κs =
-    let r = c in
-    let x = r.args.text.now in
-    read_answer x (answer x) (sym r.model_outcome.ensures ∙ c.in-Read.is)
+    let x = c.args.text.now in
+    read_answer x (answer x) (sym c.model_outcome.ensures ∙ c.in-Read.is)
 
 returns : tie.Need-returns-in-Refused
 returns c =
-    let r = c in
-    let a = r.args in
-    refused-reply a.text.now (answer a.text.now) _ _ a.buffer.now (sym r.model_outcome.ensures ∙ c.in-Refused.is)
+    let a = c.args in
+    refused-reply a.text.now (answer a.text.now) _ _ a.buffer.now (sym c.model_outcome.ensures ∙ c.in-Refused.is)
 
 pub write_model_spec : {M : Type 1} → statement M
 write_model_spec =

@@ -10,8 +10,7 @@ use Rattle.canonical.proofs.write.write_tree.Statement.{statement}
 use Rattle.canonical.proofs.write.write_tree.Tie as tie
 
 -- the start, the text that is written, and its length
-abbrev start : tie.After-signed_length-length → tie.Start
-start c = c.before.before.before
+
 abbrev whole : tie.After-signed_length-length → Text
 whole c = let a = c.args in text_at a.text.now a.stack.now a.top
 
@@ -25,24 +24,21 @@ sub-length : tie.Need-overflow_sub-length
 sub-length c = omega (arith, known c)
 
 returns : tie.Need-returns-then-buffer-length
-returns c = let s = c in no_room (whole s.before) s.args.buffer.now (omega (arith, known s.before, c.if-buffer-length.true))
+returns c = no_room (whole c.before) c.args.buffer.now (omega (arith, known c.before, c.if-buffer-length.true))
 
 put-tree-requires : tie.Need-put_tree-requires
 put-tree-requires c κs =
-    let s = c in
-    put-ready s.requires _ s.args.buffer.now refl (omega (arith, known s.before.before.before, c.if-buffer-length.false))
+    put-ready c.requires _ c.args.buffer.now refl (omega (arith, known c.before.before.before, c.if-buffer-length.false))
 
 same_length : tie.Need-shape_of-buffer
 same_length c = search rules
 
 returns-2 : tie.Need-returns
 returns-2 c =
-    let p = c in
-    let s = p in
-    let w = put_first p.put_tree.ensures.put in
-    let n : s.signed_length-length.result - 1 ≡ length (whole s.before.before.before.before.before.before) = omega (arith, known s.before.before.before.before.before.before) in
-    rw n (has_room (whole s.before.before.before.before.before.before) s.args.buffer.now p.put_tree.new.buffer (omega (arith, known s.before.before.before.before.before.before, p.if-buffer-length.false))
-    (w.1 ∙ ap (λ i. whole s.before.before.before.before.before.before ++ drop i s.args.buffer.now) w.0))
+    let w = put_first c.put_tree.ensures.put in
+    let n : c.signed_length-length.result - 1 ≡ length (whole c.before.before.before.before.before.before) = omega (arith, known c.before.before.before.before.before.before) in
+    rw n (has_room (whole c.before.before.before.before.before.before) c.args.buffer.now c.put_tree.new.buffer (omega (arith, known c.before.before.before.before.before.before, c.if-buffer-length.false))
+    (w.1 ∙ ap (λ i. whole c.before.before.before.before.before.before ++ drop i c.args.buffer.now) w.0))
 
 pub write_tree_spec : {M : Type 1} → statement M
 write_tree_spec = tie.close (tie.spec signed-length-requires sub-length returns put-tree-requires same_length returns-2)

@@ -11,8 +11,7 @@ use Rattle.desk.proofs.answer.desk_canonical.Statement.{statement}
 use Rattle.desk.proofs.answer.desk_canonical.Tie as tie
 
 -- the writer's call, from the length that it gave
-abbrev call : tie.In-Length → tie.After-write_model
-call c = c.before.before.before
+
 length-known : (c : tie.In-Length)
     → let a = c.args in
     (c.in-Length.n ≡ desk_canonical a.model.now (length a.buffer.now)) × (c.in-Length.n ≤ max_text)
@@ -31,11 +30,9 @@ returns c = ((length-known c).0, c.write_model.ensures.1)
 
 returns-2 : tie.Need-returns-in-Refused
 returns-2 c =
-    let f = c in
-    let w = f in
-    let a = w.args in (
-      rw c.write_number.ensures (written-refusal a.model.now (length a.buffer.now) _ _ (sym w.write_model.ensures.0 ∙ f.in-Refused.is)),
-      w.write_model.ensures.1,
+    let a = c.args in (
+      rw c.write_number.ensures (written-refusal a.model.now (length a.buffer.now) _ _ (sym c.write_model.ensures.0 ∙ c.in-Refused.is)),
+      c.write_model.ensures.1,
     )
 
 pub desk_canonical_spec : {M : Type 1} → statement M

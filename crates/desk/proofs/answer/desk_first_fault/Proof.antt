@@ -8,12 +8,10 @@ use Rattle.desk.proofs.answer.desk_first_fault.Statement.{statement}
 use Rattle.desk.proofs.answer.desk_first_fault.Tie as tie
 
 -- the judge's call, from its answer where the texts are good
-abbrev call : tie.In-Found → tie.After-search_children
-call c = c.before
+
 cast-result : tie.Need-overflow_cast-result
 cast-result c =
-    let f = c in
-    omega (arith, place-few _ _ f.search_children.ensures f.in-Found.is (ap Found c.in-At.is))
+    omega (arith, place-few _ _ c.search_children.ensures c.in-Found.is (ap Found c.in-At.is))
 
 add-result : tie.Need-overflow_add-result
 add-result c = omega (arith, c.model_number.ensures, model-under c.in-ModelRefused.f)
@@ -23,23 +21,19 @@ add-result-2 c = omega (arith, c.cue_number.ensures, cue-under c.in-ChildrenRefu
 
 returns : tie.Need-returns-in-At
 returns c =
-    let f = c in
-    searched-number _ _ f.search_children.ensures (f.in-Found.is ∙ ap Found c.in-At.is)
+    searched-number _ _ c.search_children.ensures (c.in-Found.is ∙ ap Found c.in-At.is)
 
 returns-2 : tie.Need-returns-in-Nothing
 returns-2 c =
-    let f = c in
-    searched-number _ _ f.search_children.ensures (f.in-Found.is ∙ ap Found c.in-Nothing.is)
+    searched-number _ _ c.search_children.ensures (c.in-Found.is ∙ ap Found c.in-Nothing.is)
 
 returns-3 : tie.Need-returns-in-ModelRefused
 returns-3 c =
-    let f = c in
-    rw c.model_number.ensures (searched-number _ _ f.search_children.ensures f.in-ModelRefused.is)
+    rw c.model_number.ensures (searched-number _ _ c.search_children.ensures c.in-ModelRefused.is)
 
 returns-4 : tie.Need-returns-in-ChildrenRefused
 returns-4 c =
-    let f = c in
-    rw c.cue_number.ensures (searched-number _ _ f.search_children.ensures f.in-ChildrenRefused.is)
+    rw c.cue_number.ensures (searched-number _ _ c.search_children.ensures c.in-ChildrenRefused.is)
 
 pub desk_first_fault_spec : {M : Type 1} → statement M
 desk_first_fault_spec =

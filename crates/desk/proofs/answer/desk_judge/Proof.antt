@@ -7,24 +7,18 @@ use Rattle.desk.proofs.answer.desk_judge.Tie as tie
 
 returns : tie.Need-returns-in-Verdict
 returns c =
-    let v = c in
-    let j = v in
-    let a = j.args in
-    c.verdict_number.ensures ∙ judged-number a.model.now a.children.now j.judge_children.ensures v.in-Verdict.is
+    let a = c.args in
+    c.verdict_number.ensures ∙ judged-number a.model.now a.children.now c.judge_children.ensures c.in-Verdict.is
 
 returns-2 : tie.Need-returns-in-ModelRefused
 returns-2 c =
-    let f = c in
-    let j = f in
-    let a = j.args in
-    c.model_number.ensures ∙ judged-number a.model.now a.children.now j.judge_children.ensures f.in-ModelRefused.is
+    let a = c.args in
+    c.model_number.ensures ∙ judged-number a.model.now a.children.now c.judge_children.ensures c.in-ModelRefused.is
 
 returns-3 : tie.Need-returns-in-ChildrenRefused
 returns-3 c =
-    let f = c in
-    let j = f in
-    let a = j.args in
-    c.cue_number.ensures ∙ judged-number a.model.now a.children.now j.judge_children.ensures f.in-ChildrenRefused.is
+    let a = c.args in
+    c.cue_number.ensures ∙ judged-number a.model.now a.children.now c.judge_children.ensures c.in-ChildrenRefused.is
 
 pub desk_judge_spec : {M : Type 1} → statement M
 desk_judge_spec =

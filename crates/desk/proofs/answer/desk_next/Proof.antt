@@ -8,12 +8,10 @@ use Rattle.desk.proofs.answer.desk_next.Statement.{statement}
 use Rattle.desk.proofs.answer.desk_next.Tie as tie
 
 -- the judge's call, from its answer where the texts are good, and from a refusal of a text
-abbrev call : tie.In-Next → tie.After-next_children
-call n = n.before.before.before
+
 cast-result : tie.Need-overflow_cast-result
 cast-result c =
-    let n = c in
-    omega (arith, answer-few _ _ _ n.next_children.ensures.0 (n.in-Next.is ∙ ap Answered c.in-Names.is))
+    omega (arith, answer-few _ _ _ c.next_children.ensures.0 (c.in-Next.is ∙ ap Answered c.in-Names.is))
 
 add-result : tie.Need-overflow_add-result
 add-result c = omega (arith, c.judge_number.ensures, judge-under c.in-Refused.f)
@@ -26,16 +24,13 @@ add-result-3 c = omega (arith, c.cue_number.ensures, cue-under c.in-ChildrenRefu
 
 returns : tie.Need-returns-in-Names
 returns c =
-    let n = c in
-    let h = n.next_children.ensures in
-    (answer-number _ _ _ h.0 (n.in-Next.is ∙ ap Answered c.in-Names.is), h.1)
+    let h = c.next_children.ensures in
+    (answer-number _ _ _ h.0 (c.in-Next.is ∙ ap Answered c.in-Names.is), h.1)
 
 returns-2 : tie.Need-returns-in-Refused
 returns-2 c =
-    let t = c in
-    let n = t in
-    let h = n.next_children.ensures in
-    (rw c.judge_number.ensures (answer-number _ _ _ h.0 (n.in-Next.is ∙ ap Answered t.in-Refused.is)), h.1)
+    let h = c.next_children.ensures in
+    (rw c.judge_number.ensures (answer-number _ _ _ h.0 (c.in-Next.is ∙ ap Answered c.in-Refused.is)), h.1)
 
 returns-3 : tie.Need-returns-in-ModelRefused
 returns-3 c =

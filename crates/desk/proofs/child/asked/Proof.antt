@@ -5,8 +5,7 @@ use Rattle.desk.proofs.child.asked.Statement.{statement}
 use Rattle.desk.proofs.child.asked.Tie as tie
 
 -- the call, and the children as they are counted: the text is neither too long nor empty
-abbrev counted : tie.In-Count → tie.After-count_children
-counted c = c.before
+
 returns : tie.Need-returns-then-size-gt-MAX_FILE
 returns c =
     let a = c.args in
@@ -19,25 +18,20 @@ returns-2 c =
 
 returns-3 : tie.Need-returns-then-k-n
 returns-3 c =
-    let n = c in
-    let k = n in
-    let a = k.args in
-    asked-there a.children.now a.k k.if-size-gt-MAX_FILE.false k.if-size-eq0.false k.count_children.ensures n.in-Count.is
+    let a = c.args in
+    asked-there a.children.now a.k c.if-size-gt-MAX_FILE.false c.if-size-eq0.false c.count_children.ensures c.in-Count.is
     c.if-k-n.true
 
 returns-4 : tie.Need-returns-else-k-n
 returns-4 c =
-    let n = c in
-    let k = n in
-    let a = k.args in
-    asked-missing a.children.now a.k k.if-size-gt-MAX_FILE.false k.if-size-eq0.false k.count_children.ensures n.in-Count.is
+    let a = c.args in
+    asked-missing a.children.now a.k c.if-size-gt-MAX_FILE.false c.if-size-eq0.false c.count_children.ensures c.in-Count.is
     c.if-k-n.false
 
 returns-5 : tie.Need-returns-in-Refused
 returns-5 c =
-    let k = c in
-    let a = k.args in
-    asked-bad a.children.now a.k k.if-size-gt-MAX_FILE.false k.if-size-eq0.false k.count_children.ensures c.in-Refused.is
+    let a = c.args in
+    asked-bad a.children.now a.k c.if-size-gt-MAX_FILE.false c.if-size-eq0.false c.count_children.ensures c.in-Refused.is
 
 pub asked_spec : {M : Type 1} → statement M
 asked_spec =

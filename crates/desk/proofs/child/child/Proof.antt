@@ -10,15 +10,13 @@ use Rattle.desk.proofs.child.child.Tie as tie
 
 in-model : (c : tie.In-InModel) → c.in-InModel.start + c.in-InModel.len ≤ length c.args.model.now
 in-model c =
-    let l = c in
-    let a = l.args in
-    inside a.model.now a.children.now a.k l.locate.ensures c.in-InModel.is
+    let a = c.args in
+    inside a.model.now a.children.now a.k c.locate.ensures c.in-InModel.is
 
 in-children : (c : tie.In-InChildren) → c.in-InChildren.start + c.in-InChildren.len ≤ length c.args.children.now
 in-children c =
-    let l = c in
-    let a = l.args in
-    inside a.model.now a.children.now a.k l.locate.ensures c.in-InChildren.is
+    let a = c.args in
+    inside a.model.now a.children.now a.k c.locate.ensures c.in-InChildren.is
 
 add-end : tie.Need-overflow_add-end
 add-end c = omega (arith, in-model c)
@@ -34,40 +32,34 @@ part-result-end-2 c = in-children c
 
 returns : tie.Need-returns-in-InModel
 returns c =
-    let p = c in
-    let l = p in
-    let a = l.args in
-    let g = part_is a.model.now a.children.now a.k l.locate.ensures p.in-InModel.is in
+    let a = c.args in
+    let g = part_is a.model.now a.children.now a.k c.locate.ensures c.in-InModel.is in
     record {
       text_is = rw g refl;
       start_is = rw g (omega arith);
-      bytes_are = rw g (part-sized a.model.now p.in-InModel.start p.in-InModel.len);
+      bytes_are = rw g (part-sized a.model.now c.in-InModel.start c.in-InModel.len);
     }
 
 returns-2 : tie.Need-returns-in-InChildren
 returns-2 c =
-    let p = c in
-    let l = p in
-    let a = l.args in
-    let g = part_is a.model.now a.children.now a.k l.locate.ensures p.in-InChildren.is in
+    let a = c.args in
+    let g = part_is a.model.now a.children.now a.k c.locate.ensures c.in-InChildren.is in
     record {
       text_is = rw g refl;
       start_is = rw g (omega arith);
-      bytes_are = rw g (part-sized a.children.now p.in-InChildren.start p.in-InChildren.len);
+      bytes_are = rw g (part-sized a.children.now c.in-InChildren.start c.in-InChildren.len);
     }
 
 returns-3 : tie.Need-returns-in-ModelRefused
 returns-3 c =
-    let l = c in
-    let a = l.args in
-    let g = part_is a.model.now a.children.now a.k l.locate.ensures c.in-ModelRefused.is in
+    let a = c.args in
+    let g = part_is a.model.now a.children.now a.k c.locate.ensures c.in-ModelRefused.is in
     record { text_is = rw g refl; start_is = rw g (omega arith); bytes_are = rw g refl }
 
 returns-4 : tie.Need-returns-in-ChildrenRefused
 returns-4 c =
-    let l = c in
-    let a = l.args in
-    let g = part_is a.model.now a.children.now a.k l.locate.ensures c.in-ChildrenRefused.is in
+    let a = c.args in
+    let g = part_is a.model.now a.children.now a.k c.locate.ensures c.in-ChildrenRefused.is in
     record { text_is = rw g refl; start_is = rw g (omega arith); bytes_are = rw g refl }
 
 pub child_spec : {M : Type 1} → statement M

@@ -7,29 +7,23 @@ use Rattle.desk.proofs.child.child_refusal.Tie as tie
 
 returns : tie.Need-returns-in-InModel
 returns c =
-    let l = c in
-    let a = l.args in
-    refusal_is a.model.now a.children.now a.k l.locate.ensures c.in-InModel.is
+    let a = c.args in
+    refusal_is a.model.now a.children.now a.k c.locate.ensures c.in-InModel.is
 
 returns-2 : tie.Need-returns-in-InChildren
 returns-2 c =
-    let l = c in
-    let a = l.args in
-    refusal_is a.model.now a.children.now a.k l.locate.ensures c.in-InChildren.is
+    let a = c.args in
+    refusal_is a.model.now a.children.now a.k c.locate.ensures c.in-InChildren.is
 
 returns-3 : tie.Need-returns-in-ModelRefused
 returns-3 c =
-    let f = c in
-    let l = f in
-    let a = l.args in
-    c.model_number.ensures ∙ refusal_is a.model.now a.children.now a.k l.locate.ensures f.in-ModelRefused.is
+    let a = c.args in
+    c.model_number.ensures ∙ refusal_is a.model.now a.children.now a.k c.locate.ensures c.in-ModelRefused.is
 
 returns-4 : tie.Need-returns-in-ChildrenRefused
 returns-4 c =
-    let f = c in
-    let l = f in
-    let a = l.args in
-    c.cue_number.ensures ∙ refusal_is a.model.now a.children.now a.k l.locate.ensures f.in-ChildrenRefused.is
+    let a = c.args in
+    c.cue_number.ensures ∙ refusal_is a.model.now a.children.now a.k c.locate.ensures c.in-ChildrenRefused.is
 
 pub child_refusal_spec : {M : Type 1} → statement M
 child_refusal_spec =

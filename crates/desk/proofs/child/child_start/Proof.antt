@@ -25,10 +25,9 @@ loop-again c =
 
 returns : tie.Need-returns invariant-loop decreases-loop
 returns c =
-    let s = c in
     let l = c.loop-i in
-    let e : l.i ≡ s.args.k - 1 = omega (arith, l.invariant.0) in
-    let r = subst (λ j. ChildReached s.args.children.now j l.at) e l.invariant.2 in
+    let e : l.i ≡ c.args.k - 1 = omega (arith, l.invariant.0) in
+    let r = subst (λ j. ChildReached c.args.children.now j l.at) e l.invariant.2 in
     (r.at_is, r)
 
 pub child_start_spec : {M : Type 1} → statement M

@@ -6,16 +6,13 @@ use Rattle.desk.proofs.child.locate.Tie as tie
 
 returns : tie.Need-returns-in-Read
 returns c =
-    let o = c in
-    let r = o in
-    let a = r.args in
-    located-read a.model.now a.children.now a.k r.read_model-read.ensures c.locate_read.ensures o.in-Read.is
+    let a = c.args in
+    located-read a.model.now a.children.now a.k c.read_model-read.ensures c.locate_read.ensures c.in-Read.is
 
 returns-2 : tie.Need-returns-in-Refused
 returns-2 c =
-    let r = c in
-    let a = r.args in
-    located-unread a.model.now a.children.now a.k r.read_model-read.ensures c.in-Refused.is
+    let a = c.args in
+    located-unread a.model.now a.children.now a.k c.read_model-read.ensures c.in-Refused.is
 
 pub locate_spec : {M : Type 1} → statement M
 locate_spec =

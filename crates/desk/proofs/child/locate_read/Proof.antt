@@ -30,23 +30,19 @@ part-number-of-end c = (here c).bounds.1
 
 name-place-requires : tie.Need-name_place-requires
 name-place-requires c κs =
-    let p = c in
-    let s = p in
-    let l : length s.args.names.places ≡ 64 = search (rules, unmapped, s.well_formed) in
-    (number-few s.args.model.now s.args.names _ l c.number_of-number.ensures, (here p.before.before).bounds.0)
+    let l : length c.args.names.places ≡ 64 = search (rules, unmapped, c.well_formed) in
+    (number-few c.args.model.now c.args.names _ l c.number_of-number.ensures, (here c.before.before).bounds.0)
 
 returns : tie.Need-returns-in-Count
 returns c =
-    let p = c in
-    let a = p.args in
-    read-there a.model.now a.names a.children.now a.k (counted p.before.before.before.before.before) p.child_start-at.ensures.0 (here p.before.before.before)
+    let a = c.args in
+    read-there a.model.now a.names a.children.now a.k (counted c.before.before.before.before.before) c.child_start-at.ensures.0 (here c.before.before.before)
     c.number_of-number.ensures c.name_place.ensures
 
 returns-2 : tie.Need-returns-in-Refused
 returns-2 c =
-    let k = c in
-    let a = k.args in
-    read-missing a.model.now a.names a.children.now a.k (sym k.asked.ensures ∙ c.in-Refused.is)
+    let a = c.args in
+    read-missing a.model.now a.names a.children.now a.k (sym c.asked.ensures ∙ c.in-Refused.is)
 
 pub locate_read_spec : {M : Type 1} → statement M
 locate_read_spec =

@@ -12,9 +12,8 @@ returns c =
 
 returns-2 : tie.Need-returns
 returns-2 c =
-    let e = c in
-    let a = e.args in
-    located-some a.names a.number a.at (a.end - a.at) e.if-number-eq0.false
+    let a = c.args in
+    located-some a.names a.number a.at (a.end - a.at) c.if-number-eq0.false
 
 pub name_place_spec : {M : Type 1} → statement M
 name_place_spec =

@@ -6,15 +6,13 @@ use Rattle.judge.proofs.ahead.begin_ahead.Tie as tie
 
 single-requires : tie.Need-single-requires
 single-requires c κs =
-    let k = c in
-    let (a, b) = k.requires in (rw k.in-Atom.is at a, b)
+    let (a, b) = c.requires in (rw c.in-Atom.is at a, b)
 
 returns : tie.Need-returns-in-Atom
 unfolding part_attribute part_ahead
 returns c =
-    let a = c in
-    let k = a.in-Atom.is in
-    let b = rw k at a.begin-part.ensures in rw k cc
+    let k = c.in-Atom.is in
+    let b = rw k at c.begin-part.ensures in rw k cc
 
 returns-2 : tie.Need-returns-in-Group
 unfolding part_attribute part_ahead

@@ -5,7 +5,7 @@ use Rattle.judge.proofs.cursor.cursor_number.Statement.{statement}
 use Rattle.judge.proofs.cursor.cursor_number.Tie as tie
 
 returns : tie.Need-returns
-returns c = let s = c in (cursor-word s.args.c s.requires, past_word s.args.c s.requires)
+returns c = (cursor-word c.args.c c.requires, past_word c.args.c c.requires)
 
 pub cursor_number_spec : {M : Type 1} → statement M
 cursor_number_spec =

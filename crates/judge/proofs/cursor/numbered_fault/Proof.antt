@@ -5,16 +5,8 @@ use Rattle.judge.proofs.cursor.numbered_fault.Tie as tie
 
 other : tie.Need-returns
 other c =
-    let c8 = c in
-    let c7 = c8 in
-    let c6 = c7 in
-    let c5 = c6 in
-    let c4 = c5 in
-    let c3 = c4 in
-    let c2 = c3 in
-    let c1 = c2 in
-    rw (ne_eqb _ _ c1.if-number-eq10.false, ne_eqb _ _ c2.if-number-eq11.false, ne_eqb _ _ c3.if-number-eq12.false, ne_eqb _ _ c4.if-number-eq13.false)
-    (rw (ne_eqb _ _ c5.if-number-eq14.false, ne_eqb _ _ c6.if-number-eq15.false, ne_eqb _ _ c7.if-number-eq16.false, ne_eqb _ _ c8.if-number-eq17.false)
+    rw (ne_eqb _ _ c.if-number-eq10.false, ne_eqb _ _ c.if-number-eq11.false, ne_eqb _ _ c.if-number-eq12.false, ne_eqb _ _ c.if-number-eq13.false)
+    (rw (ne_eqb _ _ c.if-number-eq14.false, ne_eqb _ _ c.if-number-eq15.false, ne_eqb _ _ c.if-number-eq16.false, ne_eqb _ _ c.if-number-eq17.false)
     (rw (ne_eqb _ _ c.if-number-eq18.false) refl))
 
 pub numbered_fault_spec : {M : Type 1} → statement M

@@ -17,8 +17,6 @@ abbrev decreases-loop : tie.decreases-loop-i
 decreases-loop words len stack₀ top₀ i₀ stack top i = i
 
 -- the turn, from where its node's members are known, and the call
-abbrev turn : tie.After-members_of invariant-loop decreases-loop → tie.At-loop-i invariant-loop decreases-loop
-turn c = c.before.before.before.before.before.before
 
 loop-holds : tie.Need-loop-i-init invariant-loop decreases-loop
 loop-holds c =
@@ -30,39 +28,34 @@ part_end c = let l = c.loop-i in search (rules, unmapped flat_in l.stack 128 l.i
 
 loop-again : tie.Need-loop-i-preserved invariant-loop decreases-loop
 loop-again c =
-    let m = c in
-    let n = m in
-    let l = n in
-    let a = l.args in
-    let v = l.loop-i.invariant in (
+    let a = c.args in
+    let v = c.loop-i.invariant in (
       omega arith,
       omega arith,
       omega arith,
-      turn_in a.words.now a.len l.loop-i.i l.loop-i.stack _
+      turn_in a.words.now a.len c.loop-i.i c.loop-i.stack _
           (omega arith) v.0 (omega arith) (omega arith) v.2
-          n.kind_in-kind.ensures
-          n.mark_in-mark.ensures
-          n.members_of.ensures
-          m.lesser.ensures
+          c.kind_in-kind.ensures
+          c.mark_in-mark.ensures
+          c.members_of.ensures
+          c.lesser.ensures
           c.flat_node-flat.ensures
           v.3,
     )
 
 returns : tie.Need-returns-then-top-lt-MAX_NODES invariant-loop decreases-loop
 returns c =
-    let l = c in
-    let v = l.loop-i in
+    let v = c.loop-i in
     let z : v.i ≡ 0 = omega arith in
     c.flat_depth.ensures
     ∙ ap (λ x. x.depth) (sym (get_or-map flat_in v.stack v.top 0) ∙ walked-top (rw z at v.invariant.3) (flat_in 0) nil_flat (omega arith))
-    ∙ depth-is-in l.args.words.now l.args.len
+    ∙ depth-is-in c.args.words.now c.args.len
 
 returns-2 : tie.Need-returns invariant-loop decreases-loop
 returns-2 c =
-    let l = c in
-    let z : l.loop-i.i ≡ 0 = omega arith in
-    ap (λ x. x.depth) (walked_empty (rw z at l.loop-i.invariant.3) nil_flat (omega arith))
-    ∙ depth-is-in l.args.words.now l.args.len
+    let z : c.loop-i.i ≡ 0 = omega arith in
+    ap (λ x. x.depth) (walked_empty (rw z at c.loop-i.invariant.3) nil_flat (omega arith))
+    ∙ depth-is-in c.args.words.now c.args.len
 
 pub depth_in_spec : {M : Type 1} → statement M
 depth_in_spec =

@@ -7,17 +7,12 @@ use Rattle.judge.proofs.first_fault.first_fault.Statement.{statement}
 use Rattle.judge.proofs.first_fault.first_fault.Tie as tie
 
 -- places: the start, where the row was tested, where it has passed, and where it was packed
-abbrev passed : tie.After-pack → tie.In-Passed
-passed c = c.before.before
-
-abbrev packed : tie.After-words-in-Passed-1 → tie.After-pack
-packed c = c.before
 
 test : (c : tie.In-Passed)
-    → let t = c in row_tested t.args.rule t.args.row.now ≡ Passed c.in-Passed.field-0
+    → row_tested c.args.rule c.args.row.now ≡ Passed c.in-Passed.field-0
 test c = sym c.test_row.ensures ∙ c.in-Passed.is
 
-passes : (c : tie.In-Passed) → let t = c in Passes t.args.rule t.args.row.now c.in-Passed.field-0
+passes : (c : tie.In-Passed) → Passes c.args.rule c.args.row.now c.in-Passed.field-0
 passes c = tested _ _ (test c)
 
 pack-requires : tie.Need-pack-requires
@@ -25,25 +20,19 @@ pack-requires c κs = let w = readable-within _ (passes c.before).good in (w.0, 
 
 search-row-requires : tie.Need-search_row-requires
 search-row-requires c κs =
-    let k = c in
-    let s = k in
-    searchable k.pack.new.words s.args.rule.len k.in-Passed.field-0 s.args.row.now
-    (packed-passes (passes k.before.before.before) _ k.pack.ensures)
+    searchable c.pack.new.words c.args.rule.len c.in-Passed.field-0 c.args.row.now
+    (packed-passes (passes c.before.before.before) _ c.pack.ensures)
 
 returns : tie.Need-returns-in-Passed
 returns c =
-    let k = c in
-    let s = k in
-    let p = packed-passes (passes k.before.before.before.before) _ k.pack.ensures in
-    let u = counts-known k.pack.new.words s.args.rule.len k.in-Passed.field-0 s.args.row.now p in
-    ap Found ((c.search_row.ensures.0 _ u).fault_is ∙ ap (λ l. first_fault (upper_counts l) s.args.row.now) k.pack.ensures.held)
-    ∙ searched-found s.args.rule s.args.row.now (test k.before.before.before.before)
+    let p = packed-passes (passes c.before.before.before.before) _ c.pack.ensures in
+    let u = counts-known c.pack.new.words c.args.rule.len c.in-Passed.field-0 c.args.row.now p in
+    ap Found ((c.search_row.ensures.0 _ u).fault_is ∙ ap (λ l. first_fault (upper_counts l) c.args.row.now) c.pack.ensures.held)
+    ∙ searched-found c.args.rule c.args.row.now (test c.before.before.before.before)
 
 returns-2 : tie.Need-returns-in-Refused
 returns-2 c =
-    let f = c in
-    let t = f in
-    searched-refused t.args.rule t.args.row.now (sym t.test_row.ensures ∙ f.in-Refused.is)
+    searched-refused c.args.rule c.args.row.now (sym c.test_row.ensures ∙ c.in-Refused.is)
 
 pub first_fault_spec : {M : Type 1} → statement M
 first_fault_spec =

@@ -9,10 +9,8 @@ returns c = let a = c.args in hands_none a.set a.n a.row.now c.size-found.ensure
 
 returns-2 : tie.Need-returns
 returns-2 c =
-    let p = c in
-    let e = p in
-    let a = e.args in
-    hands-all a.set a.n a.row.now e.size-found.ensures e.if-row-found.false p.put_names.ensures
+    let a = c.args in
+    hands-all a.set a.n a.row.now c.size-found.ensures c.if-row-found.false c.put_names.ensures
 
 pub list_names_spec : {M : Type 1} → statement M
 list_names_spec =

@@ -6,38 +6,27 @@ use Rattle.judge.proofs.next.next_children.Statement.{statement}
 use Rattle.judge.proofs.next.next_children.Tie as tie
 
 -- places: the start, where the texts were read, and where both were
-abbrev start : tie.After-read_children → tie.Start
-start c = c.before.before.before.before.before
-
-abbrev read : tie.In-Both → tie.After-read_children
-read c = c.before
 
 read-children-requires : tie.Need-read_children-requires
 read-children-requires c κs = (refl, refl)
 
 root-next-requires : tie.Need-root_next-set-requires
 root-next-requires c κs =
-    let t = c in
-    let b = read-both t.read_children.ensures t.in-Both.is in
+    let b = read-both c.read_children.ensures c.in-Both.is in
     (b.nodes, b.names)
 
 list-names-requires : tie.Need-list_names-requires
 list-names-requires c κs =
-    let t = c in
-    (read-both t.read_children.ensures t.in-Both.is).names.1
+    (read-both c.read_children.ensures c.in-Both.is).names.1
 
 returns : tie.Need-returns-in-Both
 returns c =
-    let l = c in
-    let n = l in
-    let t = n in
-    let b = read-both t.read_children.ensures t.in-Both.is in
-    row_listed b n.root_next-set.ensures t.args.row.now l.list_names.ensures
+    let b = read-both c.read_children.ensures c.in-Both.is in
+    row_listed b c.root_next-set.ensures c.args.row.now c.list_names.ensures
 
 returns-2 : tie.Need-returns-in-Faulty
 returns-2 c =
-    let r = c in
-    fault-listed (read-fault r.read_children.ensures c.in-Faulty.is) r.args.row.now
+    fault-listed (read-fault c.read_children.ensures c.in-Faulty.is) c.args.row.now
 
 returns-3 : tie.Need-returns-in-ModelRefused
 unfolding children_next

@@ -6,29 +6,25 @@ use Rattle.judge.proofs.next.next_names.Statement.{statement}
 use Rattle.judge.proofs.next.next_names.Tie as tie
 
 -- places: the start, where the row was tested, where it has passed
-abbrev passed : tie.After-pack → tie.In-Passed
-passed c = c.before.before
 
-passes : (c : tie.In-Passed) → let s = c in Passes s.args.rule s.args.children.now c.in-Passed.names
+passes : (c : tie.In-Passed) → Passes c.args.rule c.args.children.now c.in-Passed.names
 passes c = tested _ _ (sym c.test_row.ensures ∙ c.in-Passed.is)
 
 pack-requires : tie.Need-pack-requires
 pack-requires c κs = let w = readable-within _ (passes c.before).good in (w.0, w.1, (refl, refl))
 
 next-on-requires : tie.Need-next_on-requires
-next-on-requires c κs = let k = c in packed-passes (passes k.before.before.before.before) _ k.pack.ensures
+next-on-requires c κs = packed-passes (passes c.before.before.before.before) _ c.pack.ensures
 
 returns : tie.Need-returns-in-Passed
 unfolding next_judged
 returns c =
-    let n = c in
-    let k = n in
-    let p = passes k.before.before.before.before.before.before.before in
-    rw (p.answer, ← p.names_are) (rw (packed-is p _ k.pack.ensures) at n.next_on.ensures)
+    let p = passes c.before.before.before.before.before.before.before in
+    rw (p.answer, ← p.names_are) (rw (packed-is p _ c.pack.ensures) at c.next_on.ensures)
 
 returns-2 : tie.Need-returns-in-Refused
 unfolding next_judged
-returns-2 c = let f = c in rw (tested _ _ (sym f.test_row.ensures ∙ f.in-Refused.is)) (refl, refl)
+returns-2 c = rw (tested _ _ (sym c.test_row.ensures ∙ c.in-Refused.is)) (refl, refl)
 
 pub next_names_spec : {M : Type 1} → statement M
 next_names_spec =

@@ -19,8 +19,7 @@ few s = atoms-within (nodes s) s.requires.1.0.0 s.requires.1.0.1
 tallied : (c : tie.After-search_row)
     → RowTallied (upper_counts (nodes c.before.before.before.before)) c.args.children.now (seen_in c.search_row.new.words) c.search_row.result
 tallied c =
-    let s = c in
-    c.search_row.ensures.0 _ (counts-known s.args.words.now s.args.len s.args.names s.args.children.now s.requires)
+    c.search_row.ensures.0 _ (counts-known c.args.words.now c.args.len c.args.names c.args.children.now c.requires)
 
 -- the search leaves the nodes as they were
 same : (c : tie.After-search_row) → map node_in (take c.args.len c.search_row.new.words) ≡ nodes c.before.before.before.before
@@ -28,40 +27,32 @@ same c = same_nodes _ _ c.search_row.ensures.1 _ c.requires.0.0
 
 search-row-requires : tie.Need-search_row-requires
 search-row-requires c κs =
-    let s = c in
-    searchable s.args.words.now s.args.len s.args.names s.args.children.now s.requires
+    searchable c.args.words.now c.args.len c.args.names c.args.children.now c.requires
 
 root-next-requires : tie.Need-root_next-set-requires
 root-next-requires c κs =
-    let f = c in
-    let s = f in
-    ((s.requires.0.0, omega (arith, s.requires.0.1, f.search_row.ensures.1.1)), (rw (same f.before.before) s.requires.1.0.1, few s.before.before.before.before.before.before))
+    ((c.requires.0.0, omega (arith, c.requires.0.1, c.search_row.ensures.1.1)), (rw (same c.before.before) c.requires.1.0.1, few c.before.before.before.before.before.before))
 
 list-names-requires : tie.Need-list_names-requires
 list-names-requires c κs = few c.before.before.before.before.before.before.before.before
 
 returns : tie.Need-returns-in-At
 returns c =
-    let f = c in
-    let s = f in
-    hands-no-names s.args.row.now
-    (next-stopped (nodes s.before.before.before.before.before) s.requires.1.0.0 s.args.children.now s.requires.1.0.1 s.requires.1.1.1
-    (fault-told (tallied f.before) c.in-At.is))
+    hands-no-names c.args.row.now
+    (next-stopped (nodes c.before.before.before.before.before) c.requires.1.0.0 c.args.children.now c.requires.1.0.1 c.requires.1.1.1
+    (fault-told (tallied c.before) c.in-At.is))
 
 returns-2 : tie.Need-returns-in-Nothing
 returns-2 c =
-    let n = c in
-    let b = n in
-    let f = b.search_row in
-    let s = b in
-    let e = b.in-Nothing.is in
+    let f = c.search_row in
+    let e = c.in-Nothing.is in
     rw (
-      b.root_next-set.ensures,
-      same b.before.before.before.before.before.before.before,
-      next-tallied (nodes s.before.before.before.before.before.before.before.before.before.before.before) s.requires.1.0.0 s.args.children.now s.requires.1.0.1 s.requires.1.1.1 (fault-told (tallied b.before.before.before.before.before.before.before) e)
-          (seen_in f.new.words) ((tallied b.before.before.before.before.before.before.before).tallied e),
+      c.root_next-set.ensures,
+      same c.before.before.before.before.before.before.before,
+      next-tallied (nodes c.before.before.before.before.before.before.before.before.before.before.before) c.requires.1.0.0 c.args.children.now c.requires.1.0.1 c.requires.1.1.1 (fault-told (tallied c.before.before.before.before.before.before.before) e)
+          (seen_in f.new.words) ((tallied c.before.before.before.before.before.before.before).tallied e),
     )
-    at n.list_names.ensures
+    at c.list_names.ensures
 
 pub next_on_spec : {M : Type 1} → statement M
 next_on_spec =

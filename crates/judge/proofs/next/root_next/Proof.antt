@@ -57,14 +57,6 @@ abbrev seen_at : tie.Start invariant-loop2 decreases-loop2 invariant-loop decrea
 seen_at c k = seen_of c.args.children (get_or (seen_in c.args.words.now) k 0)
 
 -- the node of a turn, that turn, and the start
-abbrev node : tie.After-seen_of-here invariant-loop2 decreases-loop2 invariant-loop decreases-loop → tie.After-kind_in-kind invariant-loop2 decreases-loop2 invariant-loop decreases-loop
-node c = c.before.before.before.before
-
-abbrev turn : tie.After-kind_in-kind invariant-loop2 decreases-loop2 invariant-loop decreases-loop → tie.At-loop-i invariant-loop2 decreases-loop2 invariant-loop decreases-loop
-turn c = c.before.before.before.before
-
-abbrev start : tie.At-loop-i invariant-loop2 decreases-loop2 invariant-loop decreases-loop → tie.Start invariant-loop2 decreases-loop2 invariant-loop decreases-loop
-start l = l.before
 
 -- it stands there as at the start
 abbrev read : tie.After-kind_in-kind invariant-loop2 decreases-loop2 invariant-loop decreases-loop → Node
@@ -101,17 +93,14 @@ seen_now l k = seen_of l.args.children (get_or (seen_in l.loop-i.words) k 0)
 
 loop2-holds : tie.Need-loop-at-init invariant-loop2 decreases-loop2 invariant-loop decreases-loop
 loop2-holds c =
-    let l = c in
-    let v = l.loop-i in
+    let v = c.loop-i in
     let b = rw (c.seen_of-here.ensures, ← get_or-drop 128 v.words v.name 0) at c.begin_ahead-x.ensures in
-    (search rules, omega arith, part_none (ahead-parts _ (seen_now l.before.before.before.before.before.before.before.before.before)) (stack_in v.words v.sets) v.top b)
+    (search rules, omega arith, part_none (ahead-parts _ (seen_now c.before.before.before.before.before.before.before.before.before)) (stack_in v.words v.sets) v.top b)
 
 loop2-again : tie.Need-loop-at-preserved invariant-loop2 decreases-loop2 invariant-loop decreases-loop
 loop2-again c =
-    let m = c in
-    let u = m.loop-at in
-    let l = m in
-    let v = l.loop-i in
+    let u = c.loop-at in
+    let v = c.loop-i in
     let n = v.invariant.5.long in
     let stack = stack_in v.words v.sets in
     let y : record { part = c.attribute_in-part.result; next = get_or v.sets u.at 0 } ≡ get_or stack u.at blank =
@@ -119,7 +108,7 @@ loop2-again c =
     let g = rw y at c.grown_ahead-x.ensures in (
       omega arith,
       omega arith,
-      part-turn (ahead-parts _ (seen_now l.before.before.before.before.before.before.before.before.before.before.before.before.before.before.before)) stack v.top u.at blank u.invariant.0 (omega arith) g u.invariant.2,
+      part-turn (ahead-parts _ (seen_now c.before.before.before.before.before.before.before.before.before.before.before.before.before.before.before)) stack v.top u.at blank u.invariant.0 (omega arith) g u.invariant.2,
     )
 
 sub-name : tie.Need-overflow_sub-name invariant-loop2 decreases-loop2 invariant-loop decreases-loop
@@ -127,24 +116,19 @@ sub-name c = omega (arith, c.atoms_of-name.ensures.0, named c.before.before.befo
 
 loop-again : tie.Need-loop-i-preserved invariant-loop2 decreases-loop2 invariant-loop decreases-loop
 loop-again c =
-    let whole = c in
-    let m = whole in
-    let s = m in
-    let k = m in
-    let l = k in
-    let v = l.loop-i.invariant in
-    let u = m.loop-at in
-    let place = s.lesser.result + l.loop-i.top - 1 in
-    let z : u.at ≡ s.lesser.result + l.loop-i.top = omega arith in (
+    let v = c.loop-i.invariant in
+    let u = c.loop-at in
+    let place = c.lesser.result + c.loop-i.top - 1 in
+    let z : u.at ≡ c.lesser.result + c.loop-i.top = omega arith in (
       omega arith,
       omega arith,
       omega arith,
       omega arith,
       standing-turn v.4 place _ (omega arith) (omega arith),
-      rw (stack_set l.loop-i.words l.loop-i.sets place c.attribute_word.result _ (omega arith) c.attribute_word.ensures refl)
-          (pass-turn (ahead-parts _ (seen_at l.before.before.before.before.before.before.before.before.before.before.before.before.before.before.before.before.before)) (held l.before.before.before.before.before.before.before.before.before.before.before.before.before.before.before.before.before) k.loop-i-test.true v.0 (read_is k.before.before.before.before.before.before.before.before.before.before.before.before) v.5
-          (omega arith) v.2 s.members_of.ensures s.lesser.ensures whole.atoms_of-name.ensures.0
-          (rw (z, v.4.seen_same) at u.invariant.2) whole.marked_ahead-whole.ensures),
+      rw (stack_set c.loop-i.words c.loop-i.sets place c.attribute_word.result _ (omega arith) c.attribute_word.ensures refl)
+          (pass-turn (ahead-parts _ (seen_at c.before.before.before.before.before.before.before.before.before.before.before.before.before.before.before.before.before)) (held c.before.before.before.before.before.before.before.before.before.before.before.before.before.before.before.before.before) c.loop-i-test.true v.0 (read_is c.before.before.before.before.before.before.before.before.before.before.before.before) v.5
+          (omega arith) v.2 c.members_of.ensures c.lesser.ensures c.atoms_of-name.ensures.0
+          (rw (z, v.4.seen_same) at u.invariant.2) c.marked_ahead-whole.ensures),
     )
 
 returns : tie.Need-returns-then-top-lt-MAX_NODES invariant-loop2 decreases-loop2 invariant-loop decreases-loop

@@ -18,18 +18,16 @@ loop-holds c = (omega arith, rw c.no_rule-rule.ensures)
 
 loop-again : tie.Need-loop-i-preserved invariant-loop decreases-loop
 loop-again c =
-    let l = c in
-    let a = l.args in (
+    let a = c.args in (
       omega arith,
-      rw (l.loop-i.invariant.1, c.unpacked.ensures) (fill-turn node_in unused a.words.now 128 l.loop-i.i 0 (omega arith) (omega arith)),
+      rw (c.loop-i.invariant.1, c.unpacked.ensures) (fill-turn node_in unused a.words.now 128 c.loop-i.i 0 (omega arith) (omega arith)),
     )
 
 returns : tie.Need-returns invariant-loop decreases-loop
 returns c =
-    let l = c in
-    let a = l.args in
-    let e : l.loop-i.i ≡ a.len = omega arith in
-    rule-filled (map node_in (take a.len a.words.now)) _ _ (fill-length node_in unused a.words.now a.len (omega arith)) (rw e at l.loop-i.invariant.1)
+    let a = c.args in
+    let e : c.loop-i.i ≡ a.len = omega arith in
+    rule-filled (map node_in (take a.len a.words.now)) _ _ (fill-length node_in unused a.words.now a.len (omega arith)) (rw e at c.loop-i.invariant.1)
 
 pub unpack_spec : {M : Type 1} → statement M
 unpack_spec =

@@ -130,21 +130,6 @@ member-by-claims t = (
 
 module _ (t : ℕ) where
   -- The group reader: the start from where `)` was looked for and from a turn, and the turn from the call for its member.
-  abbrev group-start : group-lts.After-stands (group-claims t) (group_at t) group.Post group-Inv-loop group-μ-loop
-      → group-lts.Start (group-claims t) (group_at t) group.Post group-Inv-loop group-μ-loop
-  group-start c = c.before.before
-
-  abbrev tested : group-lts.At-loop-past (group-claims t) (group_at t) group.Post group-Inv-loop group-μ-loop
-      → group-lts.After-stands (group-claims t) (group_at t) group.Post group-Inv-loop group-μ-loop
-  tested c = c.before.before.before
-
-  abbrev turn : group-lts.After-member_by-got (group-claims t) (group_at t) group.Post group-Inv-loop group-μ-loop
-      → group-lts.At-loop-past (group-claims t) (group_at t) group.Post group-Inv-loop group-μ-loop
-  turn c = c.before.before.before.before
-
-  abbrev called : group-lts.In-Past (group-claims t) (group_at t) group.Post group-Inv-loop group-μ-loop
-      → group-lts.After-member_by-got (group-claims t) (group_at t) group.Post group-Inv-loop group-μ-loop
-  called c = c.before.before
 
   -- what it gave
   gave : (c : group-lts.In-Past (group-claims t) (group_at t) group.Post group-Inv-loop group-μ-loop)
@@ -160,13 +145,6 @@ module _ (t : ℕ) where
   behind c = member-past c.member_by-got.ensures (gave c)
 
   -- the byte behind it, and how high the members are
-  abbrev past : group-lts.After-shared_slice_known-in-Past-1 (group-claims t) (group_at t) group.Post group-Inv-loop group-μ-loop
-      → group-lts.In-Past (group-claims t) (group_at t) group.Post group-Inv-loop group-μ-loop
-  past c = c.before.before
-
-  abbrev read : group-lts.After-larger-height (group-claims t) (group_at t) group.Post group-Inv-loop group-μ-loop
-      → group-lts.In-Past (group-claims t) (group_at t) group.Post group-Inv-loop group-μ-loop
-  read c = past c.before
 
   -- no byte is left, or this one
   abbrev more : (c : group-lts.After-larger-height (group-claims t) (group_at t) group.Post group-Inv-loop group-μ-loop)
@@ -174,8 +152,7 @@ module _ (t : ℕ) where
   more c = c.if-p-text.false
 
   group-empties : (c : group-lts.Then-stands (group-claims t) (group_at t) group.Post group-Inv-loop group-μ-loop)
-      → let s = c in
-      let a = s.args in
+      → let a = c.args in
       Closed a.text.now a.work.now (a.names.now, a.heads.now) a.c.at (tail (stack_of (here a.text.now a.c.at))) (one_on a.c 0)
   group-empties c = group_empty c.requires.1 (sym c.stands.ensures ∙ c.if-stands.true)
 
@@ -190,17 +167,15 @@ module _ (t : ℕ) where
 
   group-loop-holds : group-lts.Need-loop-past-init (group-claims t) (group_at t) group.Post group-Inv-loop group-μ-loop
   group-loop-holds c =
-      let n = c in
-      rw c.cursor_number-next.ensures.0 (group-begins n.requires.1 (sym n.stands.ensures ∙ n.if-stands.false))
+      rw c.cursor_number-next.ensures.0 (group-begins c.requires.1 (sym c.stands.ensures ∙ c.if-stands.false))
 
   group-member-by-requires : group-lts.Need-member_by-got-requires (group-claims t) (group_at t) group.Post group-Inv-loop group-μ-loop
   group-member-by-requires c κs =
-      let l = c in
-      let i = l.loop-past.invariant in
-      (omega (arith, l.requires.0, i.inside.expecting.at_is.within, i.from), group-ready i)
+      let i = c.loop-past.invariant in
+      (omega (arith, c.requires.0, i.inside.expecting.at_is.within, i.from), group-ready i)
 
   group-returns-2 : group-lts.Need-returns-then-p-text (group-claims t) (group_at t) group.Post group-Inv-loop group-μ-loop
-  group-returns-2 c = let p = c in group-stops p.loop-past.invariant (behind p.before) c.if-p-text.true
+  group-returns-2 c = group-stops c.loop-past.invariant (behind c.before) c.if-p-text.true
 
   group-read-b : group-lts.Need-bounds-text-p (group-claims t) (group_at t) group.Post group-Inv-loop group-μ-loop
   group-read-b c = past-inside c.loop-past.invariant (behind c.before.before) c.if-p-text.false
@@ -211,17 +186,13 @@ module _ (t : ℕ) where
 
   group-height-over-requires : group-lts.Need-height_over-requires (group-claims t) (group_at t) group.Post group-Inv-loop group-μ-loop
   group-height-over-requires c κs =
-      let b = c in
-      rw b.larger-height.ensures (members-low b.loop-past.invariant (behind b.before.before.before.before.before.before))
+      rw c.larger-height.ensures (members-low c.loop-past.invariant (behind c.before.before.before.before.before.before))
 
   group-returns-3 : group-lts.Need-returns-then-b-eq41 (group-claims t) (group_at t) group.Post group-Inv-loop group-μ-loop
   group-returns-3 c =
-      let h = c in
-      let p = h in
-      let b = p in
       rw c.closed-then-b-eq41.ensures
-      (group-ends b.loop-past.invariant (behind b.before.before.before.before.before.before.before.before) (more b.before.before.before.before.before) p.if-b-eq41.true _ p.packed_group.ensures
-      (rw (← b.larger-height.ensures) h.height_over.ensures))
+      (group-ends c.loop-past.invariant (behind c.before.before.before.before.before.before.before.before) (more c.before.before.before.before.before) c.if-b-eq41.true _ c.packed_group.ensures
+      (rw (← c.larger-height.ensures) c.height_over.ensures))
 
   -- the cursor in the number that the call gave
   cursor-past : (c : group-lts.In-Past (group-claims t) (group_at t) group.Post group-Inv-loop group-μ-loop)
@@ -229,58 +200,39 @@ module _ (t : ℕ) where
   cursor-past c = past_is c.member_by-got.result (gave c)
 
   group-number-on-requires : group-lts.Need-number_on-next-requires (group-claims t) (group_at t) group.Post group-Inv-loop group-μ-loop
-  group-number-on-requires c κs = let b = c in rw (cursor-past b.before.before.before.before.before.before) (omega (arith, place-fits b.before.before.before))
+  group-number-on-requires c κs = rw (cursor-past c.before.before.before.before.before.before) (omega (arith, place-fits c.before.before.before))
 
   group-loop-less : group-lts.Need-loop-past-smaller (group-claims t) (group_at t) group.Post group-Inv-loop group-μ-loop
   group-loop-less c =
-      let b = c in
-      rw (c.number_on-next.ensures, cursor-past b.before.before.before.before.before.before.before) (turn-less b.loop-past.invariant (behind b.before.before.before.before.before.before.before) (more b.before.before.before.before))
+      rw (c.number_on-next.ensures, cursor-past c.before.before.before.before.before.before.before) (turn-less c.loop-past.invariant (behind c.before.before.before.before.before.before.before) (more c.before.before.before.before))
 
   group-loop-again : group-lts.Need-loop-past-preserved (group-claims t) (group_at t) group.Post group-Inv-loop group-μ-loop
   group-loop-again c =
-      let p = c in
-      let b = p in
-      rw (c.number_on-next.ensures, cursor-past b.before.before.before.before.before.before.before, b.larger-height.ensures)
-      (group-joins b.loop-past.invariant (behind b.before.before.before.before.before.before.before) (more b.before.before.before.before) p.if-b-eq41.false
-      (sym p.parts.ensures ∙ c.if-parts.true))
+      rw (c.number_on-next.ensures, cursor-past c.before.before.before.before.before.before.before, c.larger-height.ensures)
+      (group-joins c.loop-past.invariant (behind c.before.before.before.before.before.before.before) (more c.before.before.before.before) c.if-b-eq41.false
+      (sym c.parts.ensures ∙ c.if-parts.true))
 
   group-returns-4 : group-lts.Need-returns-else-parts (group-claims t) (group_at t) group.Post group-Inv-loop group-μ-loop
   group-returns-4 c =
-      let p = c in
-      let b = p in
-      group-bad b.loop-past.invariant (behind b.before.before.before.before.before.before) (more b.before.before.before) p.if-b-eq41.false (sym p.parts.ensures ∙ c.if-parts.false)
+      group-bad c.loop-past.invariant (behind c.before.before.before.before.before.before) (more c.before.before.before) c.if-b-eq41.false (sym c.parts.ensures ∙ c.if-parts.false)
 
   group-returns-5 : group-lts.Need-returns-in-Fault (group-claims t) (group_at t) group.Post group-Inv-loop group-μ-loop
   group-returns-5 c =
-      let f = c in
-      let g = f in
-      rw (sym g.got_in.ensures ∙ f.in-Fault.is) at g.member_by-got.ensures
+      rw (sym c.got_in.ensures ∙ c.in-Fault.is) at c.member_by-got.ensures
 
   -- The member reader: the start from the test whether a name begins, and that test from where a bracket stands.
-  abbrev member-start : member-lts.After-name_begins (member-claims t) (member-at t) member.Post → member-lts.Start (member-claims t) (member-at t) member.Post
-  member-start c = c.before.before
-
-  abbrev test : member-lts.Then-stands (member-claims t) (member-at t) member.Post → member-lts.After-name_begins (member-claims t) (member-at t) member.Post
-  test c = c.before.before.before
 
   bracket : (c : member-lts.Then-stands (member-claims t) (member-at t) member.Post)
       → let a = c.args in is a.text.now (code "(") a.c.at ≡ true
   bracket c = sym c.stands.ensures ∙ c.if-stands.true
 
   -- a group begins there
-  abbrev stood : member-lts.Else-left-eq0 (member-claims t) (member-at t) member.Post → member-lts.Then-stands (member-claims t) (member-at t) member.Post
-  stood c = c.before.before
 
   opening : (c : member-lts.Else-left-eq0 (member-claims t) (member-at t) member.Post)
       → let a = c.args in Opening a.text.now a.c a.left
   opening c = group-opening c.requires.1 (bracket c.before.before) c.if-node-eq-MAX_NODES.false c.if-left-eq0.false
 
   -- behind the group that begins there
-  abbrev entered : member-lts.In-Past (member-claims t) (member-at t) member.Post → member-lts.After-inside-first (member-claims t) (member-at t) member.Post
-  entered c = c.before.before.before.before.before
-
-  abbrev begun : member-lts.In-Past (member-claims t) (member-at t) member.Post → member-lts.Else-left-eq0 (member-claims t) (member-at t) member.Post
-  begun c = c.before.before.before.before.before.before.before
 
   closed : (c : member-lts.In-Past (member-claims t) (member-at t) member.Post)
       → let g = c.group in
@@ -290,33 +242,27 @@ module _ (t : ℕ) where
   closed c = group-past (rw c.inside-first.ensures at c.group.ensures) c.in-Past.is
 
   -- from where its names were counted
-  abbrev ended : member-lts.After-struct_known-in-Past-1 (member-claims t) (member-at t) member.Post → member-lts.In-Past (member-claims t) (member-at t) member.Post
-  ended c = c.before.before
 
   -- it has a name, or no `!` behind it
   fits : (j : member-lts.Joined-past-c (member-claims t) (member-at t) member.Post)
-      → let g = j in
-      let a = g.args in
-      g.in-Past.past.names ≡ a.c.names → is a.text.now (code "!") g.in-Past.past.at ≡ false
+      → let a = j.args in
+      j.in-Past.past.names ≡ a.c.names → is a.text.now (code "!") j.in-Past.past.at ≡ false
   fits j z = ⊎_elim (λ w. sym w.stands-then-past-c.ensures ∙ w.if-stands-2.false) (λ w. absurd (w.if-past-c.false z)) j.if-past-c.branch-raw
 
   member-atom-requires : member-lts.Need-atom-requires (member-claims t) (member-at t) member.Post
   member-atom-requires c κs =
-      let n = c in
-      (n.requires.1.expecting, sym n.name_begins.ensures ∙ n.if-name_begins.true)
+      (c.requires.1.expecting, sym c.name_begins.ensures ∙ c.if-name_begins.true)
 
   member-returns-2 : member-lts.Need-returns-else-stands (member-claims t) (member-at t) member.Post
   member-returns-2 c =
-      let n = c in
-      member-bad n.requires.1 (sym n.name_begins.ensures ∙ n.if-name_begins.false) (sym c.stands.ensures ∙ c.if-stands.false)
+      member-bad c.requires.1 (sym c.name_begins.ensures ∙ c.if-name_begins.false) (sym c.stands.ensures ∙ c.if-stands.false)
 
   member-returns-3 : member-lts.Need-returns-then-node-eq-MAX_NODES (member-claims t) (member-at t) member.Post
   member-returns-3 c = many-groups c.requires.1 (bracket c.before) c.if-node-eq-MAX_NODES.true
 
   member-returns-4 : member-lts.Need-returns-then-left-eq0 (member-claims t) (member-at t) member.Post
   member-returns-4 c =
-      let b = c in
-      many-brackets b.requires.1 (bracket b.before.before) c.if-node-eq-MAX_NODES.false c.if-left-eq0.true
+      many-brackets c.requires.1 (bracket c.before.before) c.if-node-eq-MAX_NODES.false c.if-left-eq0.true
 
   member-inside-requires : member-lts.Need-inside-first-requires (member-claims t) (member-at t) member.Post
   member-inside-requires c κs =
@@ -325,16 +271,11 @@ module _ (t : ℕ) where
 
   member-group-requires : member-lts.Need-group-requires (member-claims t) (member-at t) member.Post
   member-group-requires c κs =
-      let i = c in
-      let o = i in
-      let s = o in
-      rw i.inside-first.ensures (omega (arith, s.requires.0, (opening o.before.before.before.before.before).inside), goes_in s.requires.1 (opening o.before.before.before.before.before))
+      rw c.inside-first.ensures (omega (arith, c.requires.0, (opening c.before.before.before.before.before).inside), goes_in c.requires.1 (opening c.before.before.before.before.before))
 
   member-returns-5 : member-lts.Need-returns-then-stands-2 (member-claims t) (member-at t) member.Post
   member-returns-5 c =
-      let n = c in
-      let g = n in
-      empty-marked g.requires.1 (opening g.before.before.before.before.before.before.before.before.before.before.before.before) (closed g.before.before.before.before.before) n.if-past-c.true
+      empty-marked c.requires.1 (opening c.before.before.before.before.before.before.before.before.before.before.before.before) (closed c.before.before.before.before.before) c.if-past-c.true
       (sym c.stands-then-past-c.ensures ∙ c.if-stands-2.true)
 
   member-mark-requires : member-lts.Need-mark-requires (member-claims t) (member-at t) member.Post
@@ -342,17 +283,12 @@ module _ (t : ℕ) where
 
   member-returns-6 : member-lts.Need-returns-after-past-c (member-claims t) (member-at t) member.Post
   member-returns-6 c =
-      let j = c in
-      let g = j in
-      group-member g.requires.1 (opening g.before.before.before.before.before.before.before.before.before.before.before.before) (closed g.before.before.before.before.before) (fits j.before.before) c.mark.ensures
+      group-member c.requires.1 (opening c.before.before.before.before.before.before.before.before.before.before.before.before) (closed c.before.before.before.before.before) (fits c.before.before) c.mark.ensures
 
   -- The member reader by numbers.
-  abbrev numbered : member-by-lts.After-cursor_in (member-by-claims t) (member-by-at t) member-by.Post
-      → member-by-lts.Start (member-by-claims t) (member-by-at t) member-by.Post
-  numbered c = c.before.before.before.before.before
 
   member-by-member-requires : member-by-lts.Need-member-requires (member-by-claims t) (member-by-at t) member-by.Post
-  member-by-member-requires c κs = let s = c in rw c.cursor_in.ensures (omega (arith, s.requires.0), s.requires.1)
+  member-by-member-requires c κs = rw c.cursor_in.ensures (omega (arith, c.requires.0), c.requires.1)
 
   -- what it gives
   member-gave : (c : member-by-lts.After-member (member-by-claims t) (member-by-at t) member-by.Post)
@@ -364,8 +300,7 @@ module _ (t : ℕ) where
 
   member-by-got-number-requires : member-by-lts.Need-got_number-requires (member-by-claims t) (member-by-at t) member-by.Post
   member-by-got-number-requires c κs =
-      let s = c in
-      member-fits s.args.text.now _ _ _ _ s.requires.1.expecting.at_is.sized c.member.result (member-gave c)
+      member-fits c.args.text.now _ _ _ _ c.requires.1.expecting.at_is.sized c.member.result (member-gave c)
 
   member-by-returns : member-by-lts.Need-returns (member-by-claims t) (member-by-at t) member-by.Post
   member-by-returns c = rw c.got_number.ensures (member-gave c.before)

@@ -18,16 +18,14 @@ loop-holds c = (omega arith, rw c.no_names-names.ensures)
 loop-again : tie.Need-loop-i-preserved invariant-loop decreases-loop
 unfolding place_of
 loop-again c =
-    let l = c in
-    (omega arith, rw l.loop-i.invariant.1 (fill-turn place_of no_place l.args.words.now 64 l.loop-i.i 0 (omega arith) (omega arith)))
+    (omega arith, rw c.loop-i.invariant.1 (fill-turn place_of no_place c.args.words.now 64 c.loop-i.i 0 (omega arith) (omega arith)))
 
 returns : tie.Need-returns invariant-loop decreases-loop
 returns c =
-    let l = c in
-    let a = l.args in
-    let e : l.loop-i.i ≡ a.len = omega arith in
+    let a = c.args in
+    let e : c.loop-i.i ≡ a.len = omega arith in
     names-filled (map place_of (take a.len a.words.now)) _ _ (fill-length place_of no_place a.words.now a.len (omega arith))
-    (rw e at l.loop-i.invariant.1)
+    (rw e at c.loop-i.invariant.1)
 
 pub names_of_spec : {M : Type 1} → statement M
 names_of_spec =

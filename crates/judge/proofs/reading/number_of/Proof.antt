@@ -16,14 +16,6 @@ abbrev decreases-loop : tie.decreases-loop-i
 decreases-loop text name names n i₀ i = n - i
 
 -- the start; where the first of two ends is found; and the turn that they are of
-abbrev start : tie.After-lesser-n invariant-loop decreases-loop → tie.Start invariant-loop decreases-loop
-start c = c.before.before.before
-
-abbrev first : tie.After-same_bytes invariant-loop decreases-loop → tie.After-lesser-start invariant-loop decreases-loop
-first c = c.before.before.before.before.before
-
-abbrev turn : tie.After-same_bytes invariant-loop decreases-loop → tie.At-loop-i invariant-loop decreases-loop
-turn c = c.before.before.before.before.before.before.before.before.before
 
 loop-holds : tie.Need-loop-i-init invariant-loop decreases-loop
 loop-holds c =
@@ -32,30 +24,25 @@ loop-holds c =
 
 returns : tie.Need-returns-then-same_bytes invariant-loop decreases-loop
 returns c =
-    let s = c in
-    let l = s in
-    let a = l.args in
-    let same = sym s.same_bytes.ensures ∙ c.if-same_bytes.true in
-    number-found a.text.now a.names a.name.now l.loop-i.invariant.0 l.loop-i.i (omega arith)
-    (rw (← s.lesser-start.ensures, ← s.lesser-end.ensures) same)
-    ∙ l.loop-i.invariant.1.1.1
+    let a = c.args in
+    let same = sym c.same_bytes.ensures ∙ c.if-same_bytes.true in
+    number-found a.text.now a.names a.name.now c.loop-i.invariant.0 c.loop-i.i (omega arith)
+    (rw (← c.lesser-start.ensures, ← c.lesser-end.ensures) same)
+    ∙ c.loop-i.invariant.1.1.1
 
 loop-again : tie.Need-loop-i-preserved invariant-loop decreases-loop
 loop-again c =
-    let s = c in
-    let l = s in
-    let a = l.args in
-    let i = l.loop-i.invariant in
-    let other = sym s.same_bytes.ensures ∙ c.if-same_bytes.false in
-    let next = number-next a.text.now a.names a.name.now i.0 l.loop-i.i (omega arith)
-    (rw (← s.lesser-start.ensures, ← s.lesser-end.ensures) other) in
+    let a = c.args in
+    let i = c.loop-i.invariant in
+    let other = sym c.same_bytes.ensures ∙ c.if-same_bytes.false in
+    let next = number-next a.text.now a.names a.name.now i.0 c.loop-i.i (omega arith)
+    (rw (← c.lesser-start.ensures, ← c.lesser-end.ensures) other) in
     (i.0, (i.1.0, (omega arith, next ∙ i.1.1.1)))
 
 returns-2 : tie.Need-returns invariant-loop decreases-loop
 returns-2 c =
-    let l = c in
-    let a = l.args in
-    number-none a.text.now a.names a.name.now l.loop-i.invariant.0 l.loop-i.i (omega arith) ∙ l.loop-i.invariant.1.1.1
+    let a = c.args in
+    number-none a.text.now a.names a.name.now c.loop-i.invariant.0 c.loop-i.i (omega arith) ∙ c.loop-i.invariant.1.1.1
 
 pub number_of_spec : {M : Type 1} → statement M
 number_of_spec =

@@ -5,17 +5,15 @@ use Rattle.judge.proofs.reply.is_child.Statement.{statement}
 use Rattle.judge.proofs.reply.is_child.Tie as tie
 
 returns : tie.Need-returns-then-end-at-gt-MAX_NAME
-returns c = let s = c in child-long s.args.children.now s.args.at s.requires.0 s.requires.1.end_is c.if-end-at-gt-MAX_NAME.true
+returns c = child-long c.args.children.now c.args.at c.requires.0 c.requires.1.end_is c.if-end-at-gt-MAX_NAME.true
 
 returns-2 : tie.Need-returns-then-end-children
 returns-2 c =
-    let s = c in
-    child-last s.args.children.now s.args.at s.requires.0 s.requires.1.end_is c.if-end-at-gt-MAX_NAME.false c.if-end-children.true
+    child-last c.args.children.now c.args.at c.requires.0 c.requires.1.end_is c.if-end-at-gt-MAX_NAME.false c.if-end-children.true
 
 returns-3 : tie.Need-returns
 returns-3 c =
-    let s = c in
-    child-parted s.args.children.now s.args.at s.requires.0 s.requires.1.end_is c.if-end-at-gt-MAX_NAME.false c.if-end-children.false
+    child-parted c.args.children.now c.args.at c.requires.0 c.requires.1.end_is c.if-end-at-gt-MAX_NAME.false c.if-end-children.false
 
 pub is_child_spec : {M : Type 1} → statement M
 is_child_spec = tie.close (tie.spec (λ c. search rules) returns returns-2 (λ c. search rules) returns-3)

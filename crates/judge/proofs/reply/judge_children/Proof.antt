@@ -6,22 +6,18 @@ use Rattle.judge.proofs.reply.judge_children.Statement.{statement}
 use Rattle.judge.proofs.reply.judge_children.Tie as tie
 
 -- places: where the texts were read, and where both were
-abbrev read : tie.In-Both → tie.After-read_children
-read c = c.before
 
 read-children-requires : tie.Need-read_children-requires
 read-children-requires c κs = (refl, refl)
 
 verdict-by-requires : tie.Need-verdict_by-requires
 verdict-by-requires c κs =
-    let t = c in
-    let b = read-both t.read_children.ensures t.in-Both.is in
+    let b = read-both c.read_children.ensures c.in-Both.is in
     (b.nodes, b.names)
 
 returns : tie.Need-returns-in-Both
 returns c =
-    let t = c in
-    row-judged (read-both t.read_children.ensures t.in-Both.is) c.verdict_by.ensures
+    row-judged (read-both c.read_children.ensures c.in-Both.is) c.verdict_by.ensures
 
 returns-2 : tie.Need-returns-in-Faulty
 returns-2 c = fault-judged (read-fault c.read_children.ensures c.in-Faulty.is)

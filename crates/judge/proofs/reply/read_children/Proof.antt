@@ -8,11 +8,6 @@ use Rattle.judge.proofs.reply.read_children.Statement.{statement}
 use Rattle.judge.proofs.reply.read_children.Tie as tie
 
 -- places: the start, where the model text was read, where there are children, and where they were read
-abbrev start : tie.After-read_whole → tie.Start
-start c = c.before.before.before.before.before.before
-
-abbrev read : tie.In-Past → tie.After-read_whole
-read c = c.before
 
 whole : (c : tie.In-Past)
     → let last = c.read_whole.new in
@@ -21,7 +16,7 @@ whole c = whole-past c.read_whole.ensures c.in-Past.is
 
 -- the arrays are fresh
 read-whole-requires : tie.Need-read_whole-requires
-read-whole-requires c κs = let n = c in (n.requires, refl, refl)
+read-whole-requires c κs = (c.requires, refl, refl)
 
 -- before the children the upper counts are known
 limited : (c : tie.In-Past)
@@ -33,40 +28,31 @@ returns c = long-refused (whole c.before) _ _ _ c.if-children-gt-MAX_FILE.true
 
 returns-2 : tie.Need-returns-then-children-eq0
 returns-2 c =
-    let e = c in
-    let k = e in
-    let children = k.args.children.now in
-    texts-read (whole k.before.before) children e.if-children-gt-MAX_FILE.false _ (refl, refl) (walk_none children _ c.if-children-eq0.true (limited k.before.before)) refl
+    let children = c.args.children.now in
+    texts-read (whole c.before.before) children c.if-children-gt-MAX_FILE.false _ (refl, refl) (walk_none children _ c.if-children-eq0.true (limited c.before.before)) refl
 
 tally-children-requires : tie.Need-tally_children-requires
 tally-children-requires c κs =
-    let s = c in
-    let w = whole s.before.before.before.before.before in
-    ((w.tabled, whole_apart w), (omega (arith, s.if-children-eq0.false), s.if-children-gt-MAX_FILE.false))
+    let w = whole c.before.before.before.before.before in
+    ((w.tabled, whole_apart w), (omega (arith, c.if-children-eq0.false), c.if-children-gt-MAX_FILE.false))
 
 cast-t26 : tie.Need-overflow_cast-result
-cast-t26 c = let t = c in omega (arith, children-fit (t.tally_children.ensures.0 _ (limited t.before.before.before.before.before.before.before)) c.in-Whole.is)
+cast-t26 c = omega (arith, children-fit (c.tally_children.ensures.0 _ (limited c.before.before.before.before.before.before.before)) c.in-Whole.is)
 
 returns-3 : tie.Need-returns-in-Whole
 returns-3 c =
-    let t = c in
-    let e = t in
-    texts-read (whole e.before.before.before.before.before.before.before) _ e.if-children-gt-MAX_FILE.false _ t.tally_children.ensures.1
-    (t.tally_children.ensures.0 _ (limited e.before.before.before.before.before.before.before)) c.in-Whole.is
+    texts-read (whole c.before.before.before.before.before.before.before) _ c.if-children-gt-MAX_FILE.false _ c.tally_children.ensures.1
+    (c.tally_children.ensures.0 _ (limited c.before.before.before.before.before.before.before)) c.in-Whole.is
 
 returns-4 : tie.Need-returns-in-Faulty
 returns-4 c =
-    let t = c in
-    let e = t in
-    stopped-read (whole e.before.before.before.before.before.before.before) _ e.if-children-gt-MAX_FILE.false _ t.tally_children.ensures.1
-    (t.tally_children.ensures.0 _ (limited e.before.before.before.before.before.before.before)) c.in-Faulty.is
+    stopped-read (whole c.before.before.before.before.before.before.before) _ c.if-children-gt-MAX_FILE.false _ c.tally_children.ensures.1
+    (c.tally_children.ensures.0 _ (limited c.before.before.before.before.before.before.before)) c.in-Faulty.is
 
 returns-5 : tie.Need-returns-in-Refused
 returns-5 c =
-    let t = c in
-    let e = t in
-    bad-refused (whole e.before.before.before.before.before.before.before) _ e.if-children-gt-MAX_FILE.false _ t.tally_children.ensures.1
-    (t.tally_children.ensures.0 _ (limited e.before.before.before.before.before.before.before)) c.in-Refused.is
+    bad-refused (whole c.before.before.before.before.before.before.before) _ c.if-children-gt-MAX_FILE.false _ c.tally_children.ensures.1
+    (c.tally_children.ensures.0 _ (limited c.before.before.before.before.before.before.before)) c.in-Refused.is
 
 returns-6 : tie.Need-returns-in-Fault
 returns-6 c =

@@ -16,27 +16,20 @@ behind c = rest_some c.args.children.now c.args.end (omega (arith, c.if-end-chil
 
 returns : tie.Need-returns-then-end-children
 returns c =
-    let s = c in
-    c.faulty.ensures ∙ rw (rest-none s.args.children.now s.args.end (omega (arith, c.if-end-children.true)))
+    c.faulty.ensures ∙ rw (rest-none c.args.children.now c.args.end (omega (arith, c.if-end-children.true)))
 
 faulty-requires-2 : tie.Need-faulty-requires-in-Count
 faulty-requires-2 c κs =
-    let n = c in
-    let k = n in
-    let m = counted (rest k.before) n.in-Count.n (sym k.count_children.ensures ∙ n.in-Count.is) in
-    (k.requires.2, omega (arith, m))
+    let m = counted (rest c.before) c.in-Count.n (sym c.count_children.ensures ∙ c.in-Count.is) in
+    (c.requires.2, omega (arith, m))
 
 returns-2 : tie.Need-returns-in-Count
 returns-2 c =
-    let n = c in
-    let k = n in
-    c.faulty-in-Count.ensures ∙ rw (behind k.before.before) (rest-counted (rest k.before.before) k.args.place (sym k.count_children.ensures ∙ n.in-Count.is))
+    c.faulty-in-Count.ensures ∙ rw (behind c.before.before) (rest-counted (rest c.before.before) c.args.place (sym c.count_children.ensures ∙ c.in-Count.is))
 
 returns-3 : tie.Need-returns-in-Refused
 returns-3 c =
-    let f = c in
-    let k = f in
-    rw (behind k.before) (rest-refused (rest k.before) k.args.place (sym k.count_children.ensures ∙ f.in-Refused.is))
+    rw (behind c.before) (rest-refused (rest c.before) c.args.place (sym c.count_children.ensures ∙ c.in-Refused.is))
 
 pub stopped_spec : {M : Type 1} → statement M
 stopped_spec =

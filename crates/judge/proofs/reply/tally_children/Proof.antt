@@ -23,14 +23,6 @@ abbrev decreases-loop : tie.decreases-loop-at
 decreases-loop model names n heads children words₀ count₀ at₀ words count at = length children + 1 - at
 
 -- places: the start, the loop's head, and where the child is known to be a name and looked up
-abbrev known : tie.After-look_up-number invariant-loop decreases-loop → tie.Then-is_child invariant-loop decreases-loop
-known c = c.before.before
-
-abbrev start : tie.Then-is_child invariant-loop decreases-loop → tie.Start invariant-loop decreases-loop
-start c = c.before.before.before.before.before.before.before.before.before
-
-abbrev head : tie.After-look_up-number invariant-loop decreases-loop → tie.At-loop-at invariant-loop decreases-loop
-head c = c.before.before.before.before.before.before.before.before
 
 met : (c : tie.Then-is_child invariant-loop decreases-loop) → NameMet c.args.children.now c.loop-at.at c.name_end-read.result.end
 met c =
@@ -45,23 +37,22 @@ child c = take (c.name_end-read.result.end - c.loop-at.at) (drop c.loop-at.at c.
 
 number_is : (c : tie.After-look_up-number invariant-loop decreases-loop) → c.look_up-number.result ≡ number_in (texts c.before.before.before.before.before.before.before.before.before.before.before) (child c)
 number_is c =
-    let s = c in
-    ◌∙◌ {b = last_in (texts s.before.before.before.before.before.before.before.before.before.before.before) (child c)} c.look_up-number.ensures.0 (last-number (texts s.before.before.before.before.before.before.before.before.before.before.before) (child c) s.requires.0.1)
+    ◌∙◌ {b = last_in (texts c.before.before.before.before.before.before.before.before.before.before.before) (child c)} c.look_up-number.ensures.0 (last-number (texts c.before.before.before.before.before.before.before.before.before.before.before) (child c) c.requires.0.1)
 
 -- each child and its tab have two bytes
 few : (c : tie.In-loop-at invariant-loop decreases-loop) → c.loop-at.count ≤ 32768
 few c = omega (arith, c.loop-at.invariant.0.apart, c.loop-at-test.true, c.requires.1.1)
 
 -- one further child may have the name
-free : (c : tie.Else-is_full invariant-loop decreases-loop) → let f = c in one_left ≤ get_or f.loop-at.words (128 + f.look_up-number.result) 0
+free : (c : tie.Else-is_full invariant-loop decreases-loop) → one_left ≤ get_or c.loop-at.words (128 + c.look_up-number.result) 0
 free c = ltb-false _ _ (sym c.is_full.ensures ∙ c.if-is_full.false)
 
 loop-holds : tie.Need-loop-at-init invariant-loop decreases-loop
-loop-holds c = let s = c in (walk-starts s.args.children.now s.requires.1.0, (refl, refl), λ us t. row-starts _ t)
+loop-holds c = (walk-starts c.args.children.now c.requires.1.0, (refl, refl), λ us t. row-starts _ t)
 
 -- a name begins there
 initial : (c : tie.Then-name_begins invariant-loop decreases-loop)
-    → let h = c in is_initial (get_or h.args.children.now h.loop-at.at 0) ≡ true
+    → is_initial (get_or c.args.children.now c.loop-at.at 0) ≡ true
 initial c = sym c.name_begins.ensures ∙ c.if-name_begins.true
 
 name-begins-requires : tie.Need-name_begins-requires invariant-loop decreases-loop
@@ -69,11 +60,9 @@ name-begins-requires c κs = search rules
 
 returns : tie.Need-returns-else-name_begins invariant-loop decreases-loop
 returns c =
-    let t = c in
-    let h = t in
-    let x = h.args.children.now in
-    let unnamed = child-unnamed x h.loop-at.at (sym c.name_begins.ensures ∙ c.if-name_begins.false) in
-    (λ us _. no_row (walk-stops x h.loop-at.invariant.0 t.loop-at-test.true unnamed), h.loop-at.invariant.1)
+    let x = c.args.children.now in
+    let unnamed = child-unnamed x c.loop-at.at (sym c.name_begins.ensures ∙ c.if-name_begins.false) in
+    (λ us _. no_row (walk-stops x c.loop-at.invariant.0 c.loop-at-test.true unnamed), c.loop-at.invariant.1)
 
 name-end-requires : tie.Need-name_end-read-requires invariant-loop decreases-loop
 name-end-requires c κs = initial c
@@ -83,10 +72,8 @@ is-child-requires c κs = (initial c.before, c.name_end-read.ensures)
 
 returns-2 : tie.Need-returns-else-is_child invariant-loop decreases-loop
 returns-2 c =
-    let t = c in
-    let h = t in
     let unnamed = sym c.is_child.ensures ∙ c.if-is_child.false in
-    (λ us _. no_row (walk-stops h.args.children.now h.loop-at.invariant.0 t.loop-at-test.true unnamed), h.loop-at.invariant.1)
+    (λ us _. no_row (walk-stops c.args.children.now c.loop-at.invariant.0 c.loop-at-test.true unnamed), c.loop-at.invariant.1)
 
 sub-look-up : tie.Need-slice_bounds-look_up-count invariant-loop decreases-loop
 sub-look-up c = omega (arith, (met c).bounds)
@@ -99,10 +86,9 @@ part-look-up-end c = (met c).bounds.1
 
 look-up-requires : tie.Need-look_up-number-requires invariant-loop decreases-loop
 look-up-requires c κs =
-    let t = c in
-    let m = met t.before in
-    let key = t.name_end-read.ensures.key_is ∙ ap key_of (sym (m.part_is ∙ m.name_is)) in
-    (t.requires.0.0, key)
+    let m = met c.before in
+    let key = c.name_end-read.ensures.key_is ∙ ap key_of (sym (m.part_is ∙ m.name_is)) in
+    (c.requires.0.0, key)
 
 cast-number : tie.Need-overflow_cast-number invariant-loop decreases-loop
 cast-number c = search rules
@@ -121,22 +107,17 @@ is-full-requires c κs = search rules
 
 stopped-requires : tie.Need-stopped-requires invariant-loop decreases-loop
 stopped-requires c κs =
-    let t = c in
-    ((met t.before.before.before.before.before.before).bounds.1, t.requires.1.1, omega (arith, few t.before.before.before.before.before.before.before.before.before.before.before))
+    ((met c.before.before.before.before.before.before).bounds.1, c.requires.1.1, omega (arith, few c.before.before.before.before.before.before.before.before.before.before.before))
 
 returns-3 : tie.Need-returns-then-is_full invariant-loop decreases-loop
 returns-3 c =
-    let u = c in
-    let f = u in
-    let k = f in
-    let s = k in
-    let p = f.loop-at.invariant in
-    let h = k.loop-at-test.true in (
+    let p = c.loop-at.invariant in
+    let h = c.loop-at-test.true in (
       λ us t. rw c.stopped.ensures
-          (walk-faulty s.args.children.now p.0 h (met k.before.before.before.before.before.before.before) us (texts s.before.before.before.before.before.before.before.before.before.before.before.before.before.before.before.before) _
-          (row-stops (p.2 us t) (walk_inside s.args.children.now p.0 h (met k.before.before.before.before.before.before.before) (texts s.before.before.before.before.before.before.before.before.before.before.before.before.before.before.before.before)) (omega (arith, few k.before.before.before.before.before.before.before.before.before.before.before.before))
-          (walk-number s.args.children.now p.0 h (met k.before.before.before.before.before.before.before) (texts s.before.before.before.before.before.before.before.before.before.before.before.before.before.before.before.before) (number_is f.before.before.before.before.before)) f.look_up-number.ensures.1
-          (rw (seen_at f.loop-at.words f.look_up-number.result) (ltb-true _ _ (sym u.is_full.ensures ∙ c.if-is_full.true))))),
+          (walk-faulty c.args.children.now p.0 h (met c.before.before.before.before.before.before.before) us (texts c.before.before.before.before.before.before.before.before.before.before.before.before.before.before.before.before) _
+          (row-stops (p.2 us t) (walk_inside c.args.children.now p.0 h (met c.before.before.before.before.before.before.before) (texts c.before.before.before.before.before.before.before.before.before.before.before.before.before.before.before.before)) (omega (arith, few c.before.before.before.before.before.before.before.before.before.before.before.before))
+          (walk-number c.args.children.now p.0 h (met c.before.before.before.before.before.before.before) (texts c.before.before.before.before.before.before.before.before.before.before.before.before.before.before.before.before) (number_is c.before.before.before.before.before)) c.look_up-number.ensures.1
+          (rw (seen_at c.loop-at.words c.look_up-number.result) (ltb-true _ _ (sym c.is_full.ensures ∙ c.if-is_full.true))))),
       p.1,
     )
 
@@ -159,42 +140,36 @@ add-count : tie.Need-overflow_add-count invariant-loop decreases-loop
 add-count c = omega (arith, few c.before.before.before.before.before.before.before.before.before.before.before.before)
 
 add_at : tie.Need-overflow_add-at invariant-loop decreases-loop
-add_at c = let t = c in omega (arith, (met t.before.before.before.before.before.before.before).bounds, t.requires.1.1)
+add_at c = omega (arith, (met c.before.before.before.before.before.before.before).bounds, c.requires.1.1)
 
 loop-less : tie.Need-loop-at-smaller invariant-loop decreases-loop
-loop-less c = let t = c in omega (arith, (met t.before.before.before.before.before.before.before).bounds, t.loop-at-test.true)
+loop-less c = omega (arith, (met c.before.before.before.before.before.before.before).bounds, c.loop-at-test.true)
 
 loop-again : tie.Need-loop-at-preserved invariant-loop decreases-loop
 loop-again c =
-    let f = c in
-    let k = f in
-    let s = k in
-    let p = f.loop-at.invariant in
-    let h = k.loop-at-test.true in
-    let w = f.loop-at.words in
-    let e = seen_at w f.look_up-number.result in (
-      walk-goes s.args.children.now p.0 h (met k.before.before.before.before.before.before.before),
-      same_set s.args.words.now w p.1 f.look_up-number.result c.noted.result,
-      λ us t. rw (seen-set w f.look_up-number.result c.noted.result)
-          (row_goes (p.2 us t) (walk_inside s.args.children.now p.0 h (met k.before.before.before.before.before.before.before) (texts s.before.before.before.before.before.before.before.before.before.before.before.before.before.before.before.before)) (omega (arith, few k.before.before.before.before.before.before.before.before.before.before.before.before))
-          (walk-number s.args.children.now p.0 h (met k.before.before.before.before.before.before.before) (texts s.before.before.before.before.before.before.before.before.before.before.before.before.before.before.before.before) (number_is f.before.before.before.before.before)) f.look_up-number.ensures.1
+    let p = c.loop-at.invariant in
+    let h = c.loop-at-test.true in
+    let w = c.loop-at.words in
+    let e = seen_at w c.look_up-number.result in (
+      walk-goes c.args.children.now p.0 h (met c.before.before.before.before.before.before.before),
+      same_set c.args.words.now w p.1 c.look_up-number.result c.noted.result,
+      λ us t. rw (seen-set w c.look_up-number.result c.noted.result)
+          (row_goes (p.2 us t) (walk_inside c.args.children.now p.0 h (met c.before.before.before.before.before.before.before) (texts c.before.before.before.before.before.before.before.before.before.before.before.before.before.before.before.before)) (omega (arith, few c.before.before.before.before.before.before.before.before.before.before.before.before))
+          (walk-number c.args.children.now p.0 h (met c.before.before.before.before.before.before.before) (texts c.before.before.before.before.before.before.before.before.before.before.before.before.before.before.before.before) (number_is c.before.before.before.before.before)) c.look_up-number.ensures.1
           (rw e (free c.before)) (rw e c.noted.ensures)),
     )
 
 returns-4 : tie.Need-returns-then-count-le-MAX_ROW invariant-loop decreases-loop
 returns-4 c =
-    let h = c in
-    let s = h in
-    let p = h.loop-at.invariant in
-    let n = walk-all s.args.children.now p.0 c.loop-at-test.false (texts s.before.before.before.before.before) in
-    let all = walk-few s.args.children.now p.0 c.loop-at-test.false c.if-count-le-MAX_ROW.true in
+    let p = c.loop-at.invariant in
+    let n = walk-all c.args.children.now p.0 c.loop-at-test.false (texts c.before.before.before.before.before) in
+    let all = walk-few c.args.children.now p.0 c.loop-at-test.false c.if-count-le-MAX_ROW.true in
     (λ us t. row_whole all (row_ends (p.2 us t) (omega (arith, n)) (omega (arith, n, c.if-count-le-MAX_ROW.true))), p.1)
 
 returns-5 : tie.Need-returns-else-count-le-MAX_ROW invariant-loop decreases-loop
 returns-5 c =
-    let h = c in
-    let many = walk-many h.args.children.now h.loop-at.invariant.0 c.loop-at-test.false c.if-count-le-MAX_ROW.false in
-    (λ us t. no_row many, h.loop-at.invariant.1)
+    let many = walk-many c.args.children.now c.loop-at.invariant.0 c.loop-at-test.false c.if-count-le-MAX_ROW.false in
+    (λ us t. no_row many, c.loop-at.invariant.1)
 
 pub tally_children_spec : {M : Type 1} → statement M
 tally_children_spec =

@@ -13,14 +13,12 @@ good c = sym c.is_readable-good.ensures ∙ c.if-good.true
 returns : tie.Need-returns-then-named
 unfolding row_tested
 returns c =
-    let m = c in
-    rw (good m.before.before.before.before, le-leb _ _ m.if-row-le-MAX_ROW.true, ← m.names-names.ensures, ← m.all_named-named.ensures, c.if-named.true)
+    rw (good c.before.before.before.before, le-leb _ _ c.if-row-le-MAX_ROW.true, ← c.names-names.ensures, ← c.all_named-named.ensures, c.if-named.true)
 
 returns-2 : tie.Need-returns-then-row-le-MAX_ROW
 unfolding row_tested
 returns-2 c =
-    let m = c in
-    rw (good m.before.before.before.before, le-leb _ _ m.if-row-le-MAX_ROW.true, ← m.names-names.ensures, ← m.all_named-named.ensures, c.if-named.false)
+    rw (good c.before.before.before.before, le-leb _ _ c.if-row-le-MAX_ROW.true, ← c.names-names.ensures, ← c.all_named-named.ensures, c.if-named.false)
 
 returns-3 : tie.Need-returns-then-good
 unfolding row_tested

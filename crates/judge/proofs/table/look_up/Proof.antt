@@ -7,34 +7,25 @@ use Rattle.judge.proofs.table.look_up.Statement.{statement}
 use Rattle.judge.proofs.table.look_up.Tie as tie
 
 -- places: the start, and where the latest name is tried
-abbrev start : tie.After-slot_of-slot → tie.Start
-start c = c.before.before.before
-
-abbrev tried : tie.Then-told_by_key → tie.After-slot_of-slot
-tried c = c.before.before.before.before
 
 begun : (c : tie.After-slot_of-slot)
     → let a = c.args in Entered (parts_in a.text.now a.names.now a.n) a.name.now (get_or a.heads.now c.slot_of-slot.result 0)
-begun c = let s = c in slot-starts s.requires.0 (s.requires.1, c.slot_of-slot.ensures.0, c.slot_of-slot.ensures.1)
+begun c = slot-starts c.requires.0 (c.requires.1, c.slot_of-slot.ensures.0, c.slot_of-slot.ensures.1)
 
 few : (c : tie.After-slot_of-slot) → get_or c.args.heads.now c.slot_of-slot.result 0 ≤ max_atoms
 few c = walk-fits c.requires.0 (begun c)
 
 returns : tie.Need-returns-then-told_by_key
 returns c =
-    let t = c in
-    let k = t in
-    let s = t in (
-      told-ends s.requires.0 (begun t.before.before.before.before) (c.told_by_key.ensures c.if-told_by_key.true) s.requires.1
-          (λ i. omega (arith, k.shared_slice_known-1.given i)) (λ i. omega (arith, k.shared_slice_known-2-1.given i)),
-      few t.before.before.before.before,
+    (
+      told-ends c.requires.0 (begun c.before.before.before.before) (c.told_by_key.ensures c.if-told_by_key.true) c.requires.1
+          (λ i. omega (arith, c.shared_slice_known-1.given i)) (λ i. omega (arith, c.shared_slice_known-2-1.given i)),
+      few c.before.before.before.before,
     )
 
 find-requires : tie.Need-find-requires
 find-requires c κs =
-    let t = c in
-    let s = t in
-    (s.requires.0, (s.requires.1, t.slot_of-slot.ensures.0, t.slot_of-slot.ensures.1))
+    (c.requires.0, (c.requires.1, c.slot_of-slot.ensures.0, c.slot_of-slot.ensures.1))
 
 pub look_up_spec : {M : Type 1} → statement M
 look_up_spec =

@@ -20,9 +20,8 @@ returns c = same-lengths c.args.a.now c.args.b.now c.if-n-b.true
 
 returns-2 : tie.Need-returns-then-n-le8 invariant-loop decreases-loop
 returns-2 c =
-    let s = c in
-    key-tells s.args.a.now s.args.b.now c.if-n-b.false c.if-n-le8.true
-    (λ i. omega (arith, c.shared_slice_known-1.given i)) (λ i. omega (arith, c.shared_slice_known-2-1.given i)) s.requires
+    key-tells c.args.a.now c.args.b.now c.if-n-b.false c.if-n-le8.true
+    (λ i. omega (arith, c.shared_slice_known-1.given i)) (λ i. omega (arith, c.shared_slice_known-2-1.given i)) c.requires
 
 sub-last : tie.Need-overflow_sub-last invariant-loop decreases-loop
 sub-last c = omega arith
@@ -35,8 +34,7 @@ same-eight-requires c κs = (omega arith, omega (arith, same-long c.before))
 
 returns-3 : tie.Need-returns-else-same_eight invariant-loop decreases-loop
 returns-3 c =
-    let s = c in
-    eight-differ s.args.a.now s.args.b.now _ (sym c.same_eight.ensures ∙ c.if-same_eight.false)
+    eight-differ c.args.a.now c.args.b.now _ (sym c.same_eight.ensures ∙ c.if-same_eight.false)
 
 add-i : tie.Need-overflow_add-i invariant-loop decreases-loop
 add-i c = omega arith
@@ -46,18 +44,14 @@ loop-less c = omega arith
 
 loop-again : tie.Need-loop-i-preserved invariant-loop decreases-loop
 loop-again c =
-    let t = c in
-    let s = t in
-    eight-more s.args.a.now s.args.b.now _ (sym c.same_eight.ensures ∙ c.if-same_eight.true) t.loop-i.invariant
+    eight-more c.args.a.now c.args.b.now _ (sym c.same_eight.ensures ∙ c.if-same_eight.true) c.loop-i.invariant
 
 same-eight-requires-2 : tie.Need-same_eight-requires-2 invariant-loop decreases-loop
 same-eight-requires-2 c κs = (omega arith, omega (arith, same-long c.before))
 
 returns-4 : tie.Need-returns invariant-loop decreases-loop
 returns-4 c =
-    let s = c in
-    let t = c in
-    eight-last s.args.a.now s.args.b.now t.loop-i.i _ _ refl (same-long t.before.before) (omega arith) c.loop-i-test.false t.loop-i.invariant
+    eight-last c.args.a.now c.args.b.now c.loop-i.i _ _ refl (same-long c.before.before) (omega arith) c.loop-i-test.false c.loop-i.invariant
     c.same_eight-2.ensures
 
 pub same_name_spec : {M : Type 1} → statement M

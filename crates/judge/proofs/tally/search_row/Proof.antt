@@ -23,12 +23,12 @@ abbrev name : tie.In-loop-i invariant-loop decreases-loop → ℕ
 name c = get_or c.args.row.now c.loop-i.i 0
 
 number : (c : tie.In-loop-i invariant-loop decreases-loop) → name c ≤ 64
-number c = let s = c in upto-at 64 s.args.row.now s.requires.1 c.loop-i.i c.loop-i-test.true
+number c = upto-at 64 c.args.row.now c.requires.1 c.loop-i.i c.loop-i-test.true
 
 short : (c : tie.In-loop-i invariant-loop decreases-loop) → c.loop-i.i ≤ 4096
 short c = omega (arith, c.loop-i-test.true, c.requires.0)
 
-free : (c : tie.Else-is_full invariant-loop decreases-loop) → let i = c in one_left ≤ get_or i.loop-i.words (128 + name i.before.before.before.before.before) 0
+free : (c : tie.Else-is_full invariant-loop decreases-loop) → one_left ≤ get_or c.loop-i.words (128 + name c.before.before.before.before.before) 0
 free c = ltb-false _ _ (sym c.is_full.ensures ∙ c.if-is_full.false)
 
 loop-holds : tie.Need-loop-i-init invariant-loop decreases-loop
@@ -57,12 +57,11 @@ is-full-requires c κs = search rules
 
 returns : tie.Need-returns-then-is_full invariant-loop decreases-loop
 returns c =
-    let i = c in
-    let l = i in (
+    (
       λ us t. row_told
-          (row-stops (l.loop-i.invariant.2 us t) i.loop-i-test.true (omega (arith, short i.before.before.before.before.before)) refl (number i.before.before.before.before.before)
-          (rw (seen_at l.loop-i.words (name i.before.before.before.before.before)) (ltb-true _ _ (sym c.is_full.ensures ∙ c.if-is_full.true)))),
-      l.loop-i.invariant.1,
+          (row-stops (c.loop-i.invariant.2 us t) c.loop-i-test.true (omega (arith, short c.before.before.before.before.before)) refl (number c.before.before.before.before.before)
+          (rw (seen_at c.loop-i.words (name c.before.before.before.before.before)) (ltb-true _ _ (sym c.is_full.ensures ∙ c.if-is_full.true)))),
+      c.loop-i.invariant.1,
     )
 
 cast-noted : tie.Need-overflow_cast-i invariant-loop decreases-loop
@@ -88,20 +87,16 @@ loop-less c = search rules
 
 loop-again : tie.Need-loop-i-preserved invariant-loop decreases-loop
 loop-again c =
-    let k = c in
-    let i = k in
-    let l = i in
-    let e = seen_at l.loop-i.words (name i.before.before.before.before.before.before) in (
-      omega (arith, i.loop-i-test.true),
-      same_set l.args.words.now l.loop-i.words l.loop-i.invariant.1 (name i.before.before.before.before.before.before) c.noted.result,
-      λ us t. rw (seen-set l.loop-i.words (name i.before.before.before.before.before.before) c.noted.result)
-          (row_goes (l.loop-i.invariant.2 us t) i.loop-i-test.true (omega (arith, short i.before.before.before.before.before.before)) refl (number i.before.before.before.before.before.before) (rw e (free k.before)) (rw e c.noted.ensures)),
+    let e = seen_at c.loop-i.words (name c.before.before.before.before.before.before) in (
+      omega (arith, c.loop-i-test.true),
+      same_set c.args.words.now c.loop-i.words c.loop-i.invariant.1 (name c.before.before.before.before.before.before) c.noted.result,
+      λ us t. rw (seen-set c.loop-i.words (name c.before.before.before.before.before.before) c.noted.result)
+          (row_goes (c.loop-i.invariant.2 us t) c.loop-i-test.true (omega (arith, short c.before.before.before.before.before.before)) refl (number c.before.before.before.before.before.before) (rw e (free c.before)) (rw e c.noted.ensures)),
     )
 
 returns-2 : tie.Need-returns invariant-loop decreases-loop
 returns-2 c =
-    let l = c in
-    (λ us t. row_ends (l.loop-i.invariant.2 us t) c.loop-i-test.false (omega (arith, l.requires.0)), l.loop-i.invariant.1)
+    (λ us t. row_ends (c.loop-i.invariant.2 us t) c.loop-i-test.false (omega (arith, c.requires.0)), c.loop-i.invariant.1)
 
 pub search_row_spec : {M : Type 1} → statement M
 search_row_spec =

@@ -10,10 +10,7 @@ use Rattle.lister.proofs.line.line_length.Statement.{statement}
 use Rattle.lister.proofs.line.line_length.Tie as tie
 
 -- the call, from where the ends of the fields are known; that, from where the children are counted; and that, from the word's length
-abbrev ends : tie.After-times_in-children → tie.After-first_fields-ends
-ends c = c.before.before
-abbrev counted : tie.After-word_length → tie.After-times_in-children
-counted c = c.before.before
+
 three : (c : tie.After-first_fields-ends) → Three c.args.cue.now c.first_fields-ends.result
 three c = cue-three c.first_fields-ends.ensures.0 c.requires
 
@@ -37,31 +34,24 @@ sub-fields-2 c = omega (arith, (three c.before.before.before).ascending)
 
 add-result : tie.Need-overflow_add-result
 add-result c =
-    let e = c in
-    omega (arith, (three e.before.before.before.before).ascending, c.word_length.ensures, word-short e.args.said, e.requires.short)
+    omega (arith, (three c.before.before.before.before).ascending, c.word_length.ensures, word-short c.args.said, c.requires.short)
 
 number-length-requires : tie.Need-number_length-requires
 number-length-requires c κs = omega (arith, children-are c.before.before, c.requires.few)
 
 add-result-2 : tie.Need-overflow_add-result-2
 add-result-2 c =
-    let w = c in
-    let e = w in
-    let digits-few = digits-length 4 w.times_in-children.result (omega (arith, children-are w.before.before.before, e.requires.few)) in
-    omega (arith, (three e.before.before.before.before.before).ascending, w.word_length.ensures, word-short e.args.said, e.requires.short, c.number_length.ensures, digits-few)
+    let digits-few = digits-length 4 c.times_in-children.result (omega (arith, children-are c.before.before.before, c.requires.few)) in
+    omega (arith, (three c.before.before.before.before.before).ascending, c.word_length.ensures, word-short c.args.said, c.requires.short, c.number_length.ensures, digits-few)
 
 add-result-3 : tie.Need-overflow_add-result-3
 add-result-3 c =
-    let w = c in
-    let e = w in
-    let digits-few = digits-length 4 w.times_in-children.result (omega (arith, children-are w.before.before.before, e.requires.few)) in
-    omega (arith, (three e.before.before.before.before.before).ascending, w.word_length.ensures, word-short e.args.said, e.requires.short, c.number_length.ensures, digits-few)
+    let digits-few = digits-length 4 c.times_in-children.result (omega (arith, children-are c.before.before.before, c.requires.few)) in
+    omega (arith, (three c.before.before.before.before.before).ascending, c.word_length.ensures, word-short c.args.said, c.requires.short, c.number_length.ensures, digits-few)
 
 returns : tie.Need-returns
 returns c =
-    let w = c in
-    let e = w in
-    omega (arith, w.word_length.ensures, c.number_length.ensures, line-length e.args.said (three e.before.before.before.before.before) (children-are w.before.before.before))
+    omega (arith, c.word_length.ensures, c.number_length.ensures, line-length c.args.said (three c.before.before.before.before.before) (children-are c.before.before.before))
 
 pub line_length_spec : {M : Type 1} → statement M
 line_length_spec =

@@ -5,23 +5,19 @@ use Rattle.lister.proofs.line.put_word.Tie as tie
 
 returns : tie.Need-returns-in-Complete
 returns c =
-    let p = c in
-    rw p.in-Complete.is p.put.ensures
+    rw c.in-Complete.is c.put.ensures
 
 returns-2 : tie.Need-returns-in-Open
 returns-2 c =
-    let p = c in
-    rw p.in-Open.is p.put-in-Open.ensures
+    rw c.in-Open.is c.put-in-Open.ensures
 
 returns-3 : tie.Need-returns-in-Dead
 returns-3 c =
-    let p = c in
-    rw p.in-Dead.is p.put-in-Dead.ensures
+    rw c.in-Dead.is c.put-in-Dead.ensures
 
 returns-4 : tie.Need-returns-in-NoSheet
 returns-4 c =
-    let p = c in
-    rw p.in-NoSheet.is p.put-in-NoSheet.ensures
+    rw c.in-NoSheet.is c.put-in-NoSheet.ensures
 
 pub put_word_spec : {M : Type 1} → statement M
 put_word_spec =

@@ -11,10 +11,7 @@ use Rattle.lister.proofs.line.write_line.Statement.{statement}
 use Rattle.lister.proofs.line.write_line.Tie as tie
 
 -- the call, from where the ends of the fields are known; that, from where the children are counted; then back from each piece to the one before it
-abbrev ends : tie.After-times_in-children → tie.After-first_fields-ends
-ends c = c.before.before
-abbrev counted : tie.After-put-a → tie.After-times_in-children
-counted c = c.before.before.before
+
 three : (c : tie.After-first_fields-ends) → Three c.args.cue.now c.first_fields-ends.result
 three c = cue-three c.first_fields-ends.ensures.0 c.requires.0
 
@@ -25,8 +22,7 @@ room : (c : tie.After-times_in-children)
     → let a = c.args in
     length (pieces a.cue.now c.first_fields-ends.result a.said c.times_in-children.result) ≤ length a.buffer.now
 room c =
-    let s = c in
-    omega (arith, s.requires.1, ap length (pieces_are s.args.said (three c.before.before) (children-are c)))
+    omega (arith, c.requires.1, ap length (pieces_are c.args.said (three c.before.before) (children-are c)))
 
 add-times-in : tie.Need-overflow_add-second
 add-times-in c = omega (arith, (three c).ascending)
@@ -63,20 +59,13 @@ part-put-end-2 c = omega (arith, (three c.before.before.before.before.before.bef
 
 returns : tie.Need-returns
 returns c =
-    let f = c in
-    let e = f in
-    let w = e in
-    let d = w in
-    let b = d in
-    let a = b in
-    let n = a in
-    let number = begun-put _ _ (begun-none (room n.before.before.before.before.before.before.before.before.before.before.before.before.before.before.before.before.before.before.before.before.before.before.before.before.before.before.before.before.before.before)) a.put-a.ensures.0 a.put-a.ensures.1 in
-    let parted = begun-put (tab ∷ []) _ number b.put-b.ensures.0 b.put-b.ensures.1 in
-    let kind = begun-put _ _ parted d.put-c.ensures.0 d.put-c.ensures.1 in
-    let said = begun-put _ _ kind w.put_word-d.ensures.0 w.put_word-d.ensures.1 in
-    let count = begun-put _ _ said e.put_number-e.ensures.0 e.put_number-e.ensures.1 in
-    rw (← pieces_are n.args.said (three n.before.before.before.before.before.before.before.before.before.before.before.before.before.before.before.before.before.before.before.before.before.before.before.before.before.before.before.before.before.before.before.before) (children-are n.before.before.before.before.before.before.before.before.before.before.before.before.before.before.before.before.before.before.before.before.before.before.before.before.before.before.before.before.before.before))
-    (begun-end (begun-put (line_feed ∷ []) [] count f.put.ensures.0 f.put.ensures.1))
+    let number = begun-put _ _ (begun-none (room c.before.before.before.before.before.before.before.before.before.before.before.before.before.before.before.before.before.before.before.before.before.before.before.before.before.before.before.before.before.before)) c.put-a.ensures.0 c.put-a.ensures.1 in
+    let parted = begun-put (tab ∷ []) _ number c.put-b.ensures.0 c.put-b.ensures.1 in
+    let kind = begun-put _ _ parted c.put-c.ensures.0 c.put-c.ensures.1 in
+    let said = begun-put _ _ kind c.put_word-d.ensures.0 c.put_word-d.ensures.1 in
+    let count = begun-put _ _ said c.put_number-e.ensures.0 c.put_number-e.ensures.1 in
+    rw (← pieces_are c.args.said (three c.before.before.before.before.before.before.before.before.before.before.before.before.before.before.before.before.before.before.before.before.before.before.before.before.before.before.before.before.before.before.before.before) (children-are c.before.before.before.before.before.before.before.before.before.before.before.before.before.before.before.before.before.before.before.before.before.before.before.before.before.before.before.before.before.before))
+    (begun-end (begun-put (line_feed ∷ []) [] count c.put.ensures.0 c.put.ensures.1))
 
 pub write_line_spec : {M : Type 1} → statement M
 write_line_spec =

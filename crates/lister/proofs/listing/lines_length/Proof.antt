@@ -20,8 +20,7 @@ abbrev decreases-loop : tie.decreases-loop-at
 decreases-loop cues codes length₀ n₀ at₀ len n at = length cues - at
 
 -- the call, from a turn of the loop; the turn, from the end of its line; that end, from where the line's length is known
-abbrev loop : tie.After-part_end-end invariant-loop decreases-loop → tie.At-loop-at invariant-loop decreases-loop
-loop c = c.before.before
+
 cue : (c : tie.After-part_end-end invariant-loop decreases-loop) → Cue c.args.cues.now c.loop-at.n c.loop-at.at c.part_end-end.result
 cue c = before-cue c.loop-at.invariant.0 c.loop-at-test.true c.part_end-end.ensures
 
@@ -62,22 +61,20 @@ loop-less c = omega (arith, (cue c.before.before.before.before).bounds)
 
 loop-again : tie.Need-loop-at-preserved invariant-loop decreases-loop
 loop-again c =
-    let l = c in
-    let a = l.args in
-    let line = listing_line (part a.cues.now l.loop-at.at c.part_end-end.result) c.decode-said.result in
-    let next = ap length (coded-next a.codes.now l.loop-at.invariant.1 (cue c.before.before.before.before) c.decode-said.ensures) in
+    let a = c.args in
+    let line = listing_line (part a.cues.now c.loop-at.at c.part_end-end.result) c.decode-said.result in
+    let next = ap length (coded-next a.codes.now c.loop-at.invariant.1 (cue c.before.before.before.before) c.decode-said.ensures) in
     let more = next ∙ length-append (line ++ (line_feed ∷ [])) _ in (
       (cue c.before.before.before.before).next,
-      l.loop-at.invariant.1,
-      omega (arith, l.loop-at.invariant.2, more, length-append line (line_feed ∷ []), c.line_length-length.ensures),
-      omega (arith, l.loop-at.invariant.3, short c),
+      c.loop-at.invariant.1,
+      omega (arith, c.loop-at.invariant.2, more, length-append line (line_feed ∷ []), c.line_length-length.ensures),
+      omega (arith, c.loop-at.invariant.3, short c),
     )
 
 returns : tie.Need-returns invariant-loop decreases-loop
 returns c =
-    let l = c in
-    let done = ap length (coded-end l.args.codes.now l.loop-at.invariant.0 c.loop-at-test.false) in
-    (omega (arith, l.loop-at.invariant.2, done), omega (arith, l.loop-at.invariant.3, l.loop-at.invariant.0.below, l.loop-at.invariant.0.good.short, l.loop-at.invariant.0.stand.within))
+    let done = ap length (coded-end c.args.codes.now c.loop-at.invariant.0 c.loop-at-test.false) in
+    (omega (arith, c.loop-at.invariant.2, done), omega (arith, c.loop-at.invariant.3, c.loop-at.invariant.0.below, c.loop-at.invariant.0.good.short, c.loop-at.invariant.0.stand.within))
 
 pub lines_length_spec : {M : Type 1} → statement M
 lines_length_spec =

@@ -44,47 +44,35 @@ coded c = let n = c in coded-all (sheet n.before.before.before.before) (cues n.b
 
 returns : tie.Need-returns-in-Refused
 returns c =
-    let l = c in
-    let a = l.args in
-    (listed-sheet a.sheet.now a.cues.now (length a.buffer.now) (told l.before ∙ c.in-Refused.is), refl)
+    let a = c.args in
+    (listed-sheet a.sheet.now a.cues.now (length a.buffer.now) (told c.before ∙ c.in-Refused.is), refl)
 
 returns-2 : tie.Need-returns-in-Refused-read_cues
 returns-2 c =
-    let r = c in
-    let a = r.args in
-    let refused = sym r.read_cues.ensures ∙ c.in-Refused-read_cues.is in
-    (listed-cues a.sheet.now a.cues.now (length a.buffer.now) (sheet-read r.before.before) refused, refl)
+    let a = c.args in
+    let refused = sym c.read_cues.ensures ∙ c.in-Refused-read_cues.is in
+    (listed-cues a.sheet.now a.cues.now (length a.buffer.now) (sheet-read c.before.before) refused, refl)
 
 say-all-requires : tie.Need-say_all-requires
 say-all-requires c κs =
-    let n = c in
-    let s = n in
-    (rw s.read_sheet-read.ensures (sheet-loaded _ (sheet-read s.before.before.before.before.before)), good n.before.before.before, search rules)
+    (rw c.read_sheet-read.ensures (sheet-loaded _ (sheet-read c.before.before.before.before.before)), good c.before.before.before, search rules)
 
 part-write-listing-end : tie.Need-slice_bounds-write_listing-end
 part-write-listing-end c =
-    let w = c in
-    let n = w in
-    let room : length w.no_codes-codes.result ≡ 65535 = search rules in
-    omega (arith, count_is n.before.before.before.before.before.before, lines-few (cues n.before.before.before.before.before.before), (good n.before.before.before.before.before.before).short, w.say_all.auto.codes, room)
+    let room : length c.no_codes-codes.result ≡ 65535 = search rules in
+    omega (arith, count_is c.before.before.before.before.before.before, lines-few (cues c.before.before.before.before.before.before), (good c.before.before.before.before.before.before).short, c.say_all.auto.codes, room)
 
 write-listing-requires : tie.Need-write_listing-requires
 write-listing-requires c κs =
-    let w = c in
-    let n = w in
-    cues-coded (sheet n.before.before.before.before.before.before.before) (cues n.before.before.before.before.before.before.before) (coded w.before.before.before) (good n.before.before.before.before.before.before.before)
+    cues-coded (sheet c.before.before.before.before.before.before.before) (cues c.before.before.before.before.before.before.before) (coded c.before.before.before) (good c.before.before.before.before.before.before.before)
 
 returns-3 : tie.Need-returns
 returns-3 c =
-    let p = c in
-    let w = p in
-    let n = w in
-    let s = n in
-    let old = s.args.buffer.now in
-    let listing-is = listing-coded (sheet n.before.before.before.before.before.before.before.before.before.before) (cues n.before.before.before.before.before.before.before.before.before.before) (coded w.before.before.before.before.before.before) in
-    let answer = p.write_listing.ensures.0 ∙ ap (λ x. by_room x (length old)) listing-is in (
-      answer ∙ listed-room (sheet n.before.before.before.before.before.before.before.before.before.before) (cues n.before.before.before.before.before.before.before.before.before.before) (length old) (sheet-read s.before.before.before.before.before.before.before.before.before.before.before.before) (cues-read n.before.before.before.before.before.before.before.before.before.before),
-      p.write_listing.ensures.1 ∙ ap (λ x. buffer_after p.write_listing.result x old) listing-is,
+    let old = c.args.buffer.now in
+    let listing-is = listing-coded (sheet c.before.before.before.before.before.before.before.before.before.before) (cues c.before.before.before.before.before.before.before.before.before.before) (coded c.before.before.before.before.before.before) in
+    let answer = c.write_listing.ensures.0 ∙ ap (λ x. by_room x (length old)) listing-is in (
+      answer ∙ listed-room (sheet c.before.before.before.before.before.before.before.before.before.before) (cues c.before.before.before.before.before.before.before.before.before.before) (length old) (sheet-read c.before.before.before.before.before.before.before.before.before.before.before.before) (cues-read c.before.before.before.before.before.before.before.before.before.before),
+      c.write_listing.ensures.1 ∙ ap (λ x. buffer_after c.write_listing.result x old) listing-is,
     )
 
 pub list_spec : {M : Type 1} → statement M

@@ -8,16 +8,12 @@ use Rattle.lister.proofs.listing.say.Tie as tie
 
 returns : tie.Need-returns-then-third-cue
 returns c =
-    let t = c in
-    let s = t in
-    let said-is = say-some s.requires (part-at-place s.args.sheet.now s.args.place) t.first_fields-ends.ensures.0 t.if-third-cue.true in
+    let said-is = say-some c.requires (part-at-place c.args.sheet.now c.args.place) c.first_fields-ends.ensures.0 c.if-third-cue.true in
     c.said_from.ensures ∙ ap said_from c.judge_children.ensures ∙ said-is
 
 returns-2 : tie.Need-returns
 returns-2 c =
-    let e = c in
-    let s = e in
-    let said-is = say-none s.requires (part-at-place s.args.sheet.now s.args.place) e.first_fields-ends.ensures.0 e.if-third-cue.false in
+    let said-is = say-none c.requires (part-at-place c.args.sheet.now c.args.place) c.first_fields-ends.ensures.0 c.if-third-cue.false in
     c.said_from-2.ensures ∙ ap said_from c.judge_children-2.ensures ∙ said-is
 
 pub say_spec : {M : Type 1} → statement M

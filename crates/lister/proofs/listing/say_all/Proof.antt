@@ -17,8 +17,7 @@ abbrev decreases-loop : tie.decreases-loop-at
 decreases-loop sheet cues codes₀ rules kinds n₀ at₀ codes n at = length cues - at
 
 -- the call, from a turn of the loop; the turn, from the end of its line; that end, from where the number of the sheet's line is known
-abbrev loop : tie.After-part_end-end invariant-loop decreases-loop → tie.At-loop-at invariant-loop decreases-loop
-loop c = c.before.before
+
 cue : (c : tie.After-part_end-end invariant-loop decreases-loop) → Cue c.args.cues.now c.loop-at.n c.loop-at.at c.part_end-end.result
 cue c = before-cue c.loop-at.invariant.0 c.loop-at-test.true c.part_end-end.ensures
 
@@ -78,13 +77,11 @@ loop-less c = omega (arith, (cue c.before.before.before.before).bounds)
 
 loop-again : tie.Need-loop-at-preserved invariant-loop decreases-loop
 loop-again c =
-    let o = c in
-    let m = cue o.before.before.before.before in
-    let l = o in
-    let inv = l.loop-at.invariant in
-    let a = l.args in
-    let said-is = code-said inv.1 inv.2 m o.line_of-number.ensures _ (rw o.one_less-i.ensures at c.code_for.ensures) in
-    let coded = coded_set a.sheet.now a.cues.now l.loop-at.codes l.loop-at.n (free o.before.before.before.before) m.counted inv.4 said-is in
+    let m = cue c.before.before.before.before in
+    let inv = c.loop-at.invariant in
+    let a = c.args in
+    let said-is = code-said inv.1 inv.2 m c.line_of-number.ensures _ (rw c.one_less-i.ensures at c.code_for.ensures) in
+    let coded = coded_set a.sheet.now a.cues.now c.loop-at.codes c.loop-at.n (free c.before.before.before.before) m.counted inv.4 said-is in
     (m.next, inv.1, inv.2, rw length-set inv.3, coded)
 
 same_length : tie.Need-shape_of-codes invariant-loop decreases-loop

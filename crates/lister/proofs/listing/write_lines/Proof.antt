@@ -21,21 +21,18 @@ abbrev decreases-loop : tie.decreases-loop-at
 decreases-loop buffer₀ cues codes written₀ n₀ at₀ buffer written n at = length cues - at
 
 -- the call, from a turn of the loop; the turn and the end of its line, from where the line's verdict is known; and that, from the turn's end
-abbrev loop : tie.After-part_end-end invariant-loop decreases-loop → tie.At-loop-at invariant-loop decreases-loop
-loop c = c.before.before
+
 cue : (c : tie.After-part_end-end invariant-loop decreases-loop) → Cue c.args.cues.now c.loop-at.n c.loop-at.at c.part_end-end.result
 cue c = before-cue c.loop-at.invariant.0 c.loop-at-test.true c.part_end-end.ensures
 
 -- the line that is to be written, and those behind it
 abbrev line : tie.After-decode-said invariant-loop decreases-loop → Text
 line c =
-    let l = c in
-    listing_line (part l.args.cues.now l.loop-at.at c.part_end-end.result) c.decode-said.result ++ (line_feed ∷ [])
+    listing_line (part c.args.cues.now c.loop-at.at c.part_end-end.result) c.decode-said.result ++ (line_feed ∷ [])
 
 abbrev rest : tie.After-decode-said invariant-loop decreases-loop → Text
 rest c =
-    let l = c in
-    unlines (lines_coded (drop (l.loop-at.n + 1) l.args.codes.now) (drop (l.loop-at.n + 1) (lines l.args.cues.now)))
+    unlines (lines_coded (drop (c.loop-at.n + 1) c.args.codes.now) (drop (c.loop-at.n + 1) (lines c.args.cues.now)))
 
 begun : (c : tie.After-decode-said invariant-loop decreases-loop)
     → let l = c in
@@ -76,8 +73,7 @@ part-write-line-end-2 c = omega (arith, (cue c.before.before.before).bounds)
 
 write-line-requires : tie.Need-write_line-more-requires invariant-loop decreases-loop
 write-line-requires c κs =
-    let d = c in
-    ((cue d.before.before.before.before).fits, piece-room (line d.before.before) (rest d.before.before) (begun d.before.before))
+    ((cue c.before.before.before.before).fits, piece-room (line c.before.before) (rest c.before.before) (begun c.before.before))
 
 add-written : tie.Need-overflow_add-written invariant-loop decreases-loop
 add-written c = omega (arith, fits c.before.before.before.before.before, begun-length (begun c.before.before.before.before.before), c.write_line-more.ensures.end_is)
@@ -93,16 +89,14 @@ loop-less c = omega (arith, (cue c.before.before.before.before.before.before.bef
 
 loop-again : tie.Need-loop-at-preserved invariant-loop decreases-loop
 loop-again c =
-    let d = c in
-    ((cue d.before.before.before.before.before.before.before).next, d.loop-at.invariant.1, piece-put (line d.before.before.before.before.before) (rest d.before.before.before.before.before) (begun d.before.before.before.before.before) c.write_line-more.ensures)
+    ((cue c.before.before.before.before.before.before.before).next, c.loop-at.invariant.1, piece-put (line c.before.before.before.before.before) (rest c.before.before.before.before.before) (begun c.before.before.before.before.before) c.write_line-more.ensures)
 
 same_length : tie.Need-shape_of-buffer invariant-loop decreases-loop
 same_length c = begun-length c.loop-at.invariant.2
 
 returns : tie.Need-returns invariant-loop decreases-loop
 returns c =
-    let l = c in
-    begun_all (rw (coded-end l.args.codes.now l.loop-at.invariant.0 c.loop-at-test.false) at l.loop-at.invariant.2)
+    begun_all (rw (coded-end c.args.codes.now c.loop-at.invariant.0 c.loop-at-test.false) at c.loop-at.invariant.2)
 
 pub write_lines_spec : {M : Type 1} → statement M
 write_lines_spec =

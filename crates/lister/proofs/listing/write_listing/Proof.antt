@@ -12,8 +12,7 @@ use Rattle.lister.proofs.listing.write_listing.Statement.{statement}
 use Rattle.lister.proofs.listing.write_listing.Tie as tie
 
 -- the call, from where the last line is known; that, from where the lines are measured; that, from where they are written; that, from the end
-abbrev measured : tie.After-write_lines → tie.After-lines_length-above
-measured c = c.before.before.before
+
 abbrev above : tie.Start → Text
 above s = unlines (lines_coded s.args.codes.now (lines s.args.cues.now))
 
@@ -24,9 +23,7 @@ size : (c : tie.After-lines_length-above)
     → let a = c.args in
     c.lines_length-above.result + c.write_total-below.result ≡ length (listing_coded a.codes.now a.cues.now)
 size c =
-    let t = c in
-    let s = t in
-    omega (arith, c.lines_length-above.ensures.0, t.write_total-below.ensures.end_is, length-append (above s.before.before.before.before.before.before.before) (below s.before.before.before.before.before.before.before))
+    omega (arith, c.lines_length-above.ensures.0, c.write_total-below.ensures.end_is, length-append (above c.before.before.before.before.before.before.before) (below c.before.before.before.before.before.before.before))
 
 write-total-requires : tie.Need-write_total-below-requires
 write-total-requires c κs =
@@ -38,15 +35,12 @@ add-length c = let p = c.write_total-below.ensures in omega (arith, c.lines_leng
 
 returns : tie.Need-returns-then-buffer-length
 returns c =
-    let l = c in
-    let a = l.args in
-    (room-short (listing_coded a.codes.now a.cues.now) (size l.before) (length a.buffer.now) c.if-buffer-length.true, refl)
+    let a = c.args in
+    (room-short (listing_coded a.codes.now a.cues.now) (size c.before) (length a.buffer.now) c.if-buffer-length.true, refl)
 
 write-lines-requires : tie.Need-write_lines-requires
 write-lines-requires c κs =
-    let l = c in
-    let s = l in
-    (s.requires, omega (arith, size l.before.before, length-append (above s.before.before.before.before.before.before.before.before.before) (below s.before.before.before.before.before.before.before.before.before), c.if-buffer-length.false))
+    (c.requires, omega (arith, size c.before.before, length-append (above c.before.before.before.before.before.before.before.before.before) (below c.before.before.before.before.before.before.before.before.before), c.if-buffer-length.false))
 
 part-put-end : tie.Need-slice_bounds-put-end
 part-put-end c =
@@ -69,12 +63,9 @@ written c =
 
 returns-2 : tie.Need-returns
 returns-2 c =
-    let p = c in
-    let w = p in
-    let l = w in
-    let a = l.args in
+    let a = c.args in
     let x = listing_coded a.codes.now a.cues.now in
-    (room-enough x (size l.before.before.before.before.before.before.before.before.before.before) (length a.buffer.now) w.if-buffer-length.false, buffer-written x (size l.before.before.before.before.before.before.before.before.before.before) (written p.before.before))
+    (room-enough x (size c.before.before.before.before.before.before.before.before.before.before) (length a.buffer.now) c.if-buffer-length.false, buffer-written x (size c.before.before.before.before.before.before.before.before.before.before) (written c.before.before))
 
 pub write_listing_spec : {M : Type 1} → statement M
 write_listing_spec =

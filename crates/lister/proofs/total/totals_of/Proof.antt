@@ -6,11 +6,9 @@ use Rattle.lister.proofs.total.totals_of.Tie as tie
 
 returns : tie.Need-returns
 returns c =
-    let dead = c in
-    let open' = dead in
+    let open' = c in
     let complete = open' in
-    let s = complete in
-    totals-coded s.args.codes.now s.requires complete.times_said-complete.ensures open'.times_said-open.ensures dead.times_said-dead.ensures
+    totals-coded complete.args.codes.now complete.requires complete.times_said-complete.ensures open'.times_said-open.ensures c.times_said-dead.ensures
     c.times_said-nosheet.ensures
 
 pub totals_of_spec : {M : Type 1} → statement M

@@ -22,8 +22,7 @@ abbrev decreases-loop : tie.decreases-loop-i
 decreases-loop buffer₀ codes numbers end₀ i₀ buffer end i = 5 - i
 
 -- the call, from where the numbers are known; that from where `total` is put; that from a turn of the loop; that from its tab, and that from its number
-abbrev turn : tie.After-put-end-in-loop-i invariant-loop decreases-loop → tie.At-loop-i invariant-loop decreases-loop
-turn c = c.before.before.before.before.before
+
 abbrev numbers : tie.After-totals_of-totals invariant-loop decreases-loop → List ℕ
 numbers c = c.totals_of-totals.result
 
@@ -36,9 +35,8 @@ line_is c = ap (λ ns. bytes "total" ++ tabbed ns) c.totals_of-totals.ensures �
 
 room : (c : tie.After-totals_of-totals invariant-loop decreases-loop) → length (bytes "total" ++ tabbed (numbers c)) ≤ length c.args.buffer.now
 room c =
-    let s = c in
-    let codes = s.args.codes.now in
-    omega (arith, ap length (line_is c), total-short (words_coded codes) (omega (arith, length-map codes (λ v. word (decoded v)), s.requires.0)), s.requires.2)
+    let codes = c.args.codes.now in
+    omega (arith, ap length (line_is c), total-short (words_coded codes) (omega (arith, length-map codes (λ v. word (decoded v)), c.requires.0)), c.requires.2)
 
 -- a tab and a number more
 more : (c : tie.After-put_number-end invariant-loop decreases-loop)
@@ -76,8 +74,7 @@ same_length c = put-length (done c.before.before)
 
 returns : tie.Need-returns invariant-loop decreases-loop
 returns c =
-    let f = c in
-    rw (← line_is f.before.before.before.before.before.before.before.before.before.before.before.before.before.before) (done f.before.before)
+    rw (← line_is c.before.before.before.before.before.before.before.before.before.before.before.before.before.before) (done c.before.before)
 
 pub write_total_spec : {M : Type 1} → statement M
 write_total_spec =

@@ -6,11 +6,9 @@ use Rattle.sessions.proofs.session.is_intact.Tie as tie
 
 returns : tie.Need-returns-then-children-most
 returns c =
-    let n = c in
-    let t = n in
-    let a = t.args in
-    let fits = rw t.room_in-most.ensures at t.if-children-most.true in
-    intact-holds a.children a.names a.trail.now _ _ fits n.all_named-named.ensures c.all_free-rest.ensures
+    let a = c.args in
+    let fits = rw c.room_in-most.ensures at c.if-children-most.true in
+    intact-holds a.children a.names a.trail.now _ _ fits c.all_named-named.ensures c.all_free-rest.ensures
 
 returns-2 : tie.Need-returns-else-children-most
 returns-2 c =

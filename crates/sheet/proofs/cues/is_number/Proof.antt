@@ -38,9 +38,8 @@ loop-holds c =
 
 loop-again : tie.Need-loop-i-preserved Inv μ
 loop-again c =
-    let l = c in
-    let v = l.loop-i.invariant in
-    let b = digits-back (text_of l.before.before.before) l.loop-i.i (omega arith) (omega arith) in
+    let v = c.loop-i.invariant in
+    let b = digits-back (text_of c.before.before.before) c.loop-i.i (omega arith) (omega arith) in
     (v.0, omega arith, v.2, v.3, ap₂ ◌&&◌ c.is_digit-digit.ensures v.4 ∙ sym b)
 
 returns-3 : tie.Need-returns Inv μ

@@ -22,10 +22,6 @@ abbrev μ : tie.decreases-loop-at
 abbrev text : tie.After-is_ended Inv μ → Text
 text c = c.args.text.now
 
-abbrev loop : tie.After-part_end-end Inv μ → tie.At-loop-at Inv μ
-loop c = c.before.before
-abbrev end : tie.After-read_line Inv μ → tie.After-part_end-end Inv μ
-end c = c.before.before
 next : (c : tie.After-part_end-end Inv μ) → Next (text c.before.before.before.before) c.loop-at.n c.loop-at.at c.part_end-end.result
 next c = stand-next _ _ _ c.loop-at.invariant.0 _ c.loop-at-test.true c.part_end-end.ensures
 
@@ -44,16 +40,14 @@ loop-holds c =
 
 returns-3 : tie.Need-returns-in-Bad Inv μ
 returns-3 c =
-    let r = c in
-    let l = r.loop-at in
-    sym (l.invariant.3 ∙ cues-bad (next r.before.before.before) l.number (sym r.read_line.ensures ∙ c.in-Bad.is))
+    let l = c.loop-at in
+    sym (l.invariant.3 ∙ cues-bad (next c.before.before.before) l.number (sym c.read_line.ensures ∙ c.in-Bad.is))
 
 loop-again : tie.Need-loop-at-preserved Inv μ
 loop-again c =
-    let r = c in
-    let l = r.loop-at in
-    let s = next r.before.before.before in
-    (s.stand, omega arith, l.invariant.2, l.invariant.3 ∙ cues-next s l.number (sym r.read_line.ensures ∙ c.in-Number.is))
+    let l = c.loop-at in
+    let s = next c.before.before.before in
+    (s.stand, omega arith, l.invariant.2, l.invariant.3 ∙ cues-next s l.number (sym c.read_line.ensures ∙ c.in-Number.is))
 
 returns-4 : tie.Need-returns Inv μ
 returns-4 c = let l = c.loop-at in sym (l.invariant.3 ∙ cues-end l.invariant.0 l.number c.loop-at-test.false)

@@ -31,16 +31,14 @@ add-number c =
 
 loop-again : tie.Need-loop-i-preserved Inv μ
 loop-again c =
-    let l = c in
-    let v = l.loop-i.invariant in
+    let v = c.loop-i.invariant in
     let d = c.digit_value.ensures in
-    let b = c.shared_slice_known-in-loop-i-1.given l.loop-i.i in
-    (omega arith, v.1, omega (arith, value-more (text l.before.before.before) _ c.loop-i-test.true), rw add-one (omega arith))
+    let b = c.shared_slice_known-in-loop-i-1.given c.loop-i.i in
+    (omega arith, v.1, omega (arith, value-more (text c.before.before.before) _ c.loop-i-test.true), rw add-one (omega arith))
 
 returns : tie.Need-returns Inv μ
 returns c =
-    let l = c in
-    l.loop-i.invariant.2 ∙ ap value (take_all l.loop-i.i (text l.before) (omega arith))
+    c.loop-i.invariant.2 ∙ ap value (take_all c.loop-i.i (text c.before) (omega arith))
 
 pub value_of_spec : {M : Type 1} → statement M
 value_of_spec =

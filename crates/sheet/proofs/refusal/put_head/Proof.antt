@@ -5,18 +5,15 @@ use Rattle.sheet.proofs.refusal.put_head.Tie as tie
 
 returns : tie.Need-returns-in-Sheet
 returns c =
-    let p = c in
-    rw p.in-Sheet.is p.put.ensures
+    rw c.in-Sheet.is c.put.ensures
 
 returns-2 : tie.Need-returns-in-Cues
 returns-2 c =
-    let p = c in
-    rw p.in-Cues.is p.put-in-Cues.ensures
+    rw c.in-Cues.is c.put-in-Cues.ensures
 
 returns-3 : tie.Need-returns-in-Listing
 returns-3 c =
-    let p = c in
-    rw p.in-Listing.is p.put-in-Listing.ensures
+    rw c.in-Listing.is c.put-in-Listing.ensures
 
 pub put_head_spec : {M : Type 1} → statement M
 put_head_spec =

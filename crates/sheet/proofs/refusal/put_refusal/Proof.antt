@@ -15,16 +15,11 @@ room s = omega (arith, refusal-short s.args.source s.args.number s.args.line s.r
 
 returns : tie.Need-returns
 returns c =
-    let f = c in
-    let l = f in
-    let t = l in
-    let n = t in
-    let h = n in
-    let a = begun-put _ _ (begun-none (room h.before.before.before.before.before.before.before.before.before.before.before.before.before.before.before.before.before.before.before.before.before.before.before.before.before)) h.put_head-a.ensures.0 h.put_head-a.ensures.1 in
-    let b = begun-put _ _ a n.put_number-b.ensures.0 n.put_number-b.ensures.1 in
-    let d = begun-put (tab ∷ []) _ b t.put-c.ensures.0 t.put-c.ensures.1 in
-    let e = begun-put _ _ d l.put_number-d.ensures.0 l.put_number-d.ensures.1 in
-    begun-end (begun-put (line_feed ∷ []) [] e f.put.ensures.0 f.put.ensures.1)
+    let a = begun-put _ _ (begun-none (room c.before.before.before.before.before.before.before.before.before.before.before.before.before.before.before.before.before.before.before.before.before.before.before.before.before)) c.put_head-a.ensures.0 c.put_head-a.ensures.1 in
+    let b = begun-put _ _ a c.put_number-b.ensures.0 c.put_number-b.ensures.1 in
+    let d = begun-put (tab ∷ []) _ b c.put-c.ensures.0 c.put-c.ensures.1 in
+    let e = begun-put _ _ d c.put_number-d.ensures.0 c.put_number-d.ensures.1 in
+    begun-end (begun-put (line_feed ∷ []) [] e c.put.ensures.0 c.put.ensures.1)
 
 pub put_refusal_spec : {M : Type 1} → statement M
 put_refusal_spec =

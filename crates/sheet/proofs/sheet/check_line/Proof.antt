@@ -24,34 +24,28 @@ ruled c =
     }
 
 returns : tie.Need-returns-else-second-line
-returns c = let s = c in checked-few (kinds s.before.before.before) s.args.line.now s.requires c.if-second-line.false
+returns c = checked-few (kinds c.before.before.before) c.args.line.now c.requires c.if-second-line.false
 
 returns-2 : tie.Need-returns-else-third-line
 returns-2 c = checked-many (kinds c.before.before.before.before) (three c.before) c.if-third-line.false
 
 returns-3 : tie.Need-returns-else-same_bytes
 returns-3 c =
-    let t = c in
-    checked-word (kinds t.before.before.before.before.before.before.before.before.before) (three t.before.before.before.before.before.before) t.if-third-line.true (sym c.same_bytes.ensures ∙ c.if-same_bytes.false)
+    checked-word (kinds c.before.before.before.before.before.before.before.before.before) (three c.before.before.before.before.before.before) c.if-third-line.true (sym c.same_bytes.ensures ∙ c.if-same_bytes.false)
 
 returns-4 : tie.Need-returns-else-is_name
 returns-4 c =
-    let t = c in
-    checked-name (kinds t.before.before.before.before.before.before.before.before.before.before.before.before) (ruled t.before.before.before) (sym c.is_name.ensures ∙ c.if-is_name.false)
+    checked-name (kinds c.before.before.before.before.before.before.before.before.before.before.before.before) (ruled c.before.before.before) (sym c.is_name.ensures ∙ c.if-is_name.false)
 
 returns-5 : tie.Need-returns-else-number-eq0
 returns-5 c =
-    let n = c in
-    let t = n in
-    checked-again (kinds t.before.before.before.before.before.before.before.before.before.before.before.before.before.before.before) (ruled t.before.before.before.before.before.before) (sym t.is_name.ensures ∙ t.if-is_name.true)
-    n.number_of-number.ensures c.if-number-eq0.false
+    checked-again (kinds c.before.before.before.before.before.before.before.before.before.before.before.before.before.before.before) (ruled c.before.before.before.before.before.before) (sym c.is_name.ensures ∙ c.if-is_name.true)
+    c.number_of-number.ensures c.if-number-eq0.false
 
 returns-6 : tie.Need-returns
 returns-6 c =
-    let n = c in
-    let t = n in
-    checked-good (kinds t.before.before.before.before.before.before.before.before.before.before.before.before.before.before.before) (ruled t.before.before.before.before.before.before) (sym t.is_name.ensures ∙ t.if-is_name.true)
-    n.number_of-number.ensures c.if-number-eq0.true
+    checked-good (kinds c.before.before.before.before.before.before.before.before.before.before.before.before.before.before.before) (ruled c.before.before.before.before.before.before) (sym c.is_name.ensures ∙ c.if-is_name.true)
+    c.number_of-number.ensures c.if-number-eq0.true
 
 pub check_line_spec : {M : Type 1} → statement M
 check_line_spec =

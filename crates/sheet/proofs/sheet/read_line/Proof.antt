@@ -12,8 +12,7 @@ use Rattle.sheet.proofs.sheet.read_line.Statement.{statement}
 use Rattle.sheet.proofs.sheet.read_line.Tie as tie
 
 -- where answers look back to: the call, the ends of the fields, and the good check from behind the model
-abbrev ends : tie.In-Good → tie.After-first_fields-ends
-ends c = c.before.before
+
 good : (c : tie.In-Good)
     → (let a = c.args in line_checked (parts_of a.text.now a.kinds) (part a.text.now a.at a.end)) ≡ Good
 good c = sym c.check_line.ensures ∙ c.in-Good.is
@@ -21,19 +20,15 @@ good c = sym c.check_line.ensures ∙ c.in-Good.is
 fits : (c : tie.In-Good)
     → (let a = c.args in let h = c.first_fields-ends.result in
     (h.first + 1 ≤ h.second) × (h.second + 1 ≤ h.third) × (h.third ≤ length (part a.text.now a.at a.end)) × (a.at + h.third ≤ max_file))
-fits c = let s = c in heads-fit s.args.text.now s.args.kinds s.requires c.first_fields-ends.ensures.0 (good c)
+fits c = heads-fit c.args.text.now c.args.kinds c.requires c.first_fields-ends.ensures.0 (good c)
 
 returns : tie.Need-returns-in-Bad
 returns c =
-    let m = c in
-    check-refused c.bad_line.ensures (sym m.check_line.ensures ∙ c.in-Bad.is)
+    check-refused c.bad_line.ensures (sym c.check_line.ensures ∙ c.in-Bad.is)
 
 returns-2 : tie.Need-returns-in-Refused
 returns-2 c =
-    let o = c in
-    let m = o in
-    let k = m in
-    refused_model k.first_fields-ends.ensures.0 (good k.before.before.before.before) m.read_model-model.ensures o.in-Refused.is c.bad_line-in-Refused.ensures
+    refused_model c.first_fields-ends.ensures.0 (good c.before.before.before.before) c.read_model-model.ensures c.in-Refused.is c.bad_line-in-Refused.ensures
 
 place-in-requires : tie.Need-place_in-kind-requires
 place-in-requires c κs = let s = fits c.before.before.before.before.before in (omega arith, omega arith)
@@ -43,11 +38,8 @@ place-in-requires-2 c κs = let s = fits c.before.before.before.before.before.be
 
 returns-3 : tie.Need-returns
 returns-3 c =
-    let n = c in
-    let o = n in
-    let k = n in
-    model-read k.first_fields-ends.ensures.0 (good k.before.before.before.before.before.before.before) o.read_model-model.ensures
-    c.place_in-kind.ensures c.place_in-place.ensures o.in-Read.is
+    model-read c.first_fields-ends.ensures.0 (good c.before.before.before.before.before.before.before) c.read_model-model.ensures
+    c.place_in-kind.ensures c.place_in-place.ensures c.in-Read.is
 
 pub read_line_spec : {M : Type 1} → statement M
 read_line_spec =

@@ -19,10 +19,6 @@ abbrev μ : tie.decreases-loop-at
 abbrev text : tie.At-loop-at Inv μ → Text
 text l = l.args.text.now
 
-abbrev loop : tie.After-part_end-end Inv μ → tie.At-loop-at Inv μ
-loop c = c.before.before.before
-abbrev line : tie.After-entry-1 Inv μ → tie.After-read_line-line Inv μ
-line c = c.before.before.before
 bounds : (c : tie.After-part_end-end Inv μ) → (c.loop-at.at ≤ c.part_end-end.result) × (c.part_end-end.result ≤ length (text c.before.before.before))
 bounds c = end-bounds (text c.before.before.before) line_feed _ _ (omega arith) c.part_end-end.ensures
 
@@ -34,27 +30,22 @@ loop-holds c = let p = c.requires in (gone-start c.no_rules-none.ensures p.1, p.
 
 returns : tie.Need-returns-then-n-eq-MAX_RULES Inv μ
 returns c =
-    let i = c in
-    c.refused.ensures ∙ gone-many i.loop-at.invariant.0 c.if-n-eq-MAX_RULES.true i.loop-at-test.true
+    c.refused.ensures ∙ gone-many c.loop-at.invariant.0 c.if-n-eq-MAX_RULES.true c.loop-at-test.true
 
 read-line-requires : tie.Need-read_line-line-requires Inv μ
 read-line-requires c κs = ((bounds c).0, (bounds c).1, c.loop-at.invariant.1)
 
 returns-2 : tie.Need-returns-in-Bad Inv μ
 returns-2 c =
-    let r = c in
-    let e = r in
     c.refused-in-Bad.ensures
-    ∙ gone-bad e.loop-at.invariant.0 (room e.before.before.before) e.loop-at-test.true e.part_end-end.ensures r.read_line-line.ensures
+    ∙ gone-bad c.loop-at.invariant.0 (room c.before.before.before) c.loop-at-test.true c.part_end-end.ensures c.read_line-line.ensures
     c.in-Bad.is
 
 loop-again : tie.Need-loop-at-preserved Inv μ
 loop-again c =
-    let r = c in
-    let e = r in
-    let v = e.loop-at.invariant in
+    let v = c.loop-at.invariant in
     let g = c.in-Good.is in
-    (gone-next v.0 (room e.before.before.before.before) e.loop-at-test.true e.part_end-end.ensures r.read_line-line.ensures g, v.1)
+    (gone-next v.0 (room c.before.before.before.before) c.loop-at-test.true c.part_end-end.ensures c.read_line-line.ensures g, v.1)
 
 returns-3 : tie.Need-returns Inv μ
 returns-3 c = gone-end c.loop-at.invariant.0 c.loop-at-test.false

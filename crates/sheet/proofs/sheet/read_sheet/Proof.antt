@@ -20,13 +20,11 @@ read-lines-requires c κs = (c.if-text-gt-MAX_FILE.false, (same_text-is (behind 
 
 returns-2 : tie.Need-returns-then-is_ended
 returns-2 c =
-    let t = c in
-    c.read_lines.ensures ∙ sheet-begin (text t.before.before) t.if-text-gt-MAX_FILE.false (ended t.before)
+    c.read_lines.ensures ∙ sheet-begin (text c.before.before) c.if-text-gt-MAX_FILE.false (ended c.before)
 
 returns-3 : tie.Need-returns
 returns-3 c =
-    let e = c in
-    c.refused-2.ensures ∙ sheet-unended (text e.before.before) e.if-text-gt-MAX_FILE.false (sym e.is_ended.ensures ∙ e.if-is_ended.false)
+    c.refused-2.ensures ∙ sheet-unended (text c.before.before) c.if-text-gt-MAX_FILE.false (sym c.is_ended.ensures ∙ c.if-is_ended.false)
 
 pub read_sheet_spec : {M : Type 1} → statement M
 read_sheet_spec =

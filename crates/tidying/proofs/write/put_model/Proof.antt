@@ -5,17 +5,14 @@ use Rattle.tidying.proofs.write.put_model.Statement.{statement}
 use Rattle.tidying.proofs.write.put_model.Tie as tie
 
 -- the call, from where the answer is told; and the start
-abbrev start : tie.After-write_model → tie.Start
-start c = c.before.before.before.before
+
 returns : tie.Need-returns-in-Length
 returns c =
-    let w = c in
-    model-put _ w.requires w.write_model.ensures.0 w.write_model.ensures.1 c.in-Length.is
+    model-put _ c.requires c.write_model.ensures.0 c.write_model.ensures.1 c.in-Length.is
 
 returns-2 : tie.Need-returns-in-Refused
 returns-2 c =
-    let w = c in
-    model-not-refused w.args.buffer.now w.requires w.write_model.ensures.0 c.in-Refused.is
+    model-not-refused c.args.buffer.now c.requires c.write_model.ensures.0 c.in-Refused.is
 
 pub put_model_spec : {M : Type 1} → statement M
 put_model_spec =

@@ -18,8 +18,7 @@ abbrev decreases-loop : tie.decreases-loop-at
 decreases-loop sheet line₀ total₀ at₀ line total at = length sheet - at
 
 -- the call, from a turn of the loop; the turn, from the end of its line; that end, from where the line's length is known
-abbrev loop : tie.After-part_end-end invariant-loop decreases-loop → tie.At-loop-at invariant-loop decreases-loop
-loop c = c.before.before
+
 rule : (c : tie.After-part_end-end invariant-loop decreases-loop) → RuleAt c.args.sheet.now c.loop-at.at c.part_end-end.result
 rule c = rule-next c.loop-at.invariant.0 c.loop-at-test.true c.part_end-end.ensures
 
@@ -46,8 +45,7 @@ write-rule-requires c κs =
 
 add_total : tie.Need-overflow_add-total invariant-loop decreases-loop
 add_total c =
-    let e = c in
-    omega (arith, (rule e.before.before.before.before).bounds, e.loop-at.invariant.3, short c.before)
+    omega (arith, (rule c.before.before.before.before).bounds, c.loop-at.invariant.3, short c.before)
 
 add_at : tie.Need-overflow_add-at invariant-loop decreases-loop
 add_at c = omega (arith, (rule c.before.before.before.before).bounds)
@@ -57,20 +55,17 @@ loop-less c = omega (arith, (rule c.before.before.before.before).bounds)
 
 loop-again : tie.Need-loop-at-preserved invariant-loop decreases-loop
 loop-again c =
-    let w = c in
-    let l = w in
-    let r = rule w.before.before.before.before in
-    let more = ap length r.ahead ∙ length-append (tidy_line (part l.args.sheet.now l.loop-at.at w.part_end-end.result)) _ in (
+    let r = rule c.before.before.before.before in
+    let more = ap length r.ahead ∙ length-append (tidy_line (part c.args.sheet.now c.loop-at.at c.part_end-end.result)) _ in (
       r.next,
-      (put-ends w.write_rule-more.ensures).1 ∙ l.loop-at.invariant.1,
-      omega (arith, l.loop-at.invariant.2, more, w.write_rule-more.ensures.end_is),
-      omega (arith, l.loop-at.invariant.3, short w.before, r.bounds),
+      (put-ends c.write_rule-more.ensures).1 ∙ c.loop-at.invariant.1,
+      omega (arith, c.loop-at.invariant.2, more, c.write_rule-more.ensures.end_is),
+      omega (arith, c.loop-at.invariant.3, short c.before, r.bounds),
     )
 
 returns : tie.Need-returns invariant-loop decreases-loop
 returns c =
-    let l = c in
-    omega (arith, l.loop-at.invariant.2, ap length (rules-end l.args.sheet.now l.loop-at.at c.loop-at-test.false))
+    omega (arith, c.loop-at.invariant.2, ap length (rules-end c.args.sheet.now c.loop-at.at c.loop-at-test.false))
 
 pub tidied_length_spec : {M : Type 1} → statement M
 tidied_length_spec =

@@ -9,8 +9,6 @@ use Rattle.tidying.proofs.write.tidy_sheet.Statement.{statement}
 use Rattle.tidying.proofs.write.tidy_sheet.Tie as tie
 
 -- the start, from where the sheet was read; and from where it is known to be good
-abbrev start : tie.After-read_sheet-read → tie.Start
-start c = c.before.before.before
 
 -- the outcome that is told is the sheet's
 told : (c : tie.After-read_sheet-read) → sheet_outcome c.args.sheet.now ≡ c.read_sheet-read.result.outcome
@@ -21,33 +19,27 @@ read c = told c.before ∙ c.in-Read.is
 
 returns : tie.Need-returns-in-Refused
 returns c =
-    let r = c in
-    let a = r.args in
-    (tidied-refused a.sheet.now (length a.buffer.now) (told r.before ∙ c.in-Refused.is), refl)
+    let a = c.args in
+    (tidied-refused a.sheet.now (length a.buffer.now) (told c.before ∙ c.in-Refused.is), refl)
 
 tidied-length-requires : tie.Need-tidied_length-total-requires
 tidied-length-requires c κs = good-sheet _ (read c)
 
 returns-2 : tie.Need-returns-then-buffer-total
 returns-2 c =
-    let t = c in
-    let a = t.args in
-    (tidied-long a.sheet.now (read t.before.before) t.tidied_length-total.ensures (length a.buffer.now) c.if-buffer-total.true, refl)
+    let a = c.args in
+    (tidied-long a.sheet.now (read c.before.before) c.tidied_length-total.ensures (length a.buffer.now) c.if-buffer-total.true, refl)
 
 write-rules-requires : tie.Need-write_rules-requires
 write-rules-requires c κs =
-    let t = c in
-    (good-sheet _ (read t.before.before.before), omega (arith, t.tidied_length-total.ensures, c.if-buffer-total.false))
+    (good-sheet _ (read c.before.before.before), omega (arith, c.tidied_length-total.ensures, c.if-buffer-total.false))
 
 returns-3 : tie.Need-returns
 returns-3 c =
-    let w = c in
-    let e = w in
-    let t = e in
-    let a = t.args in
-    let total-is = t.tidied_length-total.ensures in (
-      tidied-written a.sheet.now (read t.before.before.before.before.before.before) total-is (length a.buffer.now) e.if-buffer-total.false,
-      buffer-tidied a.sheet.now total-is w.write_rules.ensures,
+    let a = c.args in
+    let total-is = c.tidied_length-total.ensures in (
+      tidied-written a.sheet.now (read c.before.before.before.before.before.before) total-is (length a.buffer.now) c.if-buffer-total.false,
+      buffer-tidied a.sheet.now total-is c.write_rules.ensures,
     )
 
 pub tidy_sheet_spec : {M : Type 1} → statement M

@@ -10,10 +10,7 @@ use Rattle.tidying.proofs.write.write_rule.Statement.{statement}
 use Rattle.tidying.proofs.write.write_rule.Tie as tie
 
 -- the start, from where the ends of the fields are known; then back from each piece to the one before it
-abbrev start : tie.After-first_fields-ends → tie.Start
-start c = c.before.before.before
-abbrev ends : tie.After-put-head → tie.After-first_fields-ends
-ends c = c.before.before.before.before
+
 three : (c : tie.After-first_fields-ends) → Three c.args.line.now c.first_fields-ends.result
 three c = rule-three c.requires.0 c.first_fields-ends.ensures.0
 
@@ -47,27 +44,19 @@ part-put-model-start-2 c = omega (arith, (three c.before.before.before.before.be
 
 put-model-requires : tie.Need-put_model-model-requires
 put-model-requires c κs =
-    let p = c in
-    let e = p in
-    rule-ready e.requires.0 e.first_fields-ends.ensures.0 (rw (length-take, length-drop) (omega (arith, room e.before.before.before.before.before.before.before.before, put-ends (head-is p.before.before.before.before))))
+    rule-ready c.requires.0 c.first_fields-ends.ensures.0 (rw (length-take, length-drop) (omega (arith, room c.before.before.before.before.before.before.before.before, put-ends (head-is c.before.before.before.before))))
 
 add-put : tie.Need-overflow_add-head
 add-put c =
-    let m = c in
-    let p = m in
-    omega (arith, room p.before.before.before.before.before.before.before.before.before.before.before.before, put-ends (head-is p.before.before.before.before.before.before.before.before), put-ends m.put_model-model.ensures)
+    omega (arith, room c.before.before.before.before.before.before.before.before.before.before.before.before, put-ends (head-is c.before.before.before.before.before.before.before.before), put-ends c.put_model-model.ensures)
 
 returns : tie.Need-returns
 returns c =
-    let f = c in
-    let m = f in
-    let p = m in
-    let e = p in
-    let both = put-behind (head-is p.before.before.before.before.before.before.before.before.before.before.before.before.before) m.put_model-model.ensures in
-    rw (← rule-pieces e.requires.0 e.first_fields-ends.ensures.0)
+    let both = put-behind (head-is c.before.before.before.before.before.before.before.before.before.before.before.before.before) c.put_model-model.ensures in
+    rw (← rule-pieces c.requires.0 c.first_fields-ends.ensures.0)
     (put_then both
-    (put-fits _ _ _ _ _ (omega (arith, room e.before.before.before.before.before.before.before.before.before.before.before.before.before.before.before.before.before, put-ends (head-is p.before.before.before.before.before.before.before.before.before.before.before.before.before), put-ends m.put_model-model.ensures, put-ends both)) f.put.ensures.0
-    f.put.ensures.1))
+    (put-fits _ _ _ _ _ (omega (arith, room c.before.before.before.before.before.before.before.before.before.before.before.before.before.before.before.before.before, put-ends (head-is c.before.before.before.before.before.before.before.before.before.before.before.before.before), put-ends c.put_model-model.ensures, put-ends both)) c.put.ensures.0
+    c.put.ensures.1))
 
 pub write_rule_spec : {M : Type 1} → statement M
 write_rule_spec =

@@ -18,8 +18,7 @@ abbrev decreases-loop : tie.decreases-loop-at
 decreases-loop buffer₀ sheet written₀ at₀ buffer written at = length sheet - at
 
 -- the call, from a turn of the loop; the turn, from the end of its line; that end, from where the line is written
-abbrev loop : tie.After-part_end-end invariant-loop decreases-loop → tie.At-loop-at invariant-loop decreases-loop
-loop c = c.before.before
+
 rule : (c : tie.After-part_end-end invariant-loop decreases-loop) → RuleAt c.args.sheet.now c.loop-at.at c.part_end-end.result
 rule c = rule-next c.loop-at.invariant.0 c.loop-at-test.true c.part_end-end.ensures
 
@@ -63,13 +62,11 @@ part-write-rule-end-2 c = omega (arith, (rule c.before).bounds)
 
 write-rule-requires : tie.Need-write_rule-more-requires invariant-loop decreases-loop
 write-rule-requires c κs =
-    let e = c in
-    ((rule e.before.before).fits, piece-room (line e.before.before) (rest e.before.before) (begun e.before.before))
+    ((rule c.before.before).fits, piece-room (line c.before.before) (rest c.before.before) (begun c.before.before))
 
 add-written : tie.Need-overflow_add-written invariant-loop decreases-loop
 add-written c =
-    let w = c in
-    omega (arith, fits w.before.before.before.before.before, begun-length (begun w.before.before.before.before.before), w.write_rule-more.ensures.end_is)
+    omega (arith, fits c.before.before.before.before.before, begun-length (begun c.before.before.before.before.before), c.write_rule-more.ensures.end_is)
 
 add_at : tie.Need-overflow_add-at invariant-loop decreases-loop
 add_at c = omega (arith, (rule c.before.before.before.before.before).bounds)
@@ -79,17 +76,14 @@ loop-less c = omega (arith, (rule c.before.before.before.before.before).bounds)
 
 loop-again : tie.Need-loop-at-preserved invariant-loop decreases-loop
 loop-again c =
-    let w = c in
-    let e = w in
-    ((rule e.before.before.before.before.before).next, piece-put (line e.before.before.before.before.before) (rest e.before.before.before.before.before) (begun e.before.before.before.before.before) w.write_rule-more.ensures)
+    ((rule c.before.before.before.before.before).next, piece-put (line c.before.before.before.before.before) (rest c.before.before.before.before.before) (begun c.before.before.before.before.before) c.write_rule-more.ensures)
 
 same_length : tie.Need-shape_of-buffer invariant-loop decreases-loop
 same_length c = begun-length c.loop-at.invariant.1
 
 returns : tie.Need-returns invariant-loop decreases-loop
 returns c =
-    let l = c in
-    begun_all (rw (rules-end l.args.sheet.now l.loop-at.at c.loop-at-test.false) at l.loop-at.invariant.1)
+    begun_all (rw (rules-end c.args.sheet.now c.loop-at.at c.loop-at-test.false) at c.loop-at.invariant.1)
 
 pub write_rules_spec : {M : Type 1} → statement M
 write_rules_spec =

@@ -8,42 +8,32 @@ use Rattle.sessions.proofs.session.Session.add.Statement.{statement}
 use Rattle.sessions.proofs.session.Session.add.Tie as tie
 
 -- the call, from where 40 and 42 were tried; that, from where the names are counted; and that, from where the room is known
-abbrev tried : tie.After-names-names → tie.After-checked
-tried c = c.before.before
-abbrev counted : tie.After-room_in-most → tie.After-names-names
-counted c = c.before.before
+
 passed : (c : tie.After-names-names) → checked c.args.self c.args.trail.now ≡ Done
 passed c = sym c.checked.ensures ∙ c.in-Done.is
 
 returns : tie.Need-returns-then-names-number
 returns c =
-    let n = c in
-    let a = n.args in
-    let e = adding-unnamed a.self a.trail.now _ (passed n.before.before) _ n.names-names.ensures c.if-names-number.true in
+    let a = c.args in
+    let e = adding-unnamed a.self a.trail.now _ (passed c.before.before) _ c.names-names.ensures c.if-names-number.true in
     refused (adding a.name.0) a.self a.trail.now UnknownName _ e c.refused-then-names-number.ensures
 
 returns-2 : tie.Need-returns-then-most-children
 returns-2 c =
-    let m = c in
-    let n = m in
-    let a = n.args in
-    let e = adding-full a.self a.trail.now _ (passed n.before.before.before.before) _ n.names-names.ensures m.if-names-number.false _ m.room_in-most.ensures c.if-most-children.true in
+    let a = c.args in
+    let e = adding-full a.self a.trail.now _ (passed c.before.before.before.before) _ c.names-names.ensures c.if-names-number.false _ c.room_in-most.ensures c.if-most-children.true in
     refused (adding a.name.0) a.self a.trail.now NoRoom _ e c.refused-then-most-children.ensures
 
 returns-3 : tie.Need-returns-in-Refused
 returns-3 c =
-    let o = c in
-    let k = o in
-    let a = k.args in
-    let e = adding-refused a.self a.trail.now a.name.0 _ (sym k.checked.ensures ∙ o.in-Refused.is) in
+    let a = c.args in
+    let e = adding-refused a.self a.trail.now a.name.0 _ (sym c.checked.ensures ∙ c.in-Refused.is) in
     refused (adding a.name.0) a.self a.trail.now _ _ e c.refused.ensures
 
 returns-4 : tie.Need-returns-else-most-children
 returns-4 c =
-    let m = c in
-    let n = m in
-    let a = n.args in
-    let e = adding-done a.self a.trail.now _ (passed n.before.before.before.before) _ n.names-names.ensures m.if-names-number.false _ m.room_in-most.ensures c.if-most-children.false in
+    let a = c.args in
+    let e = adding-done a.self a.trail.now _ (passed c.before.before.before.before) _ c.names-names.ensures c.if-names-number.false _ c.room_in-most.ensures c.if-most-children.false in
     completed (adding a.name.0) a.self a.trail.now _ e c.done.ensures
 
 pub add_spec : {M : Type 1} → statement M

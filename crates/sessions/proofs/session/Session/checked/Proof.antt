@@ -7,19 +7,15 @@ use Rattle.sessions.proofs.session.Session.checked.Tie as tie
 
 returns : tie.Need-returns-then-whole
 returns c =
-    let i = c in
-    let w = i in
-    let a = w.args in
-    let by = checked-by a.self a.trail.now _ w.is_readable-good.ensures w.if-good.true in
-    sym (by _ _ true i.names-names.ensures i.is_intact-whole.ensures c.if-whole.true)
+    let a = c.args in
+    let by = checked-by a.self a.trail.now _ c.is_readable-good.ensures c.if-good.true in
+    sym (by _ _ true c.names-names.ensures c.is_intact-whole.ensures c.if-whole.true)
 
 returns-2 : tie.Need-returns-then-good
 returns-2 c =
-    let i = c in
-    let w = i in
-    let a = w.args in
-    let by = checked-by a.self a.trail.now _ w.is_readable-good.ensures w.if-good.true in
-    sym (by _ _ false i.names-names.ensures i.is_intact-whole.ensures c.if-whole.false)
+    let a = c.args in
+    let by = checked-by a.self a.trail.now _ c.is_readable-good.ensures c.if-good.true in
+    sym (by _ _ false c.names-names.ensures c.is_intact-whole.ensures c.if-whole.false)
 
 returns-3 : tie.Need-returns
 returns-3 c =

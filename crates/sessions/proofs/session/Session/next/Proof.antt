@@ -8,32 +8,25 @@ use Rattle.sessions.proofs.session.Session.next.Tie as tie
 
 part-next-names-end : tie.Need-slice_bounds-next_names-end
 part-next-names-end c =
-    let i = c in
-    let a = i.args in
-    intact-fits a.self.children _ a.trail.now (sym i.is_intact-whole.ensures ∙ c.if-whole.true)
+    let a = c.args in
+    intact-fits a.self.children _ a.trail.now (sym c.is_intact-whole.ensures ∙ c.if-whole.true)
 
 returns : tie.Need-returns-then-whole
 returns c =
-    let n = c in
-    let h = n in
-    let i = h in
-    let a = i.args in
-    let whole = ap (λ m. intact a.self.children m a.trail.now) (sym i.names.ensures) ∙ sym i.is_intact-whole.ensures ∙ h.if-whole.true in
-    rw (next-judged a.self a.trail.now whole) at n.next_names.ensures
+    let a = c.args in
+    let whole = ap (λ m. intact a.self.children m a.trail.now) (sym c.names.ensures) ∙ sym c.is_intact-whole.ensures ∙ c.if-whole.true in
+    rw (next-judged a.self a.trail.now whole) at c.next_names.ensures
 
 returns-2 : tie.Need-returns-then-good
 returns-2 c =
-    let w = c in
-    let i = w in
-    let a = i.args in
-    let by = checked-by a.self a.trail.now _ w.is_readable-good.ensures c.if-good.true in
-    next-refused a.self a.trail.now _ (by _ _ false i.names.ensures i.is_intact-whole.ensures w.if-whole.false) a.row.now
+    let a = c.args in
+    let by = checked-by a.self a.trail.now _ c.is_readable-good.ensures c.if-good.true in
+    next-refused a.self a.trail.now _ (by _ _ false c.names.ensures c.is_intact-whole.ensures c.if-whole.false) a.row.now
 
 returns-3 : tie.Need-returns
 returns-3 c =
-    let w = c in
-    let a = w.args in
-    let e = checked-no-model a.self a.trail.now _ w.is_readable-good.ensures c.if-good.false in
+    let a = c.args in
+    let e = checked-no-model a.self a.trail.now _ c.is_readable-good.ensures c.if-good.false in
     next-refused a.self a.trail.now _ e a.row.now
 
 pub next_spec : {M : Type 1} → statement M

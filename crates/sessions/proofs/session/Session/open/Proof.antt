@@ -9,18 +9,15 @@ use Rattle.sessions.proofs.session.Session.open.Tie as tie
 
 returns : tie.Need-returns-then-good
 returns c =
-    let f = c in
-    let w = f in
-    let a = w.args in
-    let e = opening-by a.rule a.self a.trail.now _ true w.is_readable-good.ensures w.if-good.true in
+    let a = c.args in
+    let e = opening-by a.rule a.self a.trail.now _ true c.is_readable-good.ensures c.if-good.true in
     let d = completed (opening a.rule) a.self a.trail.now _ e c.done.ensures in
-    (d.0, f.free_all.ensures ∙ d.1)
+    (d.0, c.free_all.ensures ∙ d.1)
 
 returns-2 : tie.Need-returns
 returns-2 c =
-    let w = c in
-    let a = w.args in
-    let e = opening-by a.rule a.self a.trail.now _ false w.is_readable-good.ensures w.if-good.false in
+    let a = c.args in
+    let e = opening-by a.rule a.self a.trail.now _ false c.is_readable-good.ensures c.if-good.false in
     refused (opening a.rule) a.self a.trail.now Unreadable _ e c.refused.ensures
 
 pub open_spec : {M : Type 1} → statement M

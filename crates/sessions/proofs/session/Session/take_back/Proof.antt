@@ -8,16 +8,14 @@ use Rattle.sessions.proofs.session.Session.take_back.Statement.{statement}
 use Rattle.sessions.proofs.session.Session.take_back.Tie as tie
 
 -- the call, from where 40 and 42 were tried; that, from where both are known not to be there
-abbrev tried : tie.In-Done → tie.After-checked
-tried c = c.before
+
 passed : (c : tie.In-Done) → checked c.args.self c.args.trail.now ≡ Done
 passed c = sym c.checked.ensures ∙ c.in-Done.is
 
 returns : tie.Need-returns-then-children-eq0
 returns c =
-    let o = c in
-    let a = o.args in
-    let e = taking-none a.self a.trail.now (passed o.before.before) c.if-children-eq0.true in
+    let a = c.args in
+    let e = taking-none a.self a.trail.now (passed c.before.before) c.if-children-eq0.true in
     refused taking_back a.self a.trail.now NothingToTakeBack _ e c.refused-then-children-eq0.ensures
 
 mul-trail : tie.Need-offset_bounds-trail-children
@@ -32,17 +30,14 @@ slice-write-trail c =
 
 returns-2 : tie.Need-returns-in-Refused
 returns-2 c =
-    let o = c in
-    let k = o in
-    let a = k.args in
-    let e = taking-refused a.self a.trail.now _ (sym k.checked.ensures ∙ o.in-Refused.is) in
+    let a = c.args in
+    let e = taking-refused a.self a.trail.now _ (sym c.checked.ensures ∙ c.in-Refused.is) in
     refused taking_back a.self a.trail.now _ _ e c.refused.ensures
 
 returns-3 : tie.Need-returns-else-children-eq0
 returns-3 c =
-    let o = c in
-    let a = o.args in
-    completed taking_back a.self a.trail.now _ (taking-done a.self a.trail.now (passed o.before.before) (search rules)) c.done.ensures
+    let a = c.args in
+    completed taking_back a.self a.trail.now _ (taking-done a.self a.trail.now (passed c.before.before) (search rules)) c.done.ensures
 
 pub take_back_spec : {M : Type 1} → statement M
 take_back_spec =

@@ -8,31 +8,25 @@ use Rattle.sessions.proofs.session.Session.verdict.Tie as tie
 
 part-judge-row-end : tie.Need-slice_bounds-judge_row-end
 part-judge-row-end c =
-    let i = c in
-    let a = i.args in
-    intact-fits a.self.children _ a.trail.now (sym i.is_intact-whole.ensures ∙ c.if-whole.true)
+    let a = c.args in
+    intact-fits a.self.children _ a.trail.now (sym c.is_intact-whole.ensures ∙ c.if-whole.true)
 
 returns : tie.Need-returns-then-whole
 returns c =
-    let h = c in
-    let i = h in
-    let a = i.args in
-    let whole = ap (λ m. intact a.self.children m a.trail.now) (sym i.names.ensures) ∙ sym i.is_intact-whole.ensures ∙ h.if-whole.true in
+    let a = c.args in
+    let whole = ap (λ m. intact a.self.children m a.trail.now) (sym c.names.ensures) ∙ sym c.is_intact-whole.ensures ∙ c.if-whole.true in
     c.judge_row.ensures ∙ asked-judged a.self a.trail.now whole
 
 returns-2 : tie.Need-returns-then-good
 returns-2 c =
-    let w = c in
-    let i = w in
-    let a = i.args in
-    let by = checked-by a.self a.trail.now _ w.is_readable-good.ensures c.if-good.true in
-    asked-refused a.self a.trail.now _ (by _ _ false i.names.ensures i.is_intact-whole.ensures w.if-whole.false)
+    let a = c.args in
+    let by = checked-by a.self a.trail.now _ c.is_readable-good.ensures c.if-good.true in
+    asked-refused a.self a.trail.now _ (by _ _ false c.names.ensures c.is_intact-whole.ensures c.if-whole.false)
 
 returns-3 : tie.Need-returns
 returns-3 c =
-    let w = c in
-    let a = w.args in
-    asked-refused a.self a.trail.now _ (checked-no-model a.self a.trail.now _ w.is_readable-good.ensures c.if-good.false)
+    let a = c.args in
+    asked-refused a.self a.trail.now _ (checked-no-model a.self a.trail.now _ c.is_readable-good.ensures c.if-good.false)
 
 pub verdict_spec : {M : Type 1} → statement M
 verdict_spec =
