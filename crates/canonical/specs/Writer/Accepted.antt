@@ -1,7 +1,7 @@
 -- The tree of an accepted text: it is tidied, stands alone on the stack, and is written if the buffer has room for it.
-use mathlib.Core.{Path.◌≡◌, Path.refl, Path.sym, Path.ap, Path.ap₂, Path.◌∙◌, Path.subst, Logic.◌⊎◌, Logic.inr, Logic.⊎_elim, Logic.by_cases}
+use mathlib.Core.{Path.◌≡◌, Path.refl, Path.sym, Path.ap, Path.ap₂, Path.◌∙◌, Path.subst, Logic.inr, Logic.⊎_elim, Logic.by_cases}
 use mathlib.Core.{Bool.true≢false, List.List, List.[], List.◌∷◌, List.◌++◌, List.append-nil}
-use Prim.Native.{Nat.ℕ, Nat.suc, Nat.◌+◌, Nat.◌-◌, Nat.◌≤◌, Nat.◌<◌, Char.code}
+use Prim.Native.{Nat.ℕ, Nat.suc, Nat.◌-◌, Nat.◌≤◌, Nat.◌<◌, Char.code}
 use native.Mathlib.{Decide.dec_le, Omega.arith}
 use Rattle.std.specs.Prelude.{length, drop, set, get_or, replicate}
 use Rattle.std.proofs.Common.{length-set, eq-eqb, le-leb}

@@ -17,7 +17,7 @@ use Rattle.fields.specs.Split.{tab, split, part, part_end, more}
 use Rattle.fields.specs.Split.{joined_by, Laws.joined-split, Laws.part_at, Laws.end-within}
 use Rattle.model.specs.{declared.fault.ModelFault.ModelFault, Syntax.Syntax, Syntax.written_names, Syntax.number_in, Answer.answer, Answer.answered}
 use Rattle.model.specs.{Fault.Answered.name-inside, Syntax.Number.number-below}
-use Rattle.model.specs.Fault.{model_number, Answer, Answers, refused, accepted, places}
+use Rattle.model.specs.Fault.{model_number, Answer, Answers, refused, accepted}
 use Rattle.judge.specs.{declared.reading.Names.Names, declared.reading.Reading.Reading, Reading.Laws.names_are, Reading.Search.name-fits}
 use Rattle.judge.specs.{Reading.Search.parts-many}
 use Rattle.judge.specs.{Reply.Children.Laws.children-some, Reply.Read.children_give}

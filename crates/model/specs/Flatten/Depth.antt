@@ -1,7 +1,7 @@
 -- How many groups are around the atoms of a tree. Flattening takes groups away, those of one member among them: a tree is no deeper than it is high,
 -- and no higher than its brackets are nested.
 use mathlib.Core.{Path.◌≡◌, Path.refl, Path.ap, Path.sym, Path.◌∙◌, Bool.true, Bool.◌||◌}
-use Rattle.std.specs.Prelude.{List, [], ◌∷◌, ◌++◌, map, ℕ, suc, ◌+◌, ◌≤◌, ◌<◌, max, length}
+use Rattle.std.specs.Prelude.{List, [], ◌∷◌, ◌++◌, map, ℕ, suc, ◌≤◌, ◌<◌, max, length}
 use Rattle.std.proofs.lemmas.List.{map-append}
 use Rattle.std.proofs.Common.{append_assoc, arith, length-append}
 use Rattle.fields.specs.Tests.{by-test}

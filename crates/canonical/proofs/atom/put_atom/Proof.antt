@@ -18,8 +18,6 @@ inside c = kept-inside (ends c) c.requires.0
 room : (c : tie.After-kept_end-end) → c.args.to + (c.kept_end-end.result - c.args.at) ≤ length c.args.buffer.now
 room c = omega (arith, piece-length (ends c) c.requires.0, c.requires.1)
 
--- where the ends are known and the copy is made
-
 copy-part-requires : tie.Need-copy_part-next-requires
 copy-part-requires c κs = omega (arith, inside c.before, room c.before)
 

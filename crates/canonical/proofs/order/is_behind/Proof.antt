@@ -6,8 +6,6 @@ use borrow.Author.Rules.{rules}
 use Rattle.canonical.proofs.order.is_behind.Statement.{statement}
 use Rattle.canonical.proofs.order.is_behind.Tie as tie
 
--- the start, from where both heads are read
-
 is-after-requires : tie.Need-is_after-requires
 is-after-requires c κs =
     let p = c.requires in

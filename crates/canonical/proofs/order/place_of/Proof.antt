@@ -16,7 +16,7 @@ invariant-loop text stack list start end m name last low₀ high₀ low high = N
 abbrev decreases-loop : tie.decreases-loop-low
 decreases-loop text stack list start end m name last low₀ high₀ low high = high - low
 
--- where the end of the name is known: there are members, and the start
+-- the start, from where the end of the name is known
 abbrev begin : tie.After-name_end-name invariant-loop decreases-loop → tie.Start invariant-loop decreases-loop
 begin c = c.before.before.before.before.before.before.before
 

@@ -60,8 +60,6 @@ abbrev decreases-loop : lts.decreases-loop-p
 decreases-loop text stack₀ place top g₀ sign₀ p₀ stack g sign p = length text - p
 
 module _ (t : ℕ) where
-  -- the start, and the loop's head, from where an atom was read and from behind a member
-
   here : (c : lts.Then-text-at-ne40 (claims t) (at t) tidy.Post invariant-loop decreases-loop)
       → AtomHere c.args.text.now c.args.at
   here c = let r = c.requires.1 in atom-here r.tree r.stands c.if-text-at-ne40.true

@@ -6,10 +6,6 @@ use Rattle.canonical.specs.Writer.Tidied.{joins_by}
 use Rattle.canonical.proofs.tidy.added.Statement.{statement}
 use Rattle.canonical.proofs.tidy.added.Tie as tie
 
--- the start, where the member is known to be no `()`, and behind the calls
-
--- where the member joins, and where its head is put on the stack
-
 -- by the tests
 joins : (j : tie.Then-t-sign) → let s = j.args in joins_by s.sign s.t ≡ true
 joins j = rw (← j.is_plain-plain.ensures) j.if-t-sign.true

@@ -6,8 +6,6 @@ use Rattle.canonical.specs.Order.{not_after}
 use Rattle.canonical.proofs.tidy.least_with.Statement.{statement}
 use Rattle.canonical.proofs.tidy.least_with.Tie as tie
 
--- where there are members
-
 -- the one so far stays
 abbrev kept : tie.After-is_after → Bool
 kept c = let a = c.args in not_after (name_from a.text.now a.least) (name_from a.text.now a.at)

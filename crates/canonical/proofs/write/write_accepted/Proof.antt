@@ -10,8 +10,6 @@ use Rattle.canonical.specs.Writer.Accepted.{whole-stands, whole_ready, nil-text,
 use Rattle.canonical.proofs.write.write_accepted.Statement.{statement}
 use Rattle.canonical.proofs.write.write_accepted.Tie as tie
 
--- the start, and the tree of the text as it is tidied
-
 known : (c : tie.After-tidy-t) → TidiedAt c.args.text.now (replicate max_nodes 0) c.tidy-t.new.stack 0 max_nodes c.tidy-t.result c.requires.0
 known c = let p = c.requires in c.tidy-t.ensures p.0 (whole-stands c.args.text.now p.0 p.1)
 
@@ -41,8 +39,6 @@ mul-stack c = omega (arith, room c.before.before.before)
 
 array-write-stack : tie.Need-bounds-stack-top
 array-write-stack c = omega (arith, room c.before.before.before)
-
--- the head stands on the stack
 
 head-is : (p : tie.After-packed) → head_in p.packed.result ≡ head_of p.tidy-t.result
 head-is p = p.packed.ensures ∙ p.head_of-head.ensures

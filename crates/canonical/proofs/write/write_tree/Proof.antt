@@ -9,8 +9,6 @@ use Rattle.canonical.specs.Writer.Accepted.{text_at, has_room, no_room, length-r
 use Rattle.canonical.proofs.write.write_tree.Statement.{statement}
 use Rattle.canonical.proofs.write.write_tree.Tie as tie
 
--- the start, the text that is written, and its length
-
 abbrev whole : tie.After-signed_length-length → Text
 whole c = let a = c.args in text_at a.text.now a.stack.now a.top
 

@@ -1,8 +1,8 @@
 -- The steps keep what is known: of an atom, of a member more, of a group that is closed, of a mark.
-use mathlib.Core.{Path.◌≡◌, Path.refl, Path.sym, Path.ap, Path.◌∙◌, Logic.◌⊎◌, Logic.inl, Logic.inr, Logic.⊎_elim}
+use mathlib.Core.{Path.◌≡◌, Path.refl, Path.sym, Path.ap, Path.◌∙◌, Logic.inl, Logic.inr, Logic.⊎_elim}
 use Rattle.std.specs.Prelude.{Bool, false, ◌||◌}
 use Rattle.std.proofs.Common.{true≢false, arith, ne_eqb}
-use Prim.Native.{Nat.ℕ, Nat.◌+◌, Nat.◌-◌, Nat.◌≤◌, Nat.◌<◌, Char.code}
+use Prim.Native.{Nat.ℕ, Nat.◌+◌, Nat.◌≤◌, Nat.◌<◌, Char.code}
 use lib.{Dec.eqb}
 use Rattle.fields.specs.{Bytes.Text, Tests.by-test, Tests.neither}
 use Rattle.model.specs.{declared.rule.Sign.Sign, declared.rule.Mark.Mark}

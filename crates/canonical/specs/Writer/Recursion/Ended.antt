@@ -1,7 +1,7 @@
 -- The group at its end.
-use mathlib.Core.{Path.◌≡◌, Path.refl, Path.sym, Path.ap, Path.◌∙◌, Path.subst, Logic.◌⊎◌, Logic.⊎_elim, Bool.Bool, Bool.false}
+use mathlib.Core.{Path.◌≡◌, Path.refl, Path.sym, Path.ap, Path.◌∙◌, Path.subst, Logic.⊎_elim, Bool.Bool, Bool.false}
 use mathlib.Core.{List.List, List.[], List.◌∷◌, List.◌++◌, List.head-eq_of_cons-eq, List.tail-eq_of_cons-eq}
-use Prim.Native.{Nat.ℕ, Nat.suc, Nat.◌+◌, Nat.◌-◌, Nat.◌≤◌, Char.code}
+use Prim.Native.{Nat.ℕ, Nat.suc, Nat.◌+◌, Nat.◌≤◌, Char.code}
 use Rattle.std.proofs.Common.{arith, drop-cons, ne_eqb}
 use lib.{Dec.eqb, ListN.length, ListN.take, ListN.drop, ListN.get_or, ListN.take-append-drop, ListN.length-append, ListN.length-drop}
 use Rattle.fields.specs.{Bytes.Text, Tests.by-test}

@@ -1,5 +1,5 @@
 -- The walk over the members of a group: it begins behind the bracket, goes on by one member, and ends before the other bracket.
-use mathlib.Core.{Path.◌≡◌, Path.refl, Path.sym, Path.ap, Path.◌∙◌, Path.subst, Logic.◌⊎◌, Logic.inl, Logic.⊎_elim}
+use mathlib.Core.{Path.◌≡◌, Path.refl, Path.sym, Path.ap, Path.◌∙◌, Path.subst, Logic.inl, Logic.⊎_elim}
 use mathlib.Core.{Bool.false, List.List, List.[], List.◌∷◌, List.◌++◌, List.append_assoc}
 use Prim.Native.{Nat.ℕ, Nat.suc, Nat.◌+◌, Nat.◌-◌, Nat.◌≤◌, Nat.◌<◌, Char.code}
 use native.Mathlib.{Omega.arith}

@@ -1,7 +1,7 @@
 -- What stands where in the text of a tree: the bytes that the recursion looks at.
 use Rattle.std.specs.Prelude.{◌≡◌, refl, [], ◌∷◌, ◌++◌, length, drop, get_or}
 use Rattle.std.proofs.Common.{sym, ap, ◌∙◌, append_assoc, length-drop, drop-drop, drop_at, get_or-drop}
-use Prim.Native.{Nat.ℕ, Nat.◌+◌, Nat.◌-◌, Nat.◌<◌, Char.code}
+use Prim.Native.{Nat.ℕ, Nat.◌+◌, Nat.◌<◌, Char.code}
 use native.Mathlib.{Omega.arith, Nat.add-zero}
 use Rattle.fields.specs.Bytes.{Text, bytes}
 use Rattle.model.specs.{declared.rule.Sign.Sign, declared.rule.Mark.Mark, Mark.mark_of, Mark.mark_at}

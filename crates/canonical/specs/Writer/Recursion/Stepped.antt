@@ -1,5 +1,5 @@
 -- One member more on the stack.
-use mathlib.Core.{Path.◌≡◌, Path.refl, Path.sym, Path.ap, Path.◌∙◌, Path.subst, Logic.◌⊎◌, Logic.⊎_elim}
+use mathlib.Core.{Path.◌≡◌, Path.refl, Path.sym, Path.ap, Path.◌∙◌, Path.subst, Logic.⊎_elim}
 use Rattle.std.specs.Prelude.{true, false, ◌||◌, length, drop, set}
 use Rattle.std.proofs.Math.Bool.{or-false}
 use mathlib.Core.{List.List, List.[], List.◌∷◌, List.map, List.map-append}

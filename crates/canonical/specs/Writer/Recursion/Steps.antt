@@ -1,6 +1,6 @@
 -- A tree that is an atom, and what a mark leaves as it is.
 use mathlib.Core.{Path.◌≡◌, Path.refl, Path.sym, Path.ap, Path.◌∙◌, Logic.inr, Bool.true, Bool.false, Bool.◌||◌, List.List}
-use Prim.Native.{Nat.ℕ, Nat.◌+◌, Nat.◌-◌}
+use Prim.Native.{Nat.ℕ, Nat.◌+◌}
 use native.Mathlib.{Omega.arith, Nat.add-zero}
 use lib.{Dec.eqb, ListN.length, ListN.drop, ListN.get_or, ListN.length-append}
 use Rattle.fields.specs.{Bytes.Text, Tests.by-test}

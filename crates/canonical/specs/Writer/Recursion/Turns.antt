@@ -1,5 +1,5 @@
 -- A turn of the loop keeps what is known.
-use mathlib.Core.{Path.◌≡◌, Path.refl, Path.sym, Path.ap, Path.◌∙◌, Path.subst, Logic.◌⊎◌, Logic.inr, Logic.⊎_elim}
+use mathlib.Core.{Path.◌≡◌, Path.refl, Path.sym, Path.ap, Path.◌∙◌, Path.subst, Logic.inr, Logic.⊎_elim}
 use mathlib.Core.{Bool.true, Bool.false≢true, List.List, List.[], List.◌∷◌}
 use Prim.Native.{Nat.ℕ, Nat.suc, Nat.◌+◌, Nat.◌-◌, Nat.◌≤◌, Nat.◌<◌}
 use Rattle.std.proofs.Common.{arith}

@@ -10,8 +10,6 @@ use borrow.Author.Rules.{rules}
 use Rattle.desk.proofs.answer.desk_canonical.Statement.{statement}
 use Rattle.desk.proofs.answer.desk_canonical.Tie as tie
 
--- the writer's call, from the length that it gave
-
 length-known : (c : tie.In-Length)
     → let a = c.args in
     (c.in-Length.n ≡ desk_canonical a.model.now (length a.buffer.now)) × (c.in-Length.n ≤ max_text)

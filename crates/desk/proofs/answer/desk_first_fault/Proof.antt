@@ -7,8 +7,6 @@ use borrow.Author.Rules.{rules}
 use Rattle.desk.proofs.answer.desk_first_fault.Statement.{statement}
 use Rattle.desk.proofs.answer.desk_first_fault.Tie as tie
 
--- the judge's call, from its answer where the texts are good
-
 cast-result : tie.Need-overflow_cast-result
 cast-result c =
     omega (arith, place-few _ _ c.search_children.ensures c.in-Found.is (ap Found c.in-At.is))

@@ -7,8 +7,6 @@ use borrow.Author.Rules.{rules}
 use Rattle.desk.proofs.answer.desk_next.Statement.{statement}
 use Rattle.desk.proofs.answer.desk_next.Tie as tie
 
--- the judge's call, from its answer where the texts are good, and from a refusal of a text
-
 cast-result : tie.Need-overflow_cast-result
 cast-result c =
     omega (arith, answer-few _ _ _ c.next_children.ensures.0 (c.in-Next.is ∙ ap Answered c.in-Names.is))

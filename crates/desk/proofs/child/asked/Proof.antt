@@ -4,8 +4,6 @@ use borrow.Author.Rules.{rules}
 use Rattle.desk.proofs.child.asked.Statement.{statement}
 use Rattle.desk.proofs.child.asked.Tie as tie
 
--- the call, and the children as they are counted: the text is neither too long nor empty
-
 returns : tie.Need-returns-then-size-gt-MAX_FILE
 returns c =
     let a = c.args in

@@ -9,7 +9,7 @@ use borrow.Author.Rules.{rules}
 use Rattle.desk.proofs.child.locate_read.Statement.{statement}
 use Rattle.desk.proofs.child.locate_read.Tie as tie
 
--- the call, from where the child is known to be there; that, from where its end is known
+-- the child is known to be there
 counted : (c : tie.In-Count) → asked_of c.args.children.now c.args.k ≡ Count c.in-Count.field-0
 counted c = sym c.asked.ensures ∙ c.in-Count.is
 

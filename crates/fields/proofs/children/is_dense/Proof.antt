@@ -1,5 +1,5 @@
 -- Block by block.
-use mathlib.Core.{Path.◌≡◌, Path.sym, Path.◌∙◌, Bool.true≢false}
+use mathlib.Core.{Path.sym, Path.◌∙◌, Bool.true≢false}
 use Prim.Native.Nat.{◌-◌, ◌≤◌}
 use lib.ListN.{length}
 use Rattle.fields.specs.Bytes.{Text}

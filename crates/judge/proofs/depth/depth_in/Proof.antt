@@ -16,8 +16,6 @@ invariant-loop words len stack₀ top₀ i₀ stack top i =
 abbrev decreases-loop : tie.decreases-loop-i
 decreases-loop words len stack₀ top₀ i₀ stack top i = i
 
--- the turn, from where its node's members are known, and the call
-
 loop-holds : tie.Need-loop-i-init invariant-loop decreases-loop
 loop-holds c =
     let a = c.args in

@@ -6,8 +6,6 @@ use Rattle.judge.specs.Row.Code.{readable-within, Passes, tested, packed-passes,
 use Rattle.judge.proofs.first_fault.first_fault.Statement.{statement}
 use Rattle.judge.proofs.first_fault.first_fault.Tie as tie
 
--- places: the start, where the row was tested, where it has passed, and where it was packed
-
 test : (c : tie.In-Passed)
     → row_tested c.args.rule c.args.row.now ≡ Passed c.in-Passed.field-0
 test c = sym c.test_row.ensures ∙ c.in-Passed.is

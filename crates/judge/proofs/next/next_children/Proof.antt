@@ -5,8 +5,6 @@ use Rattle.judge.specs.Reply.Read.{read-both, read-fault, reply-model, reply-chi
 use Rattle.judge.proofs.next.next_children.Statement.{statement}
 use Rattle.judge.proofs.next.next_children.Tie as tie
 
--- places: the start, where the texts were read, and where both were
-
 read-children-requires : tie.Need-read_children-requires
 read-children-requires c κs = (refl, refl)
 

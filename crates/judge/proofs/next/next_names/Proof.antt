@@ -5,8 +5,6 @@ use Rattle.judge.specs.Row.Code.{readable-within, Passes, tested, packed-is, pac
 use Rattle.judge.proofs.next.next_names.Statement.{statement}
 use Rattle.judge.proofs.next.next_names.Tie as tie
 
--- places: the start, where the row was tested, where it has passed
-
 passes : (c : tie.In-Passed) → Passes c.args.rule c.args.children.now c.in-Passed.names
 passes c = tested _ _ (sym c.test_row.ensures ∙ c.in-Passed.is)
 

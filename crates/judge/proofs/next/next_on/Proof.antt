@@ -11,7 +11,7 @@ use Rattle.judge.proofs.next.next_on.Tie as tie
 abbrev nodes : tie.Start → List Node
 nodes s = map node_in (take s.args.len s.args.words.now)
 
--- the start, where the row was searched, and where no child is at fault
+-- the rule has few names
 few : (s : tie.Start) → s.args.names ≤ 64
 few s = atoms-within (nodes s) s.requires.1.0.0 s.requires.1.0.1
 

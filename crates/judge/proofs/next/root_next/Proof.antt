@@ -56,8 +56,6 @@ held c = holds-own c.requires.0.1 c.requires.0.0
 abbrev seen_at : tie.Start invariant-loop2 decreases-loop2 invariant-loop decreases-loop → ℕ → Seen
 seen_at c k = seen_of c.args.children (get_or (seen_in c.args.words.now) k 0)
 
--- the node of a turn, that turn, and the start
-
 -- it stands there as at the start
 abbrev read : tie.After-kind_in-kind invariant-loop2 decreases-loop2 invariant-loop decreases-loop → Node
 read c = record { kind = c.kind_in-kind.result; mark = (node_in (get_or c.loop-i.words (c.loop-i.i - 1) 0)).mark }

@@ -129,8 +129,6 @@ member-by-claims t = (
 )
 
 module _ (t : ℕ) where
-  -- The group reader: the start from where `)` was looked for and from a turn, and the turn from the call for its member.
-
   -- what it gave
   gave : (c : group-lts.In-Past (group-claims t) (group_at t) group.Post group-Inv-loop group-μ-loop)
       → got_in c.member_by-got.result ≡ Past c.in-Past.past
@@ -143,8 +141,6 @@ module _ (t : ℕ) where
       let p = (cursor_in c.loop-past.next).at in
       Behind text m.new.work (m.new.names, m.new.heads) p (stack_of (here text p)) c.in-Past.past
   behind c = member-past c.member_by-got.ensures (gave c)
-
-  -- the byte behind it, and how high the members are
 
   -- no byte is left, or this one
   abbrev more : (c : group-lts.After-larger-height (group-claims t) (group_at t) group.Post group-Inv-loop group-μ-loop)
@@ -220,19 +216,13 @@ module _ (t : ℕ) where
   group-returns-5 c =
       rw (sym c.got_in.ensures ∙ c.in-Fault.is) at c.member_by-got.ensures
 
-  -- The member reader: the start from the test whether a name begins, and that test from where a bracket stands.
-
   bracket : (c : member-lts.Then-stands (member-claims t) (member-at t) member.Post)
       → let a = c.args in is a.text.now (code "(") a.c.at ≡ true
   bracket c = sym c.stands.ensures ∙ c.if-stands.true
 
-  -- a group begins there
-
   opening : (c : member-lts.Else-left-eq0 (member-claims t) (member-at t) member.Post)
       → let a = c.args in Opening a.text.now a.c a.left
   opening c = group-opening c.requires.1 (bracket c.before.before) c.if-node-eq-MAX_NODES.false c.if-left-eq0.false
-
-  -- behind the group that begins there
 
   closed : (c : member-lts.In-Past (member-claims t) (member-at t) member.Post)
       → let g = c.group in
@@ -240,8 +230,6 @@ module _ (t : ℕ) where
       Closed a.text.now g.new.work (g.new.names, g.new.heads) (a.c.at + 1) (tail (stack_of (here a.text.now (a.c.at + 1))))
       c.in-Past.past
   closed c = group-past (rw c.inside-first.ensures at c.group.ensures) c.in-Past.is
-
-  -- from where its names were counted
 
   -- it has a name, or no `!` behind it
   fits : (j : member-lts.Joined-past-c (member-claims t) (member-at t) member.Post)
@@ -284,8 +272,6 @@ module _ (t : ℕ) where
   member-returns-6 : member-lts.Need-returns-after-past-c (member-claims t) (member-at t) member.Post
   member-returns-6 c =
       group-member c.requires.1 (opening c.before.before.before.before.before.before.before.before.before.before.before.before) (closed c.before.before.before.before.before) (fits c.before.before) c.mark.ensures
-
-  -- The member reader by numbers.
 
   member-by-member-requires : member-by-lts.Need-member-requires (member-by-claims t) (member-by-at t) member-by.Post
   member-by-member-requires c κs = rw c.cursor_in.ensures (omega (arith, c.requires.0), c.requires.1)

@@ -15,8 +15,6 @@ invariant-loop text name names n i₀ i =
 abbrev decreases-loop : tie.decreases-loop-i
 decreases-loop text name names n i₀ i = n - i
 
--- the start; where the first of two ends is found; and the turn that they are of
-
 loop-holds : tie.Need-loop-i-init invariant-loop decreases-loop
 loop-holds c =
     let l : length c.args.names.places ≡ 64 = search (rules, unmapped) in

@@ -7,8 +7,6 @@ use Rattle.judge.specs.Reply.Read.{refused_model, children-fit, long-refused, ba
 use Rattle.judge.proofs.reply.read_children.Statement.{statement}
 use Rattle.judge.proofs.reply.read_children.Tie as tie
 
--- places: the start, where the model text was read, where there are children, and where they were read
-
 whole : (c : tie.In-Past)
     → let last = c.read_whole.new in
     Whole c.args.model.now last.work (last.names, last.heads) c.in-Past.past

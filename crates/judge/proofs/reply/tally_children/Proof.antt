@@ -22,8 +22,6 @@ invariant-loop model names n heads children words₀ count₀ at₀ words count 
 abbrev decreases-loop : tie.decreases-loop-at
 decreases-loop model names n heads children words₀ count₀ at₀ words count at = length children + 1 - at
 
--- places: the start, the loop's head, and where the child is known to be a name and looked up
-
 met : (c : tie.Then-is_child invariant-loop decreases-loop) → NameMet c.args.children.now c.loop-at.at c.name_end-read.result.end
 met c =
     met-name c.args.children.now c.loop-at-test.true c.name_end-read.ensures.end_is

@@ -6,8 +6,6 @@ use Rattle.judge.specs.Reading.Table.Laws.{Entered, slot-starts, walk-fits, told
 use Rattle.judge.proofs.table.look_up.Statement.{statement}
 use Rattle.judge.proofs.table.look_up.Tie as tie
 
--- places: the start, and where the latest name is tried
-
 begun : (c : tie.After-slot_of-slot)
     → let a = c.args in Entered (parts_in a.text.now a.names.now a.n) a.name.now (get_or a.heads.now c.slot_of-slot.result 0)
 begun c = slot-starts c.requires.0 (c.requires.1, c.slot_of-slot.ensures.0, c.slot_of-slot.ensures.1)
@@ -16,12 +14,11 @@ few : (c : tie.After-slot_of-slot) → get_or c.args.heads.now c.slot_of-slot.re
 few c = walk-fits c.requires.0 (begun c)
 
 returns : tie.Need-returns-then-told_by_key
-returns c =
-    (
-      told-ends c.requires.0 (begun c.before.before.before.before) (c.told_by_key.ensures c.if-told_by_key.true) c.requires.1
-          (λ i. omega (arith, c.shared_slice_known-1.given i)) (λ i. omega (arith, c.shared_slice_known-2-1.given i)),
-      few c.before.before.before.before,
-    )
+returns c = (
+  told-ends c.requires.0 (begun c.before.before.before.before) (c.told_by_key.ensures c.if-told_by_key.true) c.requires.1
+      (λ i. omega (arith, c.shared_slice_known-1.given i)) (λ i. omega (arith, c.shared_slice_known-2-1.given i)),
+  few c.before.before.before.before,
+)
 
 find-requires : tie.Need-find-requires
 find-requires c κs =

@@ -11,7 +11,7 @@ invariant-loop a b n last i₀ i = Compared a b i
 abbrev decreases-loop : tie.decreases-loop-i
 decreases-loop a b n last i₀ i = last - i
 
--- the start, and the loop's head
+-- behind the first test
 same-long : (c : tie.At-loop-i invariant-loop decreases-loop) → length c.args.a.now ≡ length c.args.b.now
 same-long c = c.if-n-b.false
 

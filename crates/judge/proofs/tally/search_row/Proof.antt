@@ -16,8 +16,6 @@ invariant-loop row words₀ i₀ words i =
 abbrev decreases-loop : tie.decreases-loop-i
 decreases-loop row words₀ i₀ words i = length row - i
 
--- the start, and the loop's head
-
 -- the child's name
 abbrev name : tie.In-loop-i invariant-loop decreases-loop → ℕ
 name c = get_or c.args.row.now c.loop-i.i 0
@@ -56,13 +54,12 @@ is-full-requires : tie.Need-is_full-requires invariant-loop decreases-loop
 is-full-requires c κs = search rules
 
 returns : tie.Need-returns-then-is_full invariant-loop decreases-loop
-returns c =
-    (
-      λ us t. row_told
-          (row-stops (c.loop-i.invariant.2 us t) c.loop-i-test.true (omega (arith, short c.before.before.before.before.before)) refl (number c.before.before.before.before.before)
-          (rw (seen_at c.loop-i.words (name c.before.before.before.before.before)) (ltb-true _ _ (sym c.is_full.ensures ∙ c.if-is_full.true)))),
-      c.loop-i.invariant.1,
-    )
+returns c = (
+  λ us t. row_told
+      (row-stops (c.loop-i.invariant.2 us t) c.loop-i-test.true (omega (arith, short c.before.before.before.before.before)) refl (number c.before.before.before.before.before)
+      (rw (seen_at c.loop-i.words (name c.before.before.before.before.before)) (ltb-true _ _ (sym c.is_full.ensures ∙ c.if-is_full.true)))),
+  c.loop-i.invariant.1,
+)
 
 cast-noted : tie.Need-overflow_cast-i invariant-loop decreases-loop
 cast-noted c = search rules

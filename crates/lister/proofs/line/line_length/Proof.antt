@@ -9,8 +9,6 @@ use borrow.Author.Rules.{rules}
 use Rattle.lister.proofs.line.line_length.Statement.{statement}
 use Rattle.lister.proofs.line.line_length.Tie as tie
 
--- the call, from where the ends of the fields are known; that, from where the children are counted; and that, from the word's length
-
 three : (c : tie.After-first_fields-ends) → Three c.args.cue.now c.first_fields-ends.result
 three c = cue-three c.first_fields-ends.ensures.0 c.requires
 

@@ -10,8 +10,6 @@ use borrow.Author.Rules.{rules}
 use Rattle.lister.proofs.line.write_line.Statement.{statement}
 use Rattle.lister.proofs.line.write_line.Tie as tie
 
--- the call, from where the ends of the fields are known; that, from where the children are counted; then back from each piece to the one before it
-
 three : (c : tie.After-first_fields-ends) → Three c.args.cue.now c.first_fields-ends.result
 three c = cue-three c.first_fields-ends.ensures.0 c.requires.0
 

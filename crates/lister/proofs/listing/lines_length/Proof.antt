@@ -19,8 +19,6 @@ invariant-loop cues codes length₀ n₀ at₀ len n at =
 abbrev decreases-loop : tie.decreases-loop-at
 decreases-loop cues codes length₀ n₀ at₀ len n at = length cues - at
 
--- the call, from a turn of the loop; the turn, from the end of its line; that end, from where the line's length is known
-
 cue : (c : tie.After-part_end-end invariant-loop decreases-loop) → Cue c.args.cues.now c.loop-at.n c.loop-at.at c.part_end-end.result
 cue c = before-cue c.loop-at.invariant.0 c.loop-at-test.true c.part_end-end.ensures
 

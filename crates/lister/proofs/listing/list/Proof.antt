@@ -13,8 +13,7 @@ use borrow.Author.Rules.{rules}
 use Rattle.lister.proofs.listing.list.Statement.{statement}
 use Rattle.lister.proofs.listing.list.Tie as tie
 
--- the call, from where the sheet was read, that from where it is known to be good, that from where the list is, that from where all is
--- said, and that from the end
+-- the sheet's outcome, and that it was read
 told : (c : tie.After-read_sheet-read) → sheet_outcome c.args.sheet.now ≡ c.read_sheet-read.result.outcome
 told c = sym (outcome-is c.args.sheet.now) ∙ sym (ap (λ r. r.outcome) c.read_sheet-read.ensures)
 

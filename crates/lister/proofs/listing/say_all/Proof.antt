@@ -16,8 +16,6 @@ invariant-loop sheet cues codes₀ rules kinds n₀ at₀ codes n at =
 abbrev decreases-loop : tie.decreases-loop-at
 decreases-loop sheet cues codes₀ rules kinds n₀ at₀ codes n at = length cues - at
 
--- the call, from a turn of the loop; the turn, from the end of its line; that end, from where the number of the sheet's line is known
-
 cue : (c : tie.After-part_end-end invariant-loop decreases-loop) → Cue c.args.cues.now c.loop-at.n c.loop-at.at c.part_end-end.result
 cue c = before-cue c.loop-at.invariant.0 c.loop-at-test.true c.part_end-end.ensures
 

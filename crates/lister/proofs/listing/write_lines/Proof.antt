@@ -20,8 +20,6 @@ invariant-loop buffer₀ cues codes written₀ n₀ at₀ buffer written n at =
 abbrev decreases-loop : tie.decreases-loop-at
 decreases-loop buffer₀ cues codes written₀ n₀ at₀ buffer written n at = length cues - at
 
--- the call, from a turn of the loop; the turn and the end of its line, from where the line's verdict is known; and that, from the turn's end
-
 cue : (c : tie.After-part_end-end invariant-loop decreases-loop) → Cue c.args.cues.now c.loop-at.n c.loop-at.at c.part_end-end.result
 cue c = before-cue c.loop-at.invariant.0 c.loop-at-test.true c.part_end-end.ensures
 

@@ -11,8 +11,6 @@ use borrow.Author.Rules.{rules}
 use Rattle.lister.proofs.listing.write_listing.Statement.{statement}
 use Rattle.lister.proofs.listing.write_listing.Tie as tie
 
--- the call, from where the last line is known; that, from where the lines are measured; that, from where they are written; that, from the end
-
 abbrev above : tie.Start → Text
 above s = unlines (lines_coded s.args.codes.now (lines s.args.cues.now))
 

@@ -21,8 +21,6 @@ invariant-loop buffer₀ codes numbers end₀ i₀ buffer end i =
 abbrev decreases-loop : tie.decreases-loop-i
 decreases-loop buffer₀ codes numbers end₀ i₀ buffer end i = 5 - i
 
--- the call, from where the numbers are known; that from where `total` is put; that from a turn of the loop; that from its tab, and that from its number
-
 abbrev numbers : tie.After-totals_of-totals invariant-loop decreases-loop → List ℕ
 numbers c = c.totals_of-totals.result
 

@@ -18,7 +18,7 @@ Inv text number₀ n₀ at₀ number n at =
 abbrev μ : tie.decreases-loop-at
 μ text number₀ n₀ at₀ number n at = length text - at
 
--- where answers look back to: the text, a turn of the loop, and the end of its line
+-- the text, and the line of a turn
 abbrev text : tie.After-is_ended Inv μ → Text
 text c = c.args.text.now
 

@@ -8,7 +8,7 @@ use borrow.Author.Rules.{rules}
 use Rattle.sheet.proofs.sheet.check_line.Statement.{statement}
 use Rattle.sheet.proofs.sheet.check_line.Tie as tie
 
--- where answers look back to: the call, and each test that was passed from the next one
+-- the kinds of the lines before, and what the tests passed so far say of this one
 abbrev kinds : tie.Start → List Text
 kinds s = parts_of s.args.text.now s.args.kinds
 

@@ -11,8 +11,6 @@ use borrow.Author.Rules.{rules}
 use Rattle.sheet.proofs.sheet.read_line.Statement.{statement}
 use Rattle.sheet.proofs.sheet.read_line.Tie as tie
 
--- where answers look back to: the call, the ends of the fields, and the good check from behind the model
-
 good : (c : tie.In-Good)
     → (let a = c.args in line_checked (parts_of a.text.now a.kinds) (part a.text.now a.at a.end)) ≡ Good
 good c = sym c.check_line.ensures ∙ c.in-Good.is

@@ -15,7 +15,7 @@ Inv text kinds₀ entries₀ n₀ at₀ kinds entries n at = Gone text kinds ent
 abbrev μ : tie.decreases-loop-at
 μ text kinds₀ entries₀ n₀ at₀ kinds entries n at = length text - at
 
--- where answers look back to: the text, a turn of the loop, the end of its line, and what the line is read into
+-- the text, and the end of a turn's line
 abbrev text : tie.At-loop-at Inv μ → Text
 text l = l.args.text.now
 

@@ -4,8 +4,6 @@ use Rattle.tidying.specs.Tidying.Line.{model-put, model-not-refused}
 use Rattle.tidying.proofs.write.put_model.Statement.{statement}
 use Rattle.tidying.proofs.write.put_model.Tie as tie
 
--- the call, from where the answer is told; and the start
-
 returns : tie.Need-returns-in-Length
 returns c =
     model-put _ c.requires c.write_model.ensures.0 c.write_model.ensures.1 c.in-Length.is

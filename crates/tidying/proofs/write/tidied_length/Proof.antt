@@ -17,8 +17,6 @@ invariant-loop sheet line₀ total₀ at₀ line total at =
 abbrev decreases-loop : tie.decreases-loop-at
 decreases-loop sheet line₀ total₀ at₀ line total at = length sheet - at
 
--- the call, from a turn of the loop; the turn, from the end of its line; that end, from where the line's length is known
-
 rule : (c : tie.After-part_end-end invariant-loop decreases-loop) → RuleAt c.args.sheet.now c.loop-at.at c.part_end-end.result
 rule c = rule-next c.loop-at.invariant.0 c.loop-at-test.true c.part_end-end.ensures
 

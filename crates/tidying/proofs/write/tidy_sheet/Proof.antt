@@ -8,8 +8,6 @@ use borrow.Author.Rules.{rules}
 use Rattle.tidying.proofs.write.tidy_sheet.Statement.{statement}
 use Rattle.tidying.proofs.write.tidy_sheet.Tie as tie
 
--- the start, from where the sheet was read; and from where it is known to be good
-
 -- the outcome that is told is the sheet's
 told : (c : tie.After-read_sheet-read) → sheet_outcome c.args.sheet.now ≡ c.read_sheet-read.result.outcome
 told c = sym (outcome-is c.args.sheet.now) ∙ sym (ap (λ r. r.outcome) c.read_sheet-read.ensures)

@@ -9,8 +9,6 @@ use borrow.Author.Rules.{rules}
 use Rattle.tidying.proofs.write.write_rule.Statement.{statement}
 use Rattle.tidying.proofs.write.write_rule.Tie as tie
 
--- the start, from where the ends of the fields are known; then back from each piece to the one before it
-
 three : (c : tie.After-first_fields-ends) → Three c.args.line.now c.first_fields-ends.result
 three c = rule-three c.requires.0 c.first_fields-ends.ensures.0
 

@@ -17,8 +17,6 @@ invariant-loop buffer₀ sheet written₀ at₀ buffer written at = AtRule sheet
 abbrev decreases-loop : tie.decreases-loop-at
 decreases-loop buffer₀ sheet written₀ at₀ buffer written at = length sheet - at
 
--- the call, from a turn of the loop; the turn, from the end of its line; that end, from where the line is written
-
 rule : (c : tie.After-part_end-end invariant-loop decreases-loop) → RuleAt c.args.sheet.now c.loop-at.at c.part_end-end.result
 rule c = rule-next c.loop-at.invariant.0 c.loop-at-test.true c.part_end-end.ensures
 

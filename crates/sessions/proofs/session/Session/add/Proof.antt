@@ -7,8 +7,6 @@ use borrow.Author.Rules.{rules}
 use Rattle.sessions.proofs.session.Session.add.Statement.{statement}
 use Rattle.sessions.proofs.session.Session.add.Tie as tie
 
--- the call, from where 40 and 42 were tried; that, from where the names are counted; and that, from where the room is known
-
 passed : (c : tie.After-names-names) → checked c.args.self c.args.trail.now ≡ Done
 passed c = sym c.checked.ensures ∙ c.in-Done.is
 

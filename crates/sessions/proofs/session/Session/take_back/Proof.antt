@@ -7,8 +7,6 @@ use borrow.Author.Rules.{rules}
 use Rattle.sessions.proofs.session.Session.take_back.Statement.{statement}
 use Rattle.sessions.proofs.session.Session.take_back.Tie as tie
 
--- the call, from where 40 and 42 were tried; that, from where both are known not to be there
-
 passed : (c : tie.In-Done) → checked c.args.self c.args.trail.now ≡ Done
 passed c = sym c.checked.ensures ∙ c.in-Done.is
 
