@@ -15,7 +15,8 @@ use mathlib.Core.{Path.◌≡◌, Bool.cond, List.List, List.◌++◌}
 use Rattle.std.specs.Prelude.{ℕ, ◌≤◌, ◌<◌}
 use lib.{Dec.leb, ListN.length, ListN.drop}
 use Rattle.fields.specs.Bytes.{Text}
-use Rattle.model.specs.{Answer.answer, Types.Holds, Model.model_of, Model.type_of, Flatten.flatten}
+use Rattle.model.specs.{Types.Holds, Model.model_of, Model.type_of, Flatten.flatten}
+use Rattle.judge.specs.Answer.{answer}
 use Rattle.model.specs.Fault.{Answer, Answers, refused, accepted, model_number}
 use Rattle.model.specs.Syntax.{Syntax, text, written_names}
 use Rattle.judge.specs.Named.{row_of}

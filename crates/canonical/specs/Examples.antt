@@ -1,7 +1,8 @@
 -- Texts in their one way: document 02, W4 and W7, and OPEN-POINTS, 21.
 use mathlib.Core.{Path.◌≡◌, Path.refl}
 use Rattle.fields.specs.Bytes.{Text, bytes}
-use Rattle.model.specs.{Accept.Test.tree-accepted, Fault.Answers, Fault.accepted, Syntax.Syntax}
+use Rattle.model.specs.{Fault.Answers, Fault.accepted, Syntax.Syntax}
+use Rattle.model.proofs.AcceptTest.{tree-accepted}
 use Rattle.canonical.specs.Canonical.{canonical_text}
 
 -- x is accepted, and y is its canonical text

@@ -2,7 +2,8 @@
 
 ghost use Rattle.std.specs.Prelude.{◌≡◌, ◌+◌, ◌≤◌, length, drop};
 ghost use Rattle.fields.specs.Put.{Put};
-ghost use Rattle.model.specs.{Answer.answer, Fault.accepted, Syntax.Syntax, Syntax.mark_text};
+ghost use Rattle.model.specs.{Fault.accepted, Syntax.Syntax, Syntax.mark_text};
+ghost use Rattle.judge.specs.Answer.{answer};
 ghost use Rattle.fields.specs.Bytes.{bytes};
 ghost use Rattle.canonical.specs.Canonical.{write_fitting, write_reply, written_of, buffer_written};
 ghost use Rattle.canonical.specs.Writer.Accepted.{tree_reply, OneTree};

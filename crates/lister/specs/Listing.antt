@@ -4,7 +4,8 @@ pub mod Total
 pub mod Lines
 use mathlib.Core.{Path.◌≡◌, Bool.cond, List.List, List.[], List.◌∷◌, List.◌++◌, List.map}
 use Rattle.std.specs.Prelude.{ℕ, zero, suc, ◌+◌, length, get_or}
-use Rattle.model.specs.{declared.verdict.Verdict.Verdict, Syntax.written_names, Syntax.number_in, Fault.Answer, Fault.refused, Fault.accepted, Answer.answer}
+use Rattle.model.specs.{declared.verdict.Verdict.Verdict, Syntax.written_names, Syntax.number_in, Fault.Answer, Fault.refused, Fault.accepted}
+use Rattle.judge.specs.Answer.{answer}
 use Rattle.model.specs.{Model.model_of, Model.type_of, Verdict.verdict}
 use Rattle.model.specs.declared.verdict.Verdict.TheVariants.{Complete as IsComplete, Open as IsOpen, Dead as IsDead}
 use Rattle.fields.specs.{Bytes.Text, Bytes.bytes, Bytes.same_text, Bytes.digits}

@@ -1,8 +1,6 @@
 -- The test of a rule that passes over its nodes can do: document 01, refusal 40. `Check.Exact` has that it holds just where some accepted model text
 -- reads into the rule.
-pub mod Laws
 pub mod Scan
-pub mod Exact
 use mathlib.Core.{Bool.Bool, Bool.true, Bool.false, Bool.cond, Bool.◌&&◌, List.List, List.[], List.◌∷◌}
 use Rattle.std.specs.Prelude.{ℕ, ◌+◌}
 use lib.{Dec.leb, Dec.eqb, ListN.drop, ListN.length, ListN.get_or}

@@ -1,6 +1,5 @@
 -- The depth of a rule, as one pass over its nodes finds it: of each flattened tree only a few facts are kept. `Depth.Laws.depth_is` has that it is the
 -- depth of the model.
-pub mod Laws
 use Rattle.std.specs.Prelude.{Bool, true, false, cond, not, ◌&&◌, ◌||◌, List, [], ◌∷◌, ℕ, ◌+◌, ◌-◌, ◌*◌, ◌/◌, ◌%◌, max, min}
 use lib.{Dec.ltb, Dec.eqb, ListN.get_or}
 use Rattle.model.specs.{declared.rule.Sign.Sign, declared.rule.Mark.Mark, declared.rule.Kind.Kind}

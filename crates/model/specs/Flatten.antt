@@ -1,11 +1,8 @@
 -- Flattening a tree, from the inside out, and its depth: document 02, W3. Atoms may be of any kind.
 pub mod Append
 pub mod Merges
-pub mod Solid
-pub mod Depth
 pub mod Map
 pub mod Leaves
-pub mod Rows
 use Rattle.std.specs.Prelude.{Bool, false, cond, ◌&&◌, ◌||◌, List, [], ◌∷◌, ◌++◌, ℕ, suc, eqb}
 use Rattle.model.specs.{declared.rule.Sign.Sign, declared.rule.Mark.Mark}
 use Rattle.model.specs.declared.rule.Sign.TheVariants.{None, Sequence, Choice, Interleaving}

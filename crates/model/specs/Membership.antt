@@ -1,6 +1,5 @@
 -- Membership, extendability and the empty word as tests by recursion on a type: document 001 decides them in linear time. `Membership.Laws` has what
 -- each tells of a conflict-free type.
-pub mod Laws
 use Rattle.std.specs.Prelude.{Bool, true, false, not, ◌&&◌, ◌||◌, [], ◌∷◌, ℕ, leb}
 use Rattle.model.specs.declared.rule.Upper.{Upper}
 use Rattle.model.specs.declared.rule.Upper.TheVariants.{Number, Unbounded}

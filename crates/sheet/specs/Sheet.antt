@@ -11,7 +11,7 @@ use lib.{Dec.leb, Dec.ltb, Dec.eqb, ListN.length, ListN.get_or, ListN.replicate}
 use Rattle.fields.specs.{Limits.max_file, Bytes.Text, Bytes.bytes, Bytes.same_text, Split.lines, Split.behind, Split.fields, Split.field, Children.short_name}
 use Rattle.judge.specs.{declared.reading.NamePlace.NamePlace, Reading.no_place, Reading.names_with, Reading.reading, Reading.part_at}
 use Rattle.model.specs.Fault.{Answer, refused, accepted, model_number}
-use Rattle.model.specs.Answer.{answer}
+use Rattle.judge.specs.Answer.{answer}
 use Rattle.sheet.specs.{declared.sheet.SheetFault.SheetFault, declared.sheet.SheetOutcome.SheetOutcome, declared.sheet.Entry.Entry}
 use Rattle.sheet.specs.{declared.sheet.Sheet.Sheet, declared.sheet.SheetRead.SheetRead}
 use Rattle.sheet.specs.declared.sheet.SheetFault.TheVariants.{LongFile, Unended, ManyRules, BadFields, NoKind, Repeated, Model}

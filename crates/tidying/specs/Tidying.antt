@@ -9,7 +9,8 @@ use mathlib.Core.{Path.◌≡◌, Logic.◌↔◌, Bool.cond, List.List, List.[]
 use Rattle.std.specs.Prelude.{ℕ, ◌≤◌, ◌<◌}
 use lib.{Dec.leb, ListN.length, ListN.drop}
 use Rattle.fields.specs.{Bytes.Text, Bytes.bytes, Split.line_feed, Split.tab, Split.lines, Least.NoFault, Least.First}
-use Rattle.model.specs.{Answer.answer, Fault.Answer, Fault.Answers, Fault.refused, Fault.accepted, Syntax.Syntax, Flatten.nil}
+use Rattle.model.specs.{Fault.Answer, Fault.Answers, Fault.refused, Fault.accepted, Syntax.Syntax, Flatten.nil}
+use Rattle.judge.specs.Answer.{answer}
 use Rattle.sheet.specs.{declared.sheet.SheetOutcome.SheetOutcome, declared.refusal.Refusal.Refusal, declared.refusal.Source.Source}
 use Rattle.sheet.specs.declared.sheet.SheetOutcome.TheVariants.{Read, Refused as SheetRefused}
 use Rattle.sheet.specs.{Sheet.kind, Sheet.model, Sheet.sheet_number, Sheet.sheet_outcome, Refusal.SheetStands, Refusal.sheet_rank, RefusalLine.too_long}

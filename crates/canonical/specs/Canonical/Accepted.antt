@@ -12,8 +12,10 @@ use Rattle.model.specs.declared.rule.{Sign.Sign, Mark.TheVariants.Plain}
 use Rattle.model.specs.Tree.{Node, leaf, group, marked, Members, none, ◌▹◌, size, node_weight, members_weight, atoms, nodes, nesting, Formed, MarksFit}
 use Rattle.model.specs.Tree.Leaves.{formed-each, each-formed}
 use Rattle.model.specs.Syntax.{Count, unwritten, between, onward, Spelling, Syntax, CountFormed, SpellingFormed, written_names}
-use Rattle.model.specs.{Fault.wrong, Fault.accepted, Fault.Answers, Flatten.nil, Flatten.flatten, Flatten.Solid.Solid, Flatten.Solid.SolidAll}
-use Rattle.model.specs.{Accept.Within, Accept.Laws.member-at, Accept.Laws.member-place, Accept.Laws.within-accepted, Accept.Laws.accepted-within}
+use Rattle.model.specs.{Fault.wrong, Fault.accepted, Fault.Answers, Flatten.nil, Flatten.flatten}
+use Rattle.model.proofs.FlattenSolid.{Solid, SolidAll}
+use Rattle.model.specs.{Accept.Within}
+use Rattle.model.proofs.AcceptLaws.{member-at, member-place, within-accepted, accepted-within}
 use Rattle.judge.specs.Reading.Table.{Distinct}
 use Rattle.canonical.specs.Tidy.{raised, tidy_count, tidy_atom, tidy, Form.tidy-neat, Flat.neat-solid, Flat.neat-marks, Formed.tidy-formed}
 use Rattle.canonical.specs.Tidy.Leaves.{tidy-names, tidy-atoms}

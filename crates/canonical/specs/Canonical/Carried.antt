@@ -8,7 +8,8 @@ use Rattle.std.proofs.lemmas.List.{length-map}
 use Rattle.fields.specs.Bytes.{Text}
 use Rattle.model.specs.{declared.rule.Upper.Upper, declared.rule.Sign.Sign, declared.rule.Mark.Mark}
 use Rattle.model.specs.declared.rule.Mark.TheVariants.{Plain, Optional, Nonempty}
-use Rattle.model.specs.Word.{Word, only, Over, Shuffle, none as nothing, left, right, Laws.only-is, Laws.only_self}
+use Rattle.model.specs.Word.{Word, only, Over, Shuffle, none as nothing, left, right}
+use Rattle.model.proofs.WordLaws.{only-is, only_self}
 use Rattle.model.specs.Tree.{Node, leaf, group, marked, Members, none, ◌▹◌, node_leaves, leaves, members_leaves}
 use Rattle.model.specs.Syntax.{Spelling, Syntax}
 use Rattle.model.specs.Types.{Ty, ε, atom, join, Operator, sequence, choice, interleaving, Under, Holds}

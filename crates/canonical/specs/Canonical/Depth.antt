@@ -7,8 +7,9 @@ use Rattle.model.specs.{declared.rule.Sign.Sign, declared.rule.Mark.Mark}
 use Rattle.model.specs.declared.rule.Mark.TheVariants.{Plain, Nonempty}
 use Rattle.model.specs.Tree.{Node, leaf, group, marked, Members, none, ◌▹◌, node_nesting, nesting, members_nesting}
 use Rattle.model.specs.Syntax.{Spelling, Syntax}
-use Rattle.model.specs.Flatten.{is_choice, gathered, grouped, dropped_mark, flatten, depth, Solid.Solid, Solid.SolidAll, Solid.tree-flattened}
-use Rattle.model.specs.Flatten.Depth.{deepest, deepest_of, deepest_in, deepest-first, group-deepest, gathered-inside, grouped-inside, no_deeper}
+use Rattle.model.specs.Flatten.{is_choice, gathered, grouped, dropped_mark, flatten, depth}
+use Rattle.model.proofs.FlattenSolid.{Solid, SolidAll, tree-flattened}
+use Rattle.model.proofs.FlattenDepth.{deepest, deepest_of, deepest_in, deepest-first, group-deepest, gathered-inside, grouped-inside, no_deeper}
 use Rattle.canonical.specs.Tidy.{marking, stripped, any_nullable, settled_group, tidy_node, tidy, tidy_all, Form.tidy-neat, Flat.neat-solid}
 use Rattle.canonical.specs.Tidy.Leaves.{marking-kept}
 use Rattle.canonical.specs.{Order.Kept.order-nesting, Canonical.canonical}

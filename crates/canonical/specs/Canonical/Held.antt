@@ -2,7 +2,8 @@
 use mathlib.Core.{Path.subst, Logic.◌↔◌, List.List}
 use Rattle.std.specs.Prelude.{◌≤◌}
 use Rattle.fields.specs.Bytes.{Text}
-use Rattle.model.specs.{Fault.Answers, Fault.accepted, Accept.Laws.accepted-within, Syntax.Syntax, Syntax.written_names}
+use Rattle.model.specs.{Fault.Answers, Fault.accepted, Syntax.Syntax, Syntax.written_names}
+use Rattle.model.proofs.AcceptLaws.{accepted-within}
 use Rattle.canonical.specs.{Order.Smallest.occurs-here, Order.Smallest.occurs-in, Canonical.canonical, Canonical.canonical_text, Canonical.HoldsNames}
 use Rattle.canonical.specs.Canonical.{Names.canonical-held, Accepted.canonical-accepted, Accepted.canonical-names}
 

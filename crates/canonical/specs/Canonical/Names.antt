@@ -5,7 +5,8 @@ use mathlib.Core.List.{Memᴰ}
 use Rattle.std.specs.Prelude.{ℕ, zero, suc, ◌+◌, ◌<◌, length, get_or}
 use Rattle.std.proofs.Common.{arith}
 use Rattle.fields.specs.Bytes.{Text}
-use Rattle.model.specs.{Tree.Leaves.length-leaves, Tree.Map.weight-map, Accept.Laws.member-place}
+use Rattle.model.specs.{Tree.Leaves.length-leaves, Tree.Map.weight-map}
+use Rattle.model.proofs.AcceptLaws.{member-place}
 use Rattle.model.specs.Tree.{Node, leaf, group, marked, Members, none, ◌▹◌, node_leaves, leaves, members_leaves, atoms, MarksFit, map_node, map_members}
 use Rattle.model.specs.Syntax.{Spelling, Syntax, written_names, number_in, Number.from_found, Number.from-none}
 use Rattle.model.specs.Types.{Ty}

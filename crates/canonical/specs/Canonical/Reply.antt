@@ -5,8 +5,9 @@ use native.Mathlib.{Decide.dec_le, Omega.arith}
 use Rattle.std.proofs.Common.{le-leb}
 use Rattle.std.proofs.lemmas.Bool.{lt-leb}
 use Rattle.fields.specs.{Bytes.Text, Limits.max_text}
-use Rattle.model.specs.{Answer.answer, Answer.answered, Answer.answer-is}
-use Rattle.model.specs.{Fault.Answer, Fault.Answers, Fault.refused, Fault.accepted, Accept.Laws.accepted-within, Accept.Length.text-fits, Syntax.text}
+use Rattle.judge.specs.Answer.{answer, answered, answer-is}
+use Rattle.model.specs.{Fault.Answer, Fault.Answers, Fault.refused, Fault.accepted, Accept.Length.text-fits, Syntax.text}
+use Rattle.model.proofs.AcceptLaws.{accepted-within}
 use Rattle.canonical.specs.declared.fault.WriteFault.TheVariants.{Model, LongText}
 use Rattle.canonical.specs.Canonical.{canonical, canonical_text, WriteReply, wrote, refused_write, write_fitting, write_by, write_reply, Writes}
 use Rattle.canonical.specs.Canonical.{Fixed.canonical-twice, Accepted.canonical-accepted}

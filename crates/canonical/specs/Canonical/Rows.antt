@@ -1,7 +1,8 @@
 -- The one way to write a model keeps its rows, by any numbering of the names.
 use Rattle.std.specs.Prelude.{◌↔◌, ℕ}
 use Rattle.fields.specs.Bytes.{Text}
-use Rattle.model.specs.{Word.Word, Syntax.Syntax, Tree.MarksFit, Types.Holds, Types.Languages.thus, Model.type_with}
+use Rattle.model.specs.{Word.Word, Syntax.Syntax, Tree.MarksFit, Types.Holds, Model.type_with}
+use Rattle.model.proofs.TypesLanguages.{thus}
 use Rattle.canonical.specs.{Meaning.meaning, Tidy.tidy, Tidy.Rows.tidy-rows, Order.Rows.order-rows, Canonical.canonical, Canonical.Fixed.canonical-tidy}
 
 pub canonical-rows : (ν : Text → ℕ) (t : Syntax) → MarksFit t → (w : Word)

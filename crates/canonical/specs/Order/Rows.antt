@@ -1,14 +1,15 @@
 -- Ordering keeps the rows: members of `|` and `&` may stand in any order.
 use mathlib.Core.{Logic.◌↔◌, Logic.inl, Logic.inr, Logic.⊎_elim}
 use Rattle.fields.specs.Tests.{by-test}
-use Rattle.model.specs.{declared.rule.Sign.Sign, Word.Word, Word.Laws.shuffle-swap}
+use Rattle.model.specs.{declared.rule.Sign.Sign, Word.Word}
+use Rattle.model.proofs.WordLaws.{shuffle-swap}
 use Rattle.model.specs.declared.rule.Sign.TheVariants.{None, Sequence, Choice, Interleaving}
 use Rattle.model.specs.Tree.{Node, leaf, group, marked, Members, none, ◌▹◌}
 use Rattle.model.specs.Syntax.{Spelling, Syntax}
 use Rattle.model.specs.Types.{Ty, Operator, sequence, choice, interleaving, Language, Joined, Holds}
-use Rattle.model.specs.Types.Languages.{Same, itself, thus, back, Empty, Neutral, joined_same, joined-assoc}
+use Rattle.model.proofs.TypesLanguages.{Same, itself, thus, back, Empty, Neutral, joined_same, joined-assoc}
 use Rattle.model.specs.Model.{operator, joined_type, node_type_with, type_with, types_with}
-use Rattle.model.specs.Flatten.Rows.{Together, from-together, marked-same}
+use Rattle.model.proofs.FlattenRows.{Together, from-together, marked-same}
 use Rattle.canonical.specs.Order.{not_after, smallest_name, insert, sort, arrange, order_node, order, order_all}
 
 -- all but sequence

@@ -7,7 +7,8 @@ use Rattle.model.specs.{declared.rule.Sign.Sign, declared.rule.Mark.Mark, declar
 use Rattle.model.specs.Tree.{Node, leaf, group, marked, Members, none, ◌▹◌, size, node_weight, atoms, members_weight, is_plain}
 use Rattle.model.specs.Tree.{NodeMarksFit, MarksFit, MembersMarksFit}
 use Rattle.model.specs.Syntax.{Spelling, Syntax}
-use Rattle.model.specs.Flatten.{is_choice, some_nil, gathered, over, flatten_node, flatten, flatten_all, Solid.Solid, Solid.SolidAll}
+use Rattle.model.specs.Flatten.{is_choice, some_nil, gathered, over, flatten_node, flatten, flatten_all}
+use Rattle.model.proofs.FlattenSolid.{Solid, SolidAll}
 use Rattle.model.specs.{Mark.Laws.is-plain, Mark.Laws.atom-fits, Flatten.Append.grouped-several}
 use Rattle.canonical.specs.{Neat.NeatNode, Neat.Neat, Neat.NeatAll, Tidy.Form.neat-not-nil, Tidy.Form.list_of}
 

@@ -12,7 +12,8 @@ use Rattle.model.specs.declared.rule.Mark.TheVariants.{Plain, Optional, Nonempty
 use Rattle.model.specs.Tree.{Node, leaf, group, marked, Members, none, ◌▹◌, size, node_under, is_plain}
 use Rattle.model.specs.Syntax.{Spelling, Syntax}
 use Rattle.model.specs.Flatten.{is_choice, nil, is_nil, some_nil, merges, members_of, gathered, grouped, over, dropped_mark, ◌⧺◌}
-use Rattle.model.specs.Flatten.{Append.append-none, Append.gathered-append, Append.grouped-several, Rows.none_left}
+use Rattle.model.specs.Flatten.{Append.append-none, Append.gathered-append, Append.grouped-several}
+use Rattle.model.proofs.FlattenRows.{none_left}
 use Rattle.model.specs.Flatten.{flatten_node, flatten, flatten_all, Merges.merged, Merges.merged_some}
 use Rattle.canonical.specs.Neat.{strips, Neat, NeatAll}
 use Rattle.canonical.specs.Tidy.{tree_nullable, marking, stripped, any_nullable, settled_group, tidy_node, tidy, tidy_all}

@@ -12,9 +12,10 @@ use Rattle.model.specs.declared.rule.Mark.TheVariants.{Plain, Optional, Nonempty
 use Rattle.model.specs.Tree.{Node, leaf, group, marked, Members, none, ◌▹◌, node_under, is_plain}
 use Rattle.model.specs.Syntax.{Count, unwritten, between, onward, Spelling, Syntax}
 use Rattle.model.specs.Types.{Ty, Operator, sequence, choice, interleaving, Language, Joined, Holds}
-use Rattle.model.specs.Types.Languages.{Neutral}
+use Rattle.model.proofs.TypesLanguages.{Neutral}
 use Rattle.model.specs.Model.{counts_of, counted_type, operator, marked_type, node_type_with, type_with, types_with}
-use Rattle.model.specs.Flatten.{is_choice, is_nil, some_nil, Rows.Together, Rows.from-together}
+use Rattle.model.specs.Flatten.{is_choice, is_nil, some_nil}
+use Rattle.model.proofs.FlattenRows.{Together, from-together}
 use Rattle.canonical.specs.Tidy.{nullable_under, from_zero, node_nullable, group_nullable, tree_nullable, all_nullable, some_nullable, fitting, marking}
 use Rattle.canonical.specs.Tidy.{stripped, any_nullable}
 use Rattle.canonical.specs.Meaning.{meaning}

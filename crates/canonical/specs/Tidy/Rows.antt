@@ -11,11 +11,11 @@ use Rattle.model.specs.declared.rule.Mark.TheVariants.{Plain, Optional, Nonempty
 use Rattle.model.specs.Tree.{Node, leaf, group, marked, Members, none, ◌▹◌, is_plain, atoms, mark_fits, NodeMarksFit, MarksFit, MembersMarksFit}
 use Rattle.model.specs.Syntax.{Count, unwritten, between, onward, Spelling, Syntax}
 use Rattle.model.specs.Types.{Ty, nonempty, Operator, sequence, choice, interleaving, Language, Joined, Holds}
-use Rattle.model.specs.Types.Languages.{Same, itself, thus, back, Empty, Neutral, joined_same, joined-assoc}
+use Rattle.model.proofs.TypesLanguages.{Same, itself, thus, back, Empty, Neutral, joined_same, joined-assoc}
 use Rattle.model.specs.Model.{counts_of, counted_type, operator, marked_type, node_type_with, type_with, types_with}
 use Rattle.model.specs.Flatten.{is_choice, is_nil, some_nil, gathered, grouped, over, dropped_mark}
-use Rattle.model.specs.Flatten.Rows.{Together, from-together, Dropped, dropped-same, one-empty, marked-same, optional-over, nonempty-over, tree_types}
-use Rattle.model.specs.Flatten.Rows.{none_left, gathered-rows, left-rows, dropped-not, dropped-behind, dropped-fits, nil-rows, over-rows}
+use Rattle.model.proofs.FlattenRows.{Together, from-together, Dropped, dropped-same, one-empty, marked-same, optional-over, nonempty-over, tree_types}
+use Rattle.model.proofs.FlattenRows.{none_left, gathered-rows, left-rows, dropped-not, dropped-behind, dropped-fits, nil-rows, over-rows}
 use Rattle.canonical.specs.Tidy.{from_zero, tidy_count, node_nullable, tree_nullable, fitting, marking, stripped, any_nullable, settled_group}
 use Rattle.canonical.specs.Tidy.{tidy_node, tidy, tidy_all, Leaves.tidy_node-atoms}
 use Rattle.canonical.specs.Tidy.Nullable.{node-nullable, tree-nullable, nil-nullable, some-nil}

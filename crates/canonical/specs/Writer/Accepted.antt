@@ -8,9 +8,11 @@ use Rattle.std.proofs.Common.{length-set, eq-eqb, le-leb}
 use Rattle.std.proofs.lemmas.Bool.{lt-leb}
 use Rattle.fields.specs.{Bytes.Text, Bytes.bytes, Limits.max_text, Limits.max_nodes}
 use Rattle.model.specs.{declared.fault.ModelFault.TheVariants.Size, Tree.nodes, Tree.node_under, Flatten.nil}
-use Rattle.model.specs.{Flatten.members_of, Answer.answer, Answer.answered}
+use Rattle.model.specs.{Flatten.members_of}
+use Rattle.judge.specs.Answer.{answer, answered}
 use Rattle.model.specs.{Fault.Answer, Fault.Answers, Fault.refused, Fault.accepted, declared.fault.ModelFault.ModelFault, Accept.Within}
-use Rattle.model.specs.{Accept.Laws.accepted-within, Syntax.Syntax, Syntax.text}
+use Rattle.model.specs.{Syntax.Syntax, Syntax.text}
+use Rattle.model.proofs.AcceptLaws.{accepted-within}
 use Rattle.canonical.specs.declared.write.Written.TheVariants.{Length, Refused}
 use Rattle.canonical.specs.declared.fault.WriteFault.TheVariants.{Model, LongText}
 use Rattle.judge.specs.Reading.{reading_by}

@@ -15,8 +15,10 @@ use Rattle.fields.specs.declared.fault.CueFault.TheVariants.{LongFile, NoName, M
 use Rattle.fields.specs.declared.children.Children.TheVariants.{Count, Refused}
 use Rattle.fields.specs.Split.{tab, split, part, part_end, more}
 use Rattle.fields.specs.Split.{joined_by, Laws.joined-split, Laws.part_at, Laws.end-within}
-use Rattle.model.specs.{declared.fault.ModelFault.ModelFault, Syntax.Syntax, Syntax.written_names, Syntax.number_in, Answer.answer, Answer.answered}
-use Rattle.model.specs.{Fault.Answered.name-inside, Syntax.Number.number-below}
+use Rattle.model.specs.{declared.fault.ModelFault.ModelFault, Syntax.Syntax, Syntax.written_names, Syntax.number_in}
+use Rattle.judge.specs.Answer.{answer, answered}
+use Rattle.model.specs.{Syntax.Number.number-below}
+use Rattle.model.proofs.FaultAnswered.{name-inside}
 use Rattle.model.specs.Fault.{model_number, Answer, Answers, refused, accepted}
 use Rattle.judge.specs.{declared.reading.Names.Names, declared.reading.Reading.Reading, Reading.Laws.names_are, Reading.Search.name-fits}
 use Rattle.judge.specs.{Reading.Search.parts-many}

@@ -4,7 +4,8 @@ use Rattle.std.specs.Prelude.{◌≡◌, refl, ℕ, zero, suc, ◌-◌, ◌<◌}
 use Rattle.std.proofs.Common.{sym, ap, subst, ◌∙◌}
 use native.Mathlib.{Decide.dec_lt, Omega.arith}
 use lib.{Dec.T, ListN.length, ListN.get_or}
-use Rattle.model.specs.{declared.fault.ModelFault.TheVariants.Repeated, Accept.Starts.name-at, Syntax.Number.from_found, Syntax.Number.from-none}
+use Rattle.model.specs.{declared.fault.ModelFault.TheVariants.Repeated, Syntax.Number.from_found, Syntax.Number.from-none}
+use Rattle.model.proofs.AcceptStarts.{name-at}
 use Rattle.model.specs.Syntax.{Syntax, text, written_names, number_in}
 use Rattle.model.specs.Fault.{name_at, name_from, tally, Answers, accepted, places}
 use Rattle.fields.specs.Bytes.{Text}

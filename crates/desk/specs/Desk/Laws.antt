@@ -8,9 +8,10 @@ use Rattle.fields.specs.declared.fault.CueFault.TheVariants.{LongFile, Unended, 
 use Rattle.model.specs.{declared.fault.ModelFault.ModelFault, declared.verdict.Verdict.Verdict, Word.Word, Types.Ty, Types.ConflictFree, Fault.model_number}
 use Rattle.model.specs.{Fault.Answers, Fault.accepted, Syntax.Syntax, Syntax.number_in, Syntax.written_names, Tree.leaves, Tree.Leaves.length-leaves}
 use Rattle.model.specs.{Model.model_of, Model.encode}
-use Rattle.model.specs.{Model.Types.type-conflict-free, Accept.Laws.accepted-within, Accept.Laws.accepted-counts}
+use Rattle.model.specs.{Model.Types.type-conflict-free}
+use Rattle.model.proofs.AcceptLaws.{accepted-within, accepted-counts}
 use Rattle.model.specs.declared.verdict.Verdict.TheVariants.{Complete, Open, Dead}
-use Rattle.model.specs.Fault.Answered.{number-injective, number-over, number-under}
+use Rattle.model.proofs.FaultAnswered.{number-injective, number-over, number-under}
 use Rattle.judge.specs.{declared.fault.JudgeFault.JudgeFault, Row.judge_number, Reply.Laws.cue-injective, Reply.Laws.judges-exactly}
 use Rattle.judge.specs.{declared.verdict.ChildrenJudged.ChildrenJudged, declared.verdict.ChildrenNext.ChildrenNext}
 use Rattle.judge.specs.declared.verdict.ChildrenJudged.TheVariants.{Verdict as Said, ModelRefused, ChildrenRefused}

@@ -1,11 +1,7 @@
--- Whether each field is spelt as a name, byte by byte: each byte is tested with the one before it.
-use mathlib.Core.{Path.◌≡◌, Path.refl, Path.sym, Path.◌∙◌, List.List, List.[], List.◌∷◌}
-use Rattle.std.specs.Prelude.{Bool, true, false, cond, not, ◌&&◌, ◌||◌, ℕ, ◌+◌, ◌-◌, ◌<◌}
-use Rattle.std.proofs.Math.Bool.{and_assoc}
-use native.Mathlib.{Omega.arith, Numerals.add-one}
-use lib.{Dec.eqb, ListN.length, ListN.drop, ListN.get_or, Seq.drop-cons, Seq.drop-length}
-use Rattle.std.proofs.Common.{eqb-true}
-use Rattle.fields.specs.{Tests.by-test, Split.tab, Split.split, Split.Laws.parted}
+-- Whether each field is spelt as a name, byte by byte: each byte is tested with the one before it. Their laws are in proofs/SpellingLaws.antt.
+use Rattle.std.specs.Prelude.{Bool, true, not, ◌&&◌, ◌||◌, ℕ, List, [], ◌∷◌}
+use lib.Dec.{eqb}
+use Rattle.fields.specs.{Split.tab}
 use Rattle.fields.specs.Bytes.{Text, is_initial, is_later, is_inner, all, is_name}
 
 abbrev pub all_spelt : List Text → Bool
@@ -22,42 +18,6 @@ goes_on a [] = not (eqb a tab)
 goes_on a (b ∷ y) = may_follow a b && goes_on b y
 
 -- the rest of a name, and names behind it
-abbrev rest_spelt : List Text → Bool
+abbrev pub rest_spelt : List Text → Bool
 rest_spelt [] = true
 rest_spelt (c ∷ cs) = all is_inner c && all_spelt cs
-
--- behind a tab names begin, behind any other byte one goes on
-goes_on-is : (a : ℕ) (y : Text) → goes_on a y ≡ cond (eqb a tab) (all_spelt (split tab y)) (rest_spelt (split tab y))
-goes_on-is a [] = by-test (eqb a tab) (λ e. rw e) (λ e. rw e)
-goes_on-is a (b ∷ y) =
-    let h = parted tab y in
-    by-test (eqb b tab)
-    (λ d. rw (goes_on-is b y, d, eqb-true b tab d) (by-test (eqb a tab) (λ e. rw e) (λ e. rw e)))
-    (λ d. rw (goes_on-is b y, d, h.is)
-    (by-test (is_initial b)
-    (λ f. rw f (by-test (eqb a tab) (λ e. rw e) (λ e. rw e)))
-    (λ f. rw f (by-test (eqb a tab) (λ e. rw e) (λ e. rw e (by-test (is_later b) (λ g. rw g) (λ g. rw g)))))))
-
-module _ (x : Text) where
-  pub spelt-none : length x ≡ 0 → false ≡ all_spelt (split tab x)
-  spelt-none h = go x h
-    where
-      go : (y : Text) → length y ≡ 0 → false ≡ all_spelt (split tab y)
-      go [] h = refl
-      go (b ∷ y) h = absurd (omega arith)
-
-  pub spelt-first : 0 < length x → all_spelt (split tab x) ≡ may_follow tab (get_or x 0 0) && goes_on (get_or x 0 0) (drop 1 x)
-  spelt-first h = sym (goes_on-is tab x) ∙ go x h
-    where
-      go : (y : Text) → 0 < length y → goes_on tab y ≡ may_follow tab (get_or y 0 0) && goes_on (get_or y 0 0) (drop 1 y)
-      go [] h = absurd (omega arith)
-      go (b ∷ y) h = refl
-
-  pub spelt-next : (i : ℕ) (good : Bool) → i < length x
-      → good && goes_on (get_or x (i - 1) 0) (drop i x) ≡ (good && may_follow (get_or x (i - 1) 0) (get_or x i 0)) && goes_on (get_or x (i + 1 - 1) 0) (drop (i + 1) x)
-  spelt-next i good h =
-      let j : i + 1 - 1 ≡ i = omega arith in
-      rw (j, add-one, drop-cons x i 0 h) (sym (and_assoc good _ _))
-
-  pub spelt-last : (i : ℕ) (good : Bool) → i ≡ length x → good && goes_on (get_or x (i - 1) 0) (drop i x) ≡ good && not (eqb (get_or x (length x - 1) 0) tab)
-  spelt-last i good e = rw (e, drop-length x)

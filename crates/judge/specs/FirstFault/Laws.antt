@@ -5,7 +5,8 @@ use native.Mathlib.{Decide.dec_lt, Omega.arith}
 use Rattle.std.proofs.Common.{take-suc}
 use Rattle.fields.specs.{Bytes.Text, Tests.by-test, Tests.Tells, Tests.untold, Tests.fails, Tests.tells-not, Least.Laws.exactly}
 use Rattle.model.specs.{declared.rule.Upper.Upper, declared.rule.Upper.TheVariants.Number, declared.rule.Rule.Rule, Word.Word, Word.count}
-use Rattle.model.specs.{Word.Span.count-more, Word.Laws.only_self, Types.Under, Membership.under, Membership.Laws.under-tells, Model.model_of}
+use Rattle.model.specs.{Types.Under, Membership.under, Model.model_of}
+use Rattle.model.proofs.{WordSpan.count-more, WordLaws.only_self, MembershipLaws.under-tells}
 use Rattle.model.specs.{Model.encode, Rule.used, Rule.rule_type, Verdict.verdict}
 use Rattle.judge.specs.{declared.fault.JudgeFault.JudgeFault, declared.row.Tested.Tested, declared.verdict.FirstFault.FirstFault}
 use Rattle.judge.specs.{declared.verdict.Searched.Searched, declared.verdict.Judged.TheVariants.Refused, Row.Judges, Row.by_meaning, Row.judged}

@@ -9,10 +9,13 @@ use borrow.Author.Tests.{leb-true, leb-false, le-leb, lt-leb, eq-eqb, ne_eqb}
 use Rattle.fields.specs.{Tests.by-test, Tests.tells-not, Least.NoneStands}
 use Rattle.model.specs.{declared.rule.Upper.Upper, declared.rule.Mark.Mark, declared.rule.Kind.Kind, declared.rule.Node.Node, declared.rule.Rule.Rule}
 use Rattle.model.specs.{declared.verdict.Verdict.TheVariants.Dead, Word.Word, Word.Names, Word.only, Word.keep, Word.count, Word.touched, Word.either}
-use Rattle.model.specs.{Word.Laws.only-is, Word.Span.count-more, Word.Projection.keep_append, Verdict.verdict, Verdict.Says, Verdict.Laws.verdict-is}
+use Rattle.model.specs.{Verdict.verdict, Verdict.Says}
+use Rattle.model.proofs.{WordLaws.only-is, WordSpan.count-more, WordProjection.keep_append, VerdictLaws.verdict-is}
 use Rattle.model.specs.{Rule.used, Rule.names, Rule.rule_type}
-use Rattle.model.specs.{Rule.Means, Check.Exact.readable-is, Check.Exact.means-type, Check.Exact.means-conflict-free}
-use Rattle.model.specs.{Rule.Names.names-model, Check.readable, Check.Exact.readable-formed, Check.Exact.rule-type, Model.Types.type-symbols}
+use Rattle.model.specs.{Rule.Means}
+use Rattle.model.proofs.CheckExact.{readable-is, means-type, means-conflict-free}
+use Rattle.model.specs.{Rule.Names.names-model, Check.readable, Model.Types.type-symbols}
+use Rattle.model.proofs.CheckExact.{readable-formed, rule-type}
 use Rattle.model.specs.declared.rule.Upper.TheVariants.{Number, Unbounded}
 use Rattle.model.specs.declared.rule.Mark.TheVariants.{Plain, Optional, Nonempty}
 use Rattle.model.specs.declared.rule.Kind.TheVariants.{Atom, Group}

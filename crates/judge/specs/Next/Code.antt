@@ -7,8 +7,10 @@ use Rattle.std.proofs.lemmas.Bool.{eqb-false, lt-leb}
 use lib.{Dec.eqb, ListN.length, ListN.length-append, ListN.drop, ListN.get_or, ListN.set, ListN.length-set, Seq.drop-cons, Seq.set_at, Pow.shr-shr}
 use Rattle.fields.specs.Tests.{by-test}
 use Rattle.model.specs.{declared.rule.Node.Node, Word.Word, Word.Names, Word.keep, Model.atoms_in, Rule.names, Rule.rule_type, Rule.rule_with}
-use Rattle.model.specs.{Rule.Laws.used-with, Check.readable, Check.Exact.readable-is, Check.Exact.type-means, Check.Exact.means-conflict-free}
-use Rattle.model.specs.{declared.verdict.Verdict.TheVariants.Dead, Verdict.Laws.verdict-is}
+use Rattle.model.specs.{Rule.Laws.used-with, Check.readable}
+use Rattle.model.proofs.CheckExact.{readable-is, type-means, means-conflict-free}
+use Rattle.model.specs.{declared.verdict.Verdict.TheVariants.Dead}
+use Rattle.model.proofs.VerdictLaws.{verdict-is}
 use Rattle.judge.specs.{declared.fault.JudgeFault.TheVariants.ShortRow, Row.upto, Row.Tally.seen_of, Row.Tally.Tallied, Row.Code.names-tallied}
 use Rattle.judge.specs.declared.verdict.Next.TheVariants.{Names as Found, Refused as NoNames}
 use Rattle.judge.specs.Next.{numbers_to, next_names, fitted, HandsNext, Set.in_set, Laws.kept_more, Laws.kept_same, Laws.kept, Laws.list-exactly}

@@ -9,10 +9,14 @@ use native.Mathlib.{Decide.dec_le, Omega.arith}
 use Rattle.std.proofs.lemmas.Bool.{lt-leb}
 use lib.{Dec.leb, ListN.length, ListN.length-append}
 use Rattle.fields.specs.{Bytes.Text, Tests.by-test, Tests.Tells, Least.Laws.exactly}
-use Rattle.model.specs.{declared.rule.Rule.Rule, declared.verdict.Verdict.Verdict, Word.Word, Word.Names, Word.keep, Word.Projection.keep_append, Types.Ty}
-use Rattle.model.specs.{Types.ConflictFree, Verdict.Says, Verdict.verdict, Verdict.Laws.verdict-says, Syntax.written_names}
-use Rattle.model.specs.{Accept.Laws.accepted-counts, Model.model_of, Model.type_of, Model.Types.type-conflict-free, Rule.names}
-use Rattle.model.specs.{Rule.rule_type, Check.Exact.means-type, Check.Exact.type-means, Check.Exact.means-conflict-free}
+use Rattle.model.specs.{declared.rule.Rule.Rule, declared.verdict.Verdict.Verdict, Word.Word, Word.Names, Word.keep, Types.Ty}
+use Rattle.model.proofs.WordProjection.{keep_append}
+use Rattle.model.specs.{Types.ConflictFree, Verdict.Says, Verdict.verdict, Syntax.written_names}
+use Rattle.model.proofs.VerdictLaws.{verdict-says}
+use Rattle.model.specs.{Model.model_of, Model.type_of, Model.Types.type-conflict-free, Rule.names}
+use Rattle.model.proofs.AcceptLaws.{accepted-counts}
+use Rattle.model.specs.{Rule.rule_type}
+use Rattle.model.proofs.CheckExact.{means-type, type-means, means-conflict-free}
 use Rattle.model.specs.declared.verdict.Verdict.TheVariants.{Complete, Open, Dead}
 use Rattle.judge.specs.{declared.verdict.Judged.Judged, Row.Judges, Row.by_meaning, Row.judged}
 use Rattle.judge.specs.{Row.Laws.judged-judges, Row.Laws.judged-is, Reply.Reply, Reply.row, Reply.row_in, Reply.Laws.replies-exactly}

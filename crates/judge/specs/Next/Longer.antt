@@ -8,8 +8,9 @@ use Rattle.model.specs.Word.{Word, Names, Apart, only, either, count, touched, o
 use Rattle.model.specs.Types.{Operator, sequence, choice, interleaving, Ty, ε, atom, join, nonempty, symbols, ConflictFree}
 use Rattle.model.specs.declared.rule.Upper.{Upper}
 use Rattle.model.specs.Membership.{under, begun, done, alive, over?, holds?, extends?}
-use Rattle.model.specs.{Word.Laws.apart-no, Word.Laws.apart-sym, Word.Span.touched-more, Word.Span.count-more, Membership.Laws.done-tells}
-use Rattle.model.specs.{Membership.Laws.alive-tells, Verdict.verdict_of, Verdict.verdict}
+use Rattle.model.proofs.{WordLaws.apart-no, WordLaws.apart-sym, WordSpan.touched-more, WordSpan.count-more, MembershipLaws.done-tells}
+use Rattle.model.specs.{Verdict.verdict_of, Verdict.verdict}
+use Rattle.model.proofs.MembershipLaws.{alive-tells}
 use Rattle.judge.specs.{Next.is_live, Next.may_come, Next.Ahead.first_open, Next.Ahead.second_open}
 
 ordered-more : (p q : Names) (w : Word) (x : ℕ) → ordered p q (w ++ (x ∷ [])) ≡ (ordered p q w && not (p x && touched q w))

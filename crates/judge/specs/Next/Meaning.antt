@@ -5,12 +5,13 @@ use Rattle.std.proofs.Common.{arith}
 use lib.{Dec.leb, Dec.ltb, Bits.bit_or, Bits.or_zero_l, ListN.length, ListN.get_or}
 use Rattle.model.specs.{declared.rule.Upper.Upper, declared.rule.Sign.Sign, declared.rule.Mark.Mark, declared.rule.Rule.Rule, Word.Word, Word.keep, Word.only}
 use Rattle.model.specs.{Word.count}
-use Rattle.model.specs.{Word.Laws.only_self, Word.Laws.either_left, Word.Laws.either-right, Word.Span.touched-behind, Word.Span.ordered-span}
+use Rattle.model.proofs.{WordLaws.only_self, WordLaws.either_left, WordLaws.either-right, WordSpan.touched-behind, WordSpan.ordered-span}
 use Rattle.model.specs.{Types.Operator, Types.Ty, Types.ε, Types.atom, Types.join, Types.symbols, Types.ConflictFree, Membership.under, Membership.alive}
 use Rattle.model.specs.{Membership.over?}
 use Rattle.model.specs.{Model.Model, Model.type_by, Model.type_of, Model.operator, Model.Eval.eval-map}
 use Rattle.model.specs.{Model.Types.Fits, Model.Types.type-conflict-free, Model.Types.type-symbols, Rule.rule_of, Rule.names, Rule.rule_type, Rule.used}
-use Rattle.model.specs.{Rule.Laws.rule-eval, Check.readable, Check.Exact.readable-formed, Check.Exact.rule-type}
+use Rattle.model.specs.{Rule.Laws.rule-eval, Check.readable}
+use Rattle.model.proofs.CheckExact.{readable-formed, rule-type}
 use Rattle.model.specs.declared.rule.Mark.TheVariants.{Plain, Optional, Nonempty}
 use Rattle.model.specs.Types.{nonempty}
 use Rattle.judge.specs.{declared.tally.Seen.Seen, declared.ahead.Ahead.Ahead, Row.Attribute.seen, Row.Attribute.attribute}

@@ -5,7 +5,8 @@ use Rattle.std.proofs.lemmas.List.{length-map}
 use Rattle.std.proofs.Math.ListN.{get_or-map}
 use Rattle.fields.specs.{Limits.max_nodes, Stack.map-take}
 use Rattle.model.specs.{declared.rule.Kind.Kind, declared.rule.Mark.Mark, Rule.Laws.used-with, Model.needed, Model.eval}
-use Rattle.model.specs.{Model.Walk.Walked, Depth.nil_flat, Depth.flat_number, Depth.flat_in, Depth.flat_node, Depth.flat_by, Depth.rule_depth, Depth.Laws.depth-turn}
+use Rattle.model.specs.{Model.Walk.Walked, Depth.nil_flat, Depth.flat_number, Depth.flat_in, Depth.flat_node, Depth.flat_by, Depth.rule_depth}
+use Rattle.model.proofs.DepthLaws.{depth-turn}
 use Rattle.judge.specs.Packed.{node_in, rule_in}
 
 -- a turn, with what its calls gave

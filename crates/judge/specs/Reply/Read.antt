@@ -6,13 +6,15 @@ use lib.{Dec.leb, Dec.ltb, ListN.length, ListN.take, ListN.get_or, ListN.length-
 use borrow.Author.Tests.{le-ltb, lt-ltb, le-leb}
 use Rattle.fields.specs.{Tests.by-test, Bytes.Text, Limits.max_row, Limits.max_file, Limits.max_atoms, Limits.max_nodes, declared.fault.CueFault.CueFault}
 use Rattle.fields.specs.{declared.fault.CueFault.TheVariants.LongFile, declared.children.Children.Children, Children.all_names, Children.children_of}
-use Rattle.fields.specs.{Children.Laws.counted}
+use Rattle.fields.specs.Children.Laws.{counted}
 use Rattle.fields.specs.declared.children.Children.TheVariants.{Count, Refused}
 use Rattle.model.specs.{declared.fault.ModelFault.ModelFault, declared.rule.Upper.Upper, declared.rule.Node.Node, declared.verdict.Verdict.Verdict}
 use Rattle.model.specs.{declared.verdict.Verdict.TheVariants.Dead, Verdict.verdict, Word.Word, Word.keep, Syntax.Syntax, Syntax.number_in}
-use Rattle.model.specs.{Syntax.written_names, Fault.Answer, Fault.Answers, Fault.refused, Fault.accepted, Answer.answer-is, Model.Model, Model.model_of}
+use Rattle.model.specs.{Syntax.written_names, Fault.Answer, Fault.Answers, Fault.refused, Fault.accepted, Model.Model, Model.model_of}
+use Rattle.judge.specs.Answer.{answer-is}
 use Rattle.model.specs.{Model.encode, Model.type_of, Model.atoms_in, Rule.ReadsInto, Rule.rule_of, Rule.rule_type, Rule.used, Rule.Laws.used-is}
-use Rattle.model.specs.{Rule.Laws.used-with, Check.readable, Check.Exact.readable-is, Check.Exact.rule-type}
+use Rattle.model.specs.{Rule.Laws.used-with, Check.readable}
+use Rattle.model.proofs.CheckExact.{readable-is, rule-type}
 use Rattle.judge.specs.{declared.cursor.Cursor.Cursor, declared.reply.Sizes.Sizes, declared.reply.ChildrenRead.ChildrenRead, Packed.node_in, Packed.rule_in}
 use Rattle.judge.specs.Packed.{SameNodes, Laws.same_first}
 use Rattle.judge.specs.{declared.reply.ChildrenTally.ChildrenTally, declared.verdict.Next.Next, Reading.Table.parts_in, Reading.Table.Laws.parts-long}

@@ -7,7 +7,7 @@ use lib.{Dec.leb, Dec.ltb, Dec.eqb, ListN.length}
 use Rattle.fields.specs.Tests.{bit-under, bit_is}
 use Rattle.model.specs.{declared.rule.Upper.Upper, declared.rule.Sign.Sign, declared.rule.Mark.Mark, Word.Word, Word.only, Word.count, Word.touched}
 use Rattle.model.specs.declared.rule.Mark.TheVariants.{Plain, Optional, Nonempty}
-use Rattle.model.specs.Word.Span.{first_place, last_behind, first-untouched, behind-untouched, touched-behind, ordered-span, first_either, behind-either}
+use Rattle.model.proofs.WordSpan.{first_place, last_behind, first-untouched, behind-untouched, touched-behind, ordered-span, first_either, behind-either}
 use Rattle.model.specs.Types.{Operator, choice, Ty, ε, atom, join, nonempty, symbols, ConflictFree}
 use Rattle.model.specs.Membership.{under, joined, begun, done, alive}
 use Rattle.model.specs.Model.{Algebra, operator, type_by}

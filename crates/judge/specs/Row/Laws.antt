@@ -3,10 +3,11 @@ use mathlib.Core.{Path.◌≡◌, Path.refl, Path.sym, Path.ap, Bool.true, Bool.
 use Rattle.std.specs.Prelude.{ℕ, zero, suc, ◌<◌, ◌≤◌}
 use Rattle.std.proofs.Common.{arith, leb-true, le-leb}
 use lib.{Dec.leb, ListN.length, ListN.get_or}
-use Rattle.model.specs.{declared.rule.Rule.Rule, Word.Word, Verdict.Laws.verdict-says, Verdict.Laws.verdict-is, Rule.names, Rule.rule_type, Rule.Means}
+use Rattle.model.specs.{declared.rule.Rule.Rule, Word.Word, Rule.names, Rule.rule_type, Rule.Means}
+use Rattle.model.proofs.VerdictLaws.{verdict-says, verdict-is}
 use Rattle.model.specs.{Rule.Readable}
 use Rattle.model.specs.{Check.readable, declared.verdict.Verdict.Verdict, Types.Ty, Verdict.Says, Rule.Laws.means-once}
-use Rattle.model.specs.Check.Exact.{readable-is, type-means, means-type, means-conflict-free}
+use Rattle.model.proofs.CheckExact.{readable-is, type-means, means-type, means-conflict-free}
 use Rattle.judge.specs.{declared.verdict.Judged.Judged, declared.verdict.Judged.TheVariants.Verdict as Said}
 use Rattle.judge.specs.declared.row.Tested.TheVariants.{Passed}
 use Rattle.judge.specs.Row.{Upto, Judges, row_tested, judged, upto, unreadable, long_row, unknown_name, by_meaning}

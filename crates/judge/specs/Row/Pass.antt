@@ -5,7 +5,8 @@ use Rattle.std.proofs.Common.{arith}
 use Rattle.model.specs.{declared.rule.Upper.Upper, declared.rule.Sign.Sign, declared.rule.Kind.Kind, declared.rule.Mark.Mark, declared.rule.Node.Node}
 use Rattle.model.specs.{declared.rule.Rule.Rule, declared.verdict.Verdict.Verdict, Word.Word, Types.symbols, Membership.over?, Membership.holds?}
 use Rattle.model.specs.{Membership.extends?, Verdict.verdict_of, Verdict.verdict, Model.Eval.eval-map, Model.Eval.after_is, Rule.rule_of, Rule.names}
-use Rattle.model.specs.{Rule.rule_type, Rule.used, Rule.Laws.rule-eval, Check.readable, Check.Exact.readable-formed, Check.Exact.rule-type}
+use Rattle.model.specs.{Rule.rule_type, Rule.used, Rule.Laws.rule-eval, Check.readable}
+use Rattle.model.proofs.CheckExact.{readable-formed, rule-type}
 use Rattle.model.specs.declared.rule.Kind.TheVariants.{Atom, Group}
 use Rattle.model.specs.Model.{Algebra, Model, type_by, type_of, after, eval_step, eval, atoms_in}
 use Rattle.model.specs.Model.Types.{Fits, type-conflict-free}

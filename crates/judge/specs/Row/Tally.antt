@@ -14,7 +14,7 @@ use Rattle.model.specs.declared.rule.Kind.{Kind}
 use Rattle.model.specs.declared.rule.Node.{Node}
 use Rattle.model.specs.declared.rule.Kind.TheVariants.{Atom, Group}
 use Rattle.model.specs.Word.{Word, only, count, touched}
-use Rattle.model.specs.Word.Span.{first_place, last_behind}
+use Rattle.model.proofs.WordSpan.{first_place, last_behind}
 use Rattle.judge.specs.{declared.tally.Seen.Seen, declared.verdict.FirstFault.FirstFault, Row.Attribute.seen}
 use Rattle.judge.specs.declared.verdict.FirstFault.TheVariants.{Nothing}
 use Rattle.judge.specs.FirstFault.{upper_counts, allowed, is_fault, first_where, first_fault}

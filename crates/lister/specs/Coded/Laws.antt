@@ -14,7 +14,8 @@ use Rattle.fields.specs.Split.{line_feed, tab, split, lines, unlines, field, par
 use Rattle.fields.specs.Put.{Put, PutWhole, put_end, put_at, Laws.put-length, Laws.put-fits, Laws.put_then}
 use Rattle.judge.specs.{declared.reading.NamePlace.NamePlace, declared.reading.Names.Names, Reading.part_at, Reading.parts_of}
 use Rattle.judge.specs.Reply.{children_in, row, reply_by, row_in, children_reply, judged_of}
-use Rattle.model.specs.{Syntax.number_in, Fault.Answer, Fault.refused, Fault.accepted, Answer.answer, Model.model_of, Model.type_of, Verdict.verdict}
+use Rattle.model.specs.{Syntax.number_in, Fault.Answer, Fault.refused, Fault.accepted, Model.model_of, Model.type_of, Verdict.verdict}
+use Rattle.judge.specs.Answer.{answer}
 use Rattle.model.specs.{Syntax.Number.number-below}
 use Rattle.sheet.specs.{declared.sheet.Entry.Entry, declared.sheet.Sheet.Sheet, declared.sheet.SheetFault.SheetFault}
 use Rattle.sheet.specs.{declared.sheet.SheetOutcome.TheVariants.Read, declared.sheet.SheetOutcome.TheVariants.Refused as SheetIsRefused}

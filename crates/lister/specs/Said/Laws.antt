@@ -6,8 +6,10 @@ use Rattle.std.specs.Prelude.{length, get_or}
 use Rattle.std.proofs.Math.ListN.{length-map, get_or-map}
 use Rattle.fields.specs.{Bytes.Text, Split.lines, Split.field}
 use Rattle.model.specs.{Syntax.Syntax, Syntax.written_names, Syntax.number_in, Syntax.Number.from_found, Syntax.Number.from-none, Fault.Answers, Fault.accepted}
-use Rattle.model.specs.{Answer.answer-is, Accept.Laws.accepted-counts, Model.model_of, Model.type_of, Model.Types.type-conflict-free, Verdict.verdict}
-use Rattle.model.specs.{Verdict.Laws.verdict-says, Verdict.Laws.verdict-is}
+use Rattle.model.specs.{Model.model_of, Model.type_of, Model.Types.type-conflict-free, Verdict.verdict}
+use Rattle.model.proofs.AcceptLaws.{accepted-counts}
+use Rattle.judge.specs.Answer.{answer-is}
+use Rattle.model.proofs.VerdictLaws.{verdict-says, verdict-is}
 use Rattle.judge.specs.{Named.row_of, Reading.Laws.number-of-name}
 use Rattle.sheet.specs.{declared.sheet.SheetFault.TheVariants.Repeated}
 use Rattle.lister.specs.{declared.said.Said.Said, declared.said.Said.TheVariants.NoSheet}

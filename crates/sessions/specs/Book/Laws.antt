@@ -2,8 +2,9 @@
 use mathlib.Core.{Path.◌≡◌, Path.refl, Path.sym, Path.ap, Path.◌∙◌, Logic.◌↔◌, List.List, List.[], List.◌∷◌, List.◌++◌}
 use Rattle.std.specs.Prelude.{ℕ, length}
 use Rattle.std.proofs.Common.{arith, length-append}
-use Rattle.model.specs.{declared.rule.Rule.Rule, Word.Word, Types.Ty, Verdict.Laws.says-once, Rule.Means, Rule.names, Rule.rule_type, Rule.Laws.means-once}
-use Rattle.model.specs.Check.Exact.{means-type, means-conflict-free}
+use Rattle.model.specs.{declared.rule.Rule.Rule, Word.Word, Types.Ty, Rule.Means, Rule.names, Rule.rule_type, Rule.Laws.means-once}
+use Rattle.model.proofs.VerdictLaws.{says-once}
+use Rattle.model.proofs.CheckExact.{means-type, means-conflict-free}
 use Rattle.judge.specs.{Next.NextNames, Next.next_names, Next.Laws.list-exactly}
 use Rattle.sessions.specs.Book.{Call, taking_back, CallReply, says, lists, nothing, Book, book, Enters, not_opened, opens, not_named, no_space, adds}
 use Rattle.sessions.specs.Book.{none_to_take, takes, asks, not_listed, lists_next, Keeps, done, next}

@@ -9,8 +9,9 @@ use Rattle.std.proofs.lemmas.List.{length-replicate}
 use borrow.Author.Tests.{leb-true, leb-false, ltb-true, ltb-false}
 use Rattle.judge.specs.{declared.verdict.Judged.TheVariants.Verdict as Said, declared.verdict.Next.Next, Row.Upto, Next.NextNames, Next.HandsNext}
 use Rattle.model.specs.{declared.rule.Rule.Rule, declared.verdict.Verdict.Verdict, Word.Word, Types.Ty, Verdict.Says, Verdict.verdict}
-use Rattle.model.specs.{Verdict.Laws.verdict-says, Verdict.Laws.verdict-is, Rule.Readable, Rule.Means, Rule.names, Rule.rule_type, Check.readable}
-use Rattle.model.specs.Check.Exact.{readable-is, type-means, means-type, means-conflict-free}
+use Rattle.model.specs.{Rule.Readable, Rule.Means, Rule.names, Rule.rule_type, Check.readable}
+use Rattle.model.proofs.VerdictLaws.{verdict-says, verdict-is}
+use Rattle.model.proofs.CheckExact.{readable-is, type-means, means-type, means-conflict-free}
 use Rattle.sessions.specs.{declared.session.Outcome.TheVariants.Done, declared.session.Step.Step, Book.Laws.takes-last, Refusal.AllFree}
 use Rattle.sessions.specs.{Session.Laws.intact-tells, Session.Laws.next-by-asked, Book.Laws.rule-lists}
 use Rattle.sessions.specs.Calls.{World, world, of_outcome, of_judged, of_next, Plays, by_open, by_add, by_take_back, by_verdict, by_next, shown}

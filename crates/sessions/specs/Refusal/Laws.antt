@@ -8,9 +8,10 @@ use Rattle.judge.specs.{declared.fault.JudgeFault.JudgeFault, declared.verdict.J
 use Rattle.judge.specs.Next.{next_refused}
 use Rattle.judge.specs.declared.fault.JudgeFault.TheVariants.{Unreadable, LongRow, BadTrail, UnknownName, NoRoom, NothingToTakeBack, ShortRow}
 use Rattle.judge.specs.declared.verdict.Judged.TheVariants.{Verdict, Refused as RefusedRow}
-use Rattle.model.specs.{declared.rule.Rule.Rule, Verdict.Laws.says-once, Verdict.Laws.verdict-says, Rule.Laws.means-once, Rule.Readable, Rule.names}
+use Rattle.model.specs.{declared.rule.Rule.Rule, Rule.Laws.means-once, Rule.Readable, Rule.names}
+use Rattle.model.proofs.VerdictLaws.{says-once, verdict-says}
 use Rattle.model.specs.{Rule.rule_type, Check.readable}
-use Rattle.model.specs.Check.Exact.{readable-is, type-means, means-conflict-free}
+use Rattle.model.proofs.CheckExact.{readable-is, type-means, means-conflict-free}
 use Rattle.sessions.specs.{declared.session.Outcome.Outcome, declared.session.Session.Session, Session.Laws.intact-tells, Session.Laws.then-done}
 use Rattle.sessions.specs.{Session.Laws.checked-done, Book.Laws.rule-lists}
 use Rattle.sessions.specs.declared.session.Outcome.TheVariants.{Done, Refused}

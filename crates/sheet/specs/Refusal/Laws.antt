@@ -16,8 +16,10 @@ use Rattle.fields.specs.declared.fault.CueFault.TheVariants.{ManyChildren, NoChi
 use Rattle.fields.specs.Tests.{Tells, tells-not, tells-or}
 use Rattle.fields.specs.Bytes.{Text, bytes, is_digit, all, value, same_text}
 use Rattle.fields.specs.Least.Laws.{exactly, first_alone, first-once, Cleared, try}
-use Rattle.model.specs.{declared.fault.ModelFault.ModelFault, Answer.answer, Answer.answered, Accept.Length.value_grows}
-use Rattle.model.specs.{Fault.Answer, Fault.Answers, Fault.refused, Fault.accepted, Fault.Answered.answers-once}
+use Rattle.model.specs.{declared.fault.ModelFault.ModelFault, Accept.Length.value_grows}
+use Rattle.judge.specs.Answer.{answer, answered}
+use Rattle.model.specs.{Fault.Answer, Fault.Answers, Fault.refused, Fault.accepted}
+use Rattle.model.proofs.FaultAnswered.{answers-once}
 use Rattle.judge.specs.Reply.Laws.{cue-injective}
 use Rattle.sheet.specs.{declared.sheet.SheetFault.SheetFault, declared.sheet.SheetOutcome.SheetOutcome, declared.cues.CueLine.CueLine}
 use Rattle.sheet.specs.declared.cues.CuesRead.{CuesRead}

@@ -12,7 +12,8 @@ use Rattle.fields.specs.Heads.Laws.{fields-few, fields-enough, Three, more-none}
 use Rattle.judge.specs.{declared.reading.NamePlace.NamePlace, declared.reading.Names.Names, declared.reading.Reading.Reading}
 use Rattle.judge.specs.declared.reading.Outcome.TheVariants.{Read as ModelRead, Refused as ModelRefused}
 use Rattle.judge.specs.Reading.{no_place, names_with, reading_by, reading, part_at, parts_of}
-use Rattle.model.specs.{declared.fault.ModelFault.ModelFault, Syntax.number_from, Syntax.number_in, Fault.Answer, Fault.refused, Fault.accepted, Answer.answer}
+use Rattle.model.specs.{declared.fault.ModelFault.ModelFault, Syntax.number_from, Syntax.number_in, Fault.Answer, Fault.refused, Fault.accepted}
+use Rattle.judge.specs.Answer.{answer}
 use Rattle.sheet.specs.{declared.sheet.SheetFault.SheetFault, declared.sheet.Checked.Checked, declared.sheet.LineRead.LineRead}
 use Rattle.sheet.specs.{declared.sheet.SheetOutcome.TheVariants.Refused, declared.sheet.Entry.Entry, declared.sheet.Sheet.Sheet}
 use Rattle.sheet.specs.declared.sheet.SheetRead.{SheetRead}

@@ -6,7 +6,8 @@ use lib.{Dec.T, Dec.leb, Dec.eqb, ListN.length, ListN.get_or, ListN.length-map}
 use Rattle.std.proofs.Math.Facts.{yes_and}
 use Rattle.fields.specs.{Limits.max_file, Bytes.Text, Bytes.bytes, Bytes.same_text, Bytes.all, Bytes.Runs.all_append, Children.short_name}
 use Rattle.fields.specs.Split.{line_feed, tab, lines, behind, unlines, fields, other, none_has, Joined.split-joined, Joined.lines-unlines, Joined.passed-lacks}
-use Rattle.model.specs.{Syntax.text, Answer.answer, Answer.answer-is, Fault.accepted}
+use Rattle.model.specs.{Syntax.text, Fault.accepted}
+use Rattle.judge.specs.Answer.{answer, answer-is}
 use Rattle.sheet.specs.{declared.sheet.SheetFault.SheetFault, declared.sheet.SheetOutcome.SheetOutcome}
 use Rattle.sheet.specs.declared.sheet.SheetFault.TheVariants.{ManyRules, BadFields, NoKind, Repeated}
 use Rattle.sheet.specs.declared.sheet.SheetOutcome.TheVariants.{Read, Refused}

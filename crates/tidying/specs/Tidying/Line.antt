@@ -9,7 +9,9 @@ use Rattle.fields.specs.{Split.joined_by, Split.Laws.joined-split}
 use Rattle.fields.specs.{declared.split.Heads.Heads, Heads.heads_of, Heads.Laws.Three, Heads.Laws.fields-enough}
 use Rattle.fields.specs.Split.{line_feed, tab, fields, field, part}
 use Rattle.fields.specs.Put.{Put, Begun, Laws.put-length, Laws.put_first, Laws.begun_all, Laws.piece-put}
-use Rattle.model.specs.{Answer.answer, Answer.answer-is, Fault.accepted, Accept.Length.text-short, Accept.Laws.accepted-within}
+use Rattle.model.specs.{Fault.accepted, Accept.Length.text-short}
+use Rattle.model.proofs.AcceptLaws.{accepted-within}
+use Rattle.judge.specs.Answer.{answer, answer-is}
 use Rattle.sheet.specs.{Sheet.kind, Sheet.model, Sheet.Laws.part-size, Sheet.Good.Accepted}
 use Rattle.canonical.specs.{declared.fault.WriteFault.WriteFault, declared.write.Written.Written, Canonical.canonical}
 use Rattle.canonical.specs.declared.write.Written.TheVariants.{Length, Refused}

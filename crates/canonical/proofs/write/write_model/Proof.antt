@@ -1,7 +1,7 @@
 -- The outcome of reading is that of the answer.
 use mathlib.Core.Path.{sym, ◌∙◌}
 use borrow.Author.Rules.{rules}
-use Rattle.model.specs.Answer.{answer}
+use Rattle.judge.specs.Answer.{answer}
 use Rattle.canonical.specs.Writer.Accepted.{read_answer, refused-reply}
 use Rattle.canonical.proofs.write.write_model.Statement.{statement}
 use Rattle.canonical.proofs.write.write_model.Tie as tie

@@ -11,7 +11,8 @@ use Rattle.fields.specs.Tests.{by-test}
 use Rattle.fields.specs.Bytes.{Text, bytes, is_digit, all, is_numeral, value}
 use Rattle.fields.specs.Bytes.Laws.{T_true, apart}
 use Rattle.model.specs.Syntax.{Count, unwritten, between, onward, count_text, CountFormed}
-use Rattle.model.specs.Accept.{Scan.is_counting, Scan.inside_count, Scan.inside-counting, Length.value_grows}
+use Rattle.model.specs.Accept.{Length.value_grows}
+use Rattle.model.proofs.AcceptScan.{is_counting, inside_count, inside-counting}
 use Rattle.judge.specs.Reading.Lexeme.Laws.{digit_low}
 use Rattle.canonical.specs.Tidy.{from_zero, raised, tidy_count}
 use Rattle.canonical.specs.Writer.Place.{up_to, behind_count, Free, Ends.count-some, Ends.count_none}

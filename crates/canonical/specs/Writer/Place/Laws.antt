@@ -13,7 +13,8 @@ use Rattle.fields.specs.Bytes.Runs.{stops, front-stops}
 use Rattle.model.specs.{Fault.name_from, Fault.is, declared.rule.Mark.TheVariants.Plain, Tree.leaf, Tree.marked}
 use Rattle.model.specs.Accept.Length.{name-some}
 use Rattle.model.specs.Syntax.{Count, unwritten, between, onward, count_text, Spelling, node_text, Spells}
-use Rattle.model.specs.Syntax.{Machine.run, Machine.start, Machine.result, Complete.complete}
+use Rattle.model.specs.Syntax.{Machine.run, Machine.start, Machine.result}
+use Rattle.model.proofs.SyntaxComplete.{complete}
 use Rattle.canonical.specs.Tidy.{from_zero, tidy_count, tidy_atom}
 use Rattle.canonical.specs.Writer.{Put.set-behind}
 use Rattle.canonical.specs.Writer.Place.{behind_count, atom_end, zero_at, kept_end, piece_at, leaf_in, atom_at, Free, AtomAt}

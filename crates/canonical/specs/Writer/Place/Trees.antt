@@ -9,7 +9,7 @@ use Rattle.fields.specs.Bytes.{Text}
 use Rattle.model.specs.Tree.{Formed}
 use Rattle.model.specs.Syntax.{Syntax, text, SpellingFormed}
 use Rattle.model.specs.Syntax.Machine.{State, dead, Alive, at, run, step, start}
-use Rattle.model.specs.Syntax.Complete.{focus_behind, parts, tree-run, spells-once}
+use Rattle.model.proofs.SyntaxComplete.{focus_behind, parts, tree-run, spells-once}
 use Rattle.model.specs.Syntax.Sound.{run-append, run-dead}
 use Rattle.canonical.specs.Writer.Place.{is_stop, Stops, TreeAt}
 

@@ -3,7 +3,8 @@ use mathlib.Core.{Path.◌≡◌, Path.sym, Path.◌∙◌, Bool.◌&&◌}
 use Prim.Native.Nat.{◌-◌, ◌≤◌}
 use lib.ListN.{length, drop, get_or}
 use Rattle.fields.specs.{Bytes.Text, Split.tab, Split.split}
-use Rattle.fields.specs.Children.Spelling.{all_spelt, goes_on, spelt-none, spelt-first, spelt-next, spelt-last}
+use Rattle.fields.specs.Children.Spelling.{all_spelt, goes_on}
+use Rattle.fields.proofs.SpellingLaws.{spelt-none, spelt-first, spelt-next, spelt-last}
 use borrow.Author.Rules.{rules}
 use native.Mathlib.Omega.{arith}
 use Rattle.fields.proofs.children.all_spelt.Statement.{statement}

@@ -8,7 +8,7 @@ use borrow.Author.Tests.{lt-ltb, le-ltb}
 use Rattle.fields.specs.{Limits.max_atoms, Tests.by-test}
 use Rattle.model.specs.declared.rule.Upper.{Upper}
 use Rattle.model.specs.Word.{Word, only}
-use Rattle.model.specs.Word.Laws.{only-is, only_self}
+use Rattle.model.proofs.WordLaws.{only-is, only_self}
 use Rattle.judge.specs.declared.verdict.FirstFault.{FirstFault}
 use Rattle.judge.specs.declared.verdict.FirstFault.TheVariants.{At, Nothing}
 use Rattle.judge.specs.FirstFault.{is_fault, first_where, first_fault, Laws.count-with}

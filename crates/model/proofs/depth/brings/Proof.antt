@@ -1,7 +1,7 @@
 -- what merges has a depth
 use borrow.Author.Rules.{rules}
 use mathlib.Core.Path.{sym, ◌∙◌}
-use Rattle.model.specs.Depth.Laws.{merges-deep}
+use Rattle.model.proofs.DepthLaws.{merges-deep}
 use Rattle.model.proofs.depth.brings.Statement.{statement}
 use Rattle.model.proofs.depth.brings.Tie as tie
 

@@ -5,7 +5,8 @@ use native.Mathlib.Omega.{arith}
 use lib.ListN.{length, take, drop, get_or-map}
 use borrow.Author.Rules.{rules}
 use Rattle.fields.specs.Stack.{unmapped, slice-none}
-use Rattle.model.specs.Depth.{nil_flat, flat_in, flat_by, Laws.depth-turn}
+use Rattle.model.specs.Depth.{nil_flat, flat_in, flat_by}
+use Rattle.model.proofs.DepthLaws.{depth-turn}
 use Rattle.model.specs.Model.Walk.{Walked, walked_none, walked-top, walked_empty}
 use Rattle.model.proofs.depth.depth.Statement.{statement}
 use Rattle.model.proofs.depth.depth.Tie as tie

@@ -4,7 +4,8 @@ use Prim.Native.Nat.{◌-◌, ◌≤◌}
 use native.Mathlib.Omega.{arith}
 use lib.ListN.{length, length-map, get_or-map}
 use borrow.Author.Rules.{rules}
-use Rattle.model.specs.Depth.{flat_number, flat_in, over_by, flat_part, Laws.MembersMade, Laws.join-none, Laws.join-turn}
+use Rattle.model.specs.Depth.{flat_number, flat_in, over_by, flat_part}
+use Rattle.model.proofs.DepthLaws.{MembersMade, join-none, join-turn}
 use Rattle.model.proofs.depth.flat_node.Statement.{statement}
 use Rattle.model.proofs.depth.flat_node.Tie as tie
 

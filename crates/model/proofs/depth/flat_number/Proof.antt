@@ -2,7 +2,7 @@
 use Prim.Native.Nat.{◌≤◌, ◌<◌}
 use borrow.Author.Rules.{rules}
 use Rattle.fields.specs.Tests.{bit-under}
-use Rattle.model.specs.Depth.Laws.{few-signs}
+use Rattle.model.proofs.DepthLaws.{few-signs}
 use Rattle.model.proofs.depth.flat_number.Statement.{statement}
 use Rattle.model.proofs.depth.flat_number.Tie as tie
 

@@ -13,11 +13,12 @@ use Rattle.model.specs.declared.rule.Mark.TheVariants.{Plain}
 use Rattle.model.specs.Tree.{Node, leaf, group, marked, Members, none, ◌▹◌, size, atoms, is_plain}
 use Rattle.model.specs.Flatten.{sign_number, same_sign, ◌⧺◌, is_nil, some_nil, merges, members_of, gathered, grouped, over, dropped_mark}
 use Rattle.model.specs.Flatten.{flatten_node, flatten, flatten_all, depth}
-use Rattle.model.specs.Flatten.Solid.{Solid, SolidAll, Flattened, AllFlattened, solid-not-nil, solid-append, gathered-solid, grouped-flattened}
-use Rattle.model.specs.Flatten.{Solid.node-flattened, Solid.all-flattened, Merges.merged}
+use Rattle.model.proofs.FlattenSolid.{Solid, SolidAll, Flattened, AllFlattened, solid-not-nil, solid-append, gathered-solid, grouped-flattened}
+use Rattle.model.specs.Flatten.{Merges.merged}
+use Rattle.model.proofs.FlattenSolid.{node-flattened, all-flattened}
 use Rattle.model.specs.Flatten.Append.{append-none, append-size, grouped-several}
 use Rattle.model.specs.{Syntax.Syntax, Model.counts_of, Model.model_of, Flatten.Map.depth-map}
-use Rattle.model.specs.Flatten.Depth.{deepest, deepest_of, deepest-append, deepest-first, group-deepest}
+use Rattle.model.proofs.FlattenDepth.{deepest, deepest_of, deepest-append, deepest-first, group-deepest}
 use Rattle.model.specs.{Rule.Laws.rule-eval, Model.Counts, Model.Model, Model.fold, Model.fold_node, Model.fold_all, Model.needed, Model.eval_step}
 use Rattle.model.specs.Depth.{nil_flat, merges_by, brings_by, beside_by, gathered_by, some_empty, over_by, group_by, flat_by}
 use Rattle.model.specs.Depth.{rule_depth, flat_node, sign_numbered, flat_number, flat_in}

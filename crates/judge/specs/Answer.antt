@@ -2,7 +2,8 @@
 -- (`answer-is`).
 use Rattle.std.specs.Prelude.{◌≡◌}
 use Rattle.fields.specs.Bytes.{Text}
-use Rattle.model.specs.{Fault.Answer, Fault.Answers, Fault.Answered.answers-once, Fault.Answered.an-answer}
+use Rattle.model.specs.{Fault.Answer, Fault.Answers}
+use Rattle.model.proofs.FaultAnswered.{answers-once, an-answer}
 
 pub answer : Text → Answer
 answer x = (an-answer x).0

@@ -11,7 +11,7 @@ use Rattle.model.specs.Tree.{Node, leaf, group, Tree, marked, Members, none, ◌
 use Rattle.model.specs.Tree.{height_over, node_height, height, members_height, nodes, node_weight, members_weight}
 use Rattle.model.specs.Flatten.{◌⧺◌, is_nil, some_nil, merges, members_of, gathered, grouped, over, dropped_mark, flatten_node, flatten, flatten_all}
 use Rattle.model.specs.Flatten.{node_around, groups_around, members_around, depth, Append.append-none}
-use Rattle.model.specs.Flatten.Solid.{Solid, SolidAll}
+use Rattle.model.proofs.FlattenSolid.{Solid, SolidAll}
 
 -- the greatest of two lists, and of numbers that are one more
 pub highest-append : (l m : List ℕ) → highest (l ++ m) ≡ max (highest l) (highest m)

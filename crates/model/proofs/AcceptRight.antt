@@ -21,9 +21,10 @@ use Rattle.model.specs.{Mark.mark_of, Mark.Laws.is-plain}
 use Rattle.model.specs.Syntax.{Count, unwritten, between, onward, Spelling, Syntax, SpellingFormed, Begins, text}
 use Rattle.model.specs.Syntax.Machine.{snoc, byte_of, bare, Frame, opened, signed, CountPart, low, dot, dots, high, star, Focus, expect, naming, counting}
 use Rattle.model.specs.Syntax.Machine.{after, State, dead, at, Alive, close, shut, grows, some_digit, step_count, step_after, step, run, start, here}
-use Rattle.model.specs.{Syntax.Sound.sign-cases, Syntax.Complete.focus_behind, Syntax.Complete.behind_atom, Syntax.Complete.tree-run}
+use Rattle.model.specs.{Syntax.Sound.sign-cases}
+use Rattle.model.proofs.SyntaxComplete.{focus_behind, behind_atom, tree-run}
 use Rattle.model.specs.{Syntax.Counters.run_take, Syntax.Counters.alive-before, Fault.wrong, Fault.EndsWrong, Fault.EndsEmpty}
-use Rattle.model.specs.Fault.Decide.{ends_wrong, ends_empty, ends_bad, ends-wrong, wrong-ends, ends-empty, empty-ends}
+use Rattle.model.proofs.FaultDecide.{ends_wrong, ends_empty, ends_bad, ends-wrong, wrong-ends, ends-empty, empty-ends}
 
 -- no count is wrong, and each mark fits
 abbrev mutual

@@ -2,7 +2,7 @@
 use mathlib.Core.{Path.◌≡◌, Path.refl, Path.sym, Path.ap, Path.◌∙◌, Path.subst, Logic.◌↔◌, Logic.◌⊎◌, Logic.inl, Logic.inr, Logic.⊎_elim}
 use mathlib.Core.List.{[], ◌∷◌, ◌++◌, append_assoc, append-nil, cons≢nil}
 use Rattle.model.specs.Word.{Word, Shuffle, none, left, right}
-use Rattle.model.specs.Word.Laws.{shuffle-swap, append-shuffle}
+use Rattle.model.proofs.WordLaws.{shuffle-swap, append-shuffle}
 use Rattle.model.specs.Types.{Operator, sequence, choice, interleaving, Language, Joined}
 
 -- the same words

@@ -10,7 +10,7 @@ use Rattle.model.specs.declared.rule.Mark.TheVariants.{Plain, Optional, Nonempty
 use Rattle.model.specs.Tree.{Node, leaf, group, Tree, marked, Members, none, ◌▹◌, size, node_weight, atoms, mark_fits}
 use Rattle.model.specs.Tree.{NodeMarksFit, MarksFit, MembersMarksFit, number_node, number_tree, number_all, Map.marks-number}
 use Rattle.model.specs.Types.{Ty, ε, join, nonempty, Operator, sequence, choice, interleaving, Language, Joined, Holds}
-use Rattle.model.specs.Types.Languages.{Same, itself, thus, back, nil-or-not, Empty, Neutral, joined_same, neutral-left, neutral-right, joined-assoc}
+use Rattle.model.proofs.TypesLanguages.{Same, itself, thus, back, nil-or-not, Empty, Neutral, joined_same, neutral-left, neutral-right, joined-assoc}
 use Rattle.model.specs.Model.{Counts, Model, operator, joined_from, joined_type, marked_type, counted_type, type_by, fold_node, fold, fold_all, type_of}
 use Rattle.model.specs.Model.{node_type_with, type_with, types_with}
 use Rattle.model.specs.Flatten.{is_choice, ◌⧺◌, is_nil, some_nil, merges, with_member, gathered, grouped, over, dropped_mark}
