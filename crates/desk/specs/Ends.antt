@@ -5,7 +5,7 @@ use Rattle.model.specs.{declared.verdict.Verdict.Verdict, Word.Word}
 use Rattle.fields.specs.Bytes.{Text}
 use Rattle.judge.specs.{Reply.Reply, Reply.good, Reply.ChildrenJudges, Next.NextReply, Next.next_listed, Next.ChildrenNextStands, Next.children_next}
 use Rattle.judge.specs.{declared.verdict.FirstFault.FirstFault, FirstFault.ChildrenFaultStands}
-use Rattle.judge.specs.Ends.{children-next-exactly}
+use Rattle.judge.proofs.Ends.{children-next-exactly}
 use Rattle.desk.specs.{Desk.reply_number, Desk.verdict_number, Desk.desk_answer, Desk.refusal_base, Desk.desk_next, Desk.Laws.answer-exactly}
 use Rattle.desk.specs.{Desk.based_number, Desk.fault_number, Desk.desk_fault, Desk.PlaceFits, Desk.Laws.fault-exactly}
 use Rattle.canonical.specs.Canonical.{WriteReply, wrote, write_reply, Writes}

@@ -1,8 +1,6 @@
 -- The first child of a row that is foreign or one too many of its name: document 02, W2. Below it:
 --   Laws     there is one answer, and the functions compute it
 --   Meaning  a row with such a child is dead; in a row without one, every name is known and no count is over its upper end
-pub mod Laws
-pub mod Meaning
 use mathlib.Core.{Path.◌≡◌, Bool.Bool, Bool.not, Bool.cond, List.List, List.[], List.◌∷◌}
 use Rattle.std.specs.Prelude.{ℕ, zero, suc, ◌<◌, ◌≤◌, length, take, slice_index}
 use Rattle.fields.specs.{Bytes.Text, Limits.max_row, Least.Least, Least.NoneStands}

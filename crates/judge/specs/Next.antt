@@ -10,7 +10,6 @@ pub mod Set
 pub mod Ahead
 pub mod Longer
 pub mod Meaning
-pub mod Code
 use mathlib.Core.{Path.◌≡◌, Logic.◌⊎◌, Logic.◌↔◌, List.[], List.◌∷◌, List.◌++◌, Bool.Bool, Bool.true, Bool.false, Bool.cond}
 use Rattle.std.specs.Prelude.{ℕ, zero, suc, ◌<◌, ◌≤◌}
 use lib.{Dec.leb, ListN.length, ListN.drop}

@@ -6,7 +6,6 @@ pub mod Joined
 pub mod Stack
 pub mod Root
 pub mod Pass
-pub mod Code
 use mathlib.Core.{List.[], List.◌∷◌, Bool.Bool, Bool.true, Bool.cond, Bool.◌&&◌}
 use Rattle.std.specs.Prelude.{ℕ, ◌<◌, ◌≤◌}
 use lib.{ListN.length, Dec.leb}

@@ -9,7 +9,8 @@ ghost use Rattle.model.specs.declared.rule.Upper.{Upper};
 ghost use Rattle.judge.specs.Packed.{seen_in, Fresh, SameNodes};
 ghost use Rattle.judge.specs.{declared.lexeme.NameEnd.NameEnd, Reading.Lexeme.NameEnds, Row.Tally.Seeing};
 ghost use Rattle.judge.specs.declared.reply.ChildrenTally.TheVariants.{Faulty, Refused};
-ghost use Rattle.judge.specs.Reply.{children_in, children_reply, judged_of, Read.TextsRead};
+ghost use Rattle.judge.specs.Reply.{children_in, children_reply, judged_of};
+ghost use Rattle.judge.specs.Reply.Read.{TextsRead};
 ghost use Rattle.judge.specs.Reply.Children.{child_from, children_from, stopped_at, ChildrenTallied};
 ghost use Rattle.judge.specs.Reading.Table.{Tabled, Distinct, parts_in};
 

@@ -1,8 +1,6 @@
 -- Lists of calls on one session and one trail: document 01, "Sessions". Each call gets the session that the last opening, addition or take-back
 -- handed back, refused or not, and the whole trail, which nothing else writes. Of an answer, a trail and another lent row at exit only the method's
 -- promise is known.
-pub mod Agree
-pub mod Theorem
 use Rattle.std.specs.Prelude.{List, [], ◌∷◌, ◌++◌, ℕ, ◌-◌, length, take, replicate}
 use Rattle.model.specs.{declared.rule.Rule.Rule, Word.Word}
 use Rattle.judge.specs.{declared.verdict.Judged.Judged, declared.verdict.Next.Next, Row.judge_number, Next.HandsNext}

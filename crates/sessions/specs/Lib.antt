@@ -4,7 +4,6 @@
 --   Refusal    when each refusal of the table stands for a call
 --   Session    what each method of a session promises
 --   Calls      lists of calls on one session and one trail, by what the methods promise
-pub mod Ends
 pub mod Book
 pub mod Refusal
 pub mod Session

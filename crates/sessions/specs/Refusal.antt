@@ -1,5 +1,4 @@
 -- The table of document 01, with 46 of document 02, for the calls of a session: when each refusal stands, and which one a call is answered.
-pub mod Laws
 use mathlib.Core.{Path.◌≡◌, List.[], List.◌∷◌}
 use Rattle.std.specs.Prelude.{ℕ, ◌≤◌, ◌<◌, length, take, drop}
 use Rattle.model.specs.{declared.rule.Rule.Rule, Word.Word, Types.Ty, Verdict.Says, Rule.Readable, Rule.Means, Rule.names}

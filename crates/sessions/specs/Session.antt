@@ -1,7 +1,6 @@
 -- What each call of a session answers, and what it leaves: document 01, "Sessions", and document 02, W1, with refusals 40 and 42 to 46 in the order
 -- tried. The methods of src/session.rt promise just this, of any session and any trail.
 pub mod Laws
-pub mod Code
 use mathlib.Core.{Path.◌≡◌, Bool.Bool, Bool.true, Bool.cond, Bool.◌&&◌, List.List, List.[], List.◌∷◌}
 use Rattle.std.specs.Prelude.{ℕ, ◌+◌, ◌-◌, leb, ltb, eqb, length, take, drop, set, replicate}
 use Rattle.judge.specs.{declared.fault.JudgeFault.JudgeFault, declared.verdict.Judged.Judged, Row.upto, Next.next_names, Next.NextReply, Next.next_listed}

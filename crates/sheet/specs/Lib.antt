@@ -8,4 +8,3 @@ pub mod Cues
 pub mod Sheet
 pub mod RefusalLine
 pub mod Refusal
-pub mod Ends

@@ -1,7 +1,6 @@
 -- The table of document 01 for a sheet and a cue list: when each refusal stands, at which line, and which one is answered.
 -- Lines count from 1; what is wrong with the whole file stands at 0. Each fault looks at the text alone, not at whether another stands before it.
 pub mod Order
-pub mod Laws
 use mathlib.Core.{Path.◌≡◌, Logic.◌⊎◌, Bool.false, List.[], List.◌∷◌}
 use Rattle.std.specs.Prelude.{ℕ, zero, suc, ◌+◌, ◌-◌, ◌≤◌, ◌<◌, length, get_or}
 use Rattle.fields.specs.{Bytes.Text, Bytes.bytes, Bytes.value, Limits.max_row, Limits.max_file, declared.fault.CueFault.CueFault, Split.lines, Split.behind}

@@ -1,9 +1,6 @@
 -- A sheet: document 01, "Files" and refusals 20 to 25. Size and last line come first, then the lines in order, in each the rest by number, then the
 -- model's own.
-pub mod Laws
-pub mod Walk
-pub mod Good
-pub mod Places
+pub mod Line
 use mathlib.Core.{Bool.Bool, Bool.false, Bool.cond, Bool.not, Bool.◌||◌, Option.Option, Option.none, Option.some, List.List, List.[], List.◌∷◌, List.◌++◌}
 use mathlib.Core.{Path.◌≡◌, List.map}
 use Rattle.std.specs.Prelude.{ℕ, suc, ◌+◌, ◌-◌, ◌≤◌, ◌<◌}

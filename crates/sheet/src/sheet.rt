@@ -5,7 +5,7 @@ ghost use Rattle.std.specs.Prelude.{◌-◌, ◌+◌, ◌≤◌, length};
 ghost use Rattle.fields.specs.{Limits.max_file, Split.lines, Split.behind, Heads.heads_of};
 ghost use Rattle.judge.specs.Reading.{no_place, names_with, parts_of};
 ghost use Rattle.sheet.specs.{declared.sheet.SheetOutcome.TheVariants.Refused, declared.sheet.Checked.TheVariants.Bad};
-ghost use Rattle.sheet.specs.{Sheet.Laws.line_checked, Sheet.Laws.LineIs};
+ghost use Rattle.sheet.specs.Sheet.Line.{line_checked, LineIs};
 ghost use Rattle.sheet.specs.Sheet.{no_entry, sheet_with, sheet_lines, sheet_by, sheet_read};
 
 use fields::bytes::same_bytes;

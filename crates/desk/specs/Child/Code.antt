@@ -22,7 +22,7 @@ use Rattle.model.proofs.FaultAnswered.{name-inside}
 use Rattle.model.specs.Fault.{model_number, Answer, Answers, refused, accepted}
 use Rattle.judge.specs.{declared.reading.Names.Names, declared.reading.Reading.Reading, Reading.Laws.names_are, Reading.Search.name-fits}
 use Rattle.judge.specs.{Reading.Search.parts-many}
-use Rattle.judge.specs.{Reply.Children.Laws.children-some, Reply.Read.children_give}
+use Rattle.judge.proofs.{ReplyChildrenLaws.children-some, ReplyRead.children_give}
 use Rattle.judge.specs.declared.reading.Outcome.TheVariants.{Read, Refused as Unread}
 use Rattle.judge.specs.Reading.{no_place, names_of, reading_by, reading, parts_of}
 use Rattle.judge.specs.Reply.{children_in, child, Reply, model_refused, children_refused, good, children_by, no_child}

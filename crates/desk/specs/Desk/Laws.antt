@@ -21,7 +21,8 @@ use Rattle.judge.specs.declared.fault.JudgeFault.TheVariants.{Unreadable, LongRo
 use Rattle.judge.specs.{declared.verdict.FirstFault.FirstFault, declared.verdict.ChildrenSearched.ChildrenSearched}
 use Rattle.judge.specs.declared.verdict.FirstFault.TheVariants.{At, Nothing}
 use Rattle.judge.specs.declared.verdict.ChildrenSearched.TheVariants.{Found, ModelRefused as NotRead, ChildrenRefused as NotCounted}
-use Rattle.judge.specs.FirstFault.{upper_counts, ChildrenFaultStands, children_fault, searched_of, Laws.fault-place, Laws.fault-replies-exactly}
+use Rattle.judge.specs.FirstFault.{upper_counts, ChildrenFaultStands, children_fault, searched_of}
+use Rattle.judge.proofs.FirstFaultLaws.{fault-place, fault-replies-exactly}
 use Rattle.judge.specs.Reply.{Reply, model_refused, children_refused, good, ChildrenJudges, children_reply, judged_of, children_in, row_in, many_children}
 use Rattle.judge.specs.Next.{NextReply, next_listed, next_refused, NextInto, all_listed, children_next, children_answer}
 use Rattle.judge.specs.Next.Laws.{list-exactly, next-few, next-replies-exactly}

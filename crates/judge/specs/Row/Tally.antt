@@ -4,7 +4,6 @@
 --   Laws    what a child more adds, and what is told at the end
 pub mod Words
 pub mod Limits
-pub mod Laws
 use mathlib.Core.{Path.◌≡◌, List.List, List.◌∷◌, List.◌++◌, List.map}
 use Rattle.std.specs.Prelude.{ℕ, ◌+◌, ◌-◌, ◌*◌, ◌/◌, ◌%◌, ◌<◌, ◌≤◌, cond, length, take, replicate, ◌==◌, slice_index}
 use Rattle.fields.specs.Limits.{max_atoms}

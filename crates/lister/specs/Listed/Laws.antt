@@ -8,7 +8,8 @@ use Rattle.fields.specs.{Tests.by-test, Bytes.Text, Split.lines}
 use Rattle.sheet.specs.{declared.cues.CuesRead.CuesRead, declared.sheet.SheetOutcome.SheetOutcome, Cues.cues_read, Sheet.sheet_outcome}
 use Rattle.sheet.specs.declared.cues.CuesRead.TheVariants.{Count, Refused}
 use Rattle.sheet.specs.declared.sheet.SheetOutcome.TheVariants.{Read, Refused as SheetIsRefused}
-use Rattle.sheet.specs.{Refusal.SheetAnswers, Refusal.CuesAnswers, Ends.sheet-exactly, Ends.cues-exactly}
+use Rattle.sheet.specs.{Refusal.SheetAnswers, Refusal.CuesAnswers}
+use Rattle.sheet.proofs.Ends.{sheet-exactly, cues-exactly}
 use Rattle.lister.specs.{declared.listing.Listed.Listed, Listing.listing, Listed.by_cues, Listed.by_sheet, Listed.by_room, Listed.listed, Listed.Lists}
 use Rattle.lister.specs.declared.listing.Listed.TheVariants.{Written, SheetRefused, CueRefused, TooLong}
 

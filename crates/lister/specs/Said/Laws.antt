@@ -14,7 +14,7 @@ use Rattle.judge.specs.{Named.row_of, Reading.Laws.number-of-name}
 use Rattle.sheet.specs.{declared.sheet.SheetFault.TheVariants.Repeated}
 use Rattle.lister.specs.{declared.said.Said.Said, declared.said.Said.TheVariants.NoSheet}
 use Rattle.sheet.specs.{declared.sheet.SheetOutcome.TheVariants.Read, Cues.children, Sheet.kind, Sheet.model, Sheet.sheet_outcome}
-use Rattle.sheet.specs.{Sheet.Good.line-accepted, Refusal.Laws.sheet-is}
+use Rattle.sheet.proofs.{SheetGood.line-accepted, RefusalLaws.sheet-is}
 use Rattle.lister.specs.{Listing.word_of, Listing.said_at, Listing.said, Said.CueSaid, Said.lacking}
 use Rattle.lister.specs.{Said.by_a_line}
 

@@ -11,7 +11,8 @@ use Rattle.judge.specs.Answer.{answer, answer-is}
 use Rattle.sheet.specs.{declared.sheet.SheetFault.SheetFault, declared.sheet.SheetOutcome.SheetOutcome}
 use Rattle.sheet.specs.declared.sheet.SheetFault.TheVariants.{ManyRules, BadFields, NoKind, Repeated}
 use Rattle.sheet.specs.declared.sheet.SheetOutcome.TheVariants.{Read, Refused}
-use Rattle.sheet.specs.Sheet.{max_rules, kind, model, among, model_fault, line_fault, by_fault, sheet_lines, sheet_outcome, Good.Accepted, Good.lines-read}
+use Rattle.sheet.specs.Sheet.{max_rules, kind, model, among, model_fault, line_fault, by_fault, sheet_lines, sheet_outcome}
+use Rattle.sheet.proofs.SheetGood.{Accepted, lines-read}
 use Rattle.canonical.specs.{Canonical.canonical, Canonical.Accepted.canonical-formed, Ends.text-accepted, Ends.same_rows, Ends.written_twice}
 use Rattle.tidying.specs.Tidying.{tidy_model, tidy_line, tidy_lines, tidy_sheet, LineKept, Laws.good-sheet}
 use Rattle.tidying.specs.Tidying.Line.{RuleFits, tree_is, kind-named, fields-are}

@@ -10,7 +10,8 @@ use Rattle.fields.specs.{Tests.by-test, Tests.untold, Bytes.Text, Bytes.bytes, B
 use Rattle.fields.specs.{Bytes.Laws.same_text-is, Limits.max_file, Least.NoFault, Children.short_name, Put.Put}
 use Rattle.fields.specs.Split.{line_feed, lines, behind, fields, field, part, part_end, Laws.Stand, Laws.stand-start, Laws.stand-next}
 use Rattle.sheet.specs.{declared.sheet.SheetFault.SheetFault, declared.sheet.SheetOutcome.SheetOutcome, Refusal.Line, Refusal.SheetStands, Refusal.SheetAnswers}
-use Rattle.sheet.specs.{Ends.sheet-exactly, Sheet.kind, Sheet.sheet_outcome, Sheet.Good.lines-read, Sheet.Good.line-accepted}
+use Rattle.sheet.specs.{Sheet.kind, Sheet.sheet_outcome}
+use Rattle.sheet.proofs.{Ends.sheet-exactly, SheetGood.lines-read, SheetGood.line-accepted}
 use Rattle.sheet.specs.declared.sheet.SheetFault.TheVariants.{LongFile, BadFields, NoKind}
 use Rattle.sheet.specs.declared.sheet.SheetOutcome.TheVariants.{Read, Refused as SheetRefused}
 use Rattle.tidying.specs.declared.write.SheetTidied.{SheetTidied, TheVariants.Written, TheVariants.Refused, TheVariants.TooLong}

@@ -12,7 +12,8 @@ use Rattle.fields.specs.Put.{Put, Begun, Laws.put-length, Laws.put_first, Laws.b
 use Rattle.model.specs.{Fault.accepted, Accept.Length.text-short}
 use Rattle.model.proofs.AcceptLaws.{accepted-within}
 use Rattle.judge.specs.Answer.{answer, answer-is}
-use Rattle.sheet.specs.{Sheet.kind, Sheet.model, Sheet.Laws.part-size, Sheet.Good.Accepted}
+use Rattle.sheet.specs.{Sheet.kind, Sheet.model}
+use Rattle.sheet.proofs.{SheetLaws.part-size, SheetGood.Accepted}
 use Rattle.canonical.specs.{declared.fault.WriteFault.WriteFault, declared.write.Written.Written, Canonical.canonical}
 use Rattle.canonical.specs.declared.write.Written.TheVariants.{Length, Refused}
 use Rattle.canonical.specs.Canonical.{write_reply, wrote, written_of, buffer_written, Accepted.canonical-formed, Accepted.canonical-within}

@@ -1,8 +1,9 @@
 -- a row that passes is searched by its rule, which is packed first
 use Rattle.std.proofs.Common.{◌≡◌, sym, refl, ap, ◌∙◌, rules}
-use Rattle.judge.specs.{Row.row_tested, FirstFault.upper_counts, FirstFault.first_fault, FirstFault.Laws.searched-found, FirstFault.Laws.searched-refused}
+use Rattle.judge.specs.{Row.row_tested, FirstFault.upper_counts, FirstFault.first_fault}
+use Rattle.judge.proofs.FirstFaultLaws.{searched-found, searched-refused}
 use Rattle.judge.specs.{declared.row.Tested.TheVariants.Passed, declared.verdict.Searched.TheVariants.Found}
-use Rattle.judge.specs.Row.Code.{readable-within, Passes, tested, packed-passes, searchable, counts-known}
+use Rattle.judge.proofs.RowCode.{readable-within, Passes, tested, packed-passes, searchable, counts-known}
 use Rattle.judge.proofs.first_fault.first_fault.Statement.{statement}
 use Rattle.judge.proofs.first_fault.first_fault.Tie as tie
 

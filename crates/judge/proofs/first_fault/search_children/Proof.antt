@@ -1,7 +1,7 @@
 -- The reply to what was read.
 use Rattle.std.proofs.Common.{sym, refl, ap, rules}
 use Rattle.judge.specs.FirstFault.{children_fault, searched_of}
-use Rattle.judge.specs.Reply.Read.{read-both, read-fault, reply-model, reply-children, row-searched, fault-searched}
+use Rattle.judge.proofs.ReplyRead.{read-both, read-fault, reply-model, reply-children, row-searched, fault-searched}
 use Rattle.judge.proofs.first_fault.search_children.Statement.{statement}
 use Rattle.judge.proofs.first_fault.search_children.Tie as tie
 

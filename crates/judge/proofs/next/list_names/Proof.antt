@@ -1,6 +1,6 @@
 -- counted first: a row that is too short is left as it was
 use Rattle.std.proofs.Common.{rules}
-use Rattle.judge.specs.Next.Code.{hands_none, hands-all}
+use Rattle.judge.proofs.NextCode.{hands_none, hands-all}
 use Rattle.judge.proofs.next.list_names.Statement.{statement}
 use Rattle.judge.proofs.next.list_names.Tie as tie
 

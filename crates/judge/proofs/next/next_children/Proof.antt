@@ -1,7 +1,7 @@
 -- The reply to what was read.
 use Rattle.std.proofs.Common.{refl, rules}
 use Rattle.judge.specs.Next.{children_next}
-use Rattle.judge.specs.Reply.Read.{read-both, read-fault, reply-model, reply-children, row_listed, fault-listed}
+use Rattle.judge.proofs.ReplyRead.{read-both, read-fault, reply-model, reply-children, row_listed, fault-listed}
 use Rattle.judge.proofs.next.next_children.Statement.{statement}
 use Rattle.judge.proofs.next.next_children.Tie as tie
 

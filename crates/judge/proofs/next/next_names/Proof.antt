@@ -1,7 +1,7 @@
 -- the names behind a row that passes are told by its rule, which is packed first
 use Rattle.std.proofs.Common.{sym, refl, ◌∙◌, rules}
 use Rattle.judge.specs.Next.{next_judged}
-use Rattle.judge.specs.Row.Code.{readable-within, Passes, tested, packed-is, packed-passes}
+use Rattle.judge.proofs.RowCode.{readable-within, Passes, tested, packed-is, packed-passes}
 use Rattle.judge.proofs.next.next_names.Statement.{statement}
 use Rattle.judge.proofs.next.next_names.Tie as tie
 

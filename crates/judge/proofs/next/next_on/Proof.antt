@@ -2,9 +2,11 @@
 use mathlib.Core.{Path.◌≡◌, List.List, List.map}
 use Rattle.std.proofs.Common.{◌≤◌, take, arith, rules}
 use Rattle.model.specs.declared.rule.Node.{Node}
-use Rattle.judge.specs.{Packed.node_in, Packed.seen_in, Packed.Laws.same_nodes, Row.Tally.Laws.fault-told, Row.Code.atoms-within, Row.Code.searchable}
-use Rattle.judge.specs.{FirstFault.upper_counts, Row.Tally.RowTallied, Row.Code.counts-known}
-use Rattle.judge.specs.Next.Code.{next-stopped, next-tallied, hands-no-names}
+use Rattle.judge.specs.{Packed.node_in, Packed.seen_in, Packed.Laws.same_nodes}
+use Rattle.judge.proofs.{RowTallyLaws.fault-told, RowCode.atoms-within, RowCode.searchable}
+use Rattle.judge.specs.{FirstFault.upper_counts, Row.Tally.RowTallied}
+use Rattle.judge.proofs.RowCode.{counts-known}
+use Rattle.judge.proofs.NextCode.{next-stopped, next-tallied, hands-no-names}
 use Rattle.judge.proofs.next.next_on.Statement.{statement}
 use Rattle.judge.proofs.next.next_on.Tie as tie
 

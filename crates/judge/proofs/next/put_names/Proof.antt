@@ -1,7 +1,7 @@
 -- the names found among the first i stand in the first places of the row
 use Rattle.std.proofs.Common.{◌-◌, ◌%◌, ◌<◌, ◌≤◌, length, arith, rules}
 use mathlib.Core.{Path.◌≡◌, Logic.⊎_elim}
-use Rattle.judge.specs.Next.Code.{NamesPut, placed-none, placed-more, placed-room, placed_same, placed-all, looked-few}
+use Rattle.judge.proofs.NextCode.{NamesPut, placed-none, placed-more, placed-room, placed_same, placed-all, looked-few}
 use Rattle.judge.proofs.next.put_names.Statement.{statement}
 use Rattle.judge.proofs.next.put_names.Tie as tie
 

@@ -1,6 +1,6 @@
 -- found is how many of the first i names are in the set
 use Rattle.std.proofs.Common.{◌≡◌, ◌-◌, ◌≤◌, arith, rules}
-use Rattle.judge.specs.Next.Code.{Looked, looked-none, looked-few, looked-turn}
+use Rattle.judge.proofs.NextCode.{Looked, looked-none, looked-few, looked-turn}
 use Rattle.judge.proofs.next.size.Statement.{statement}
 use Rattle.judge.proofs.next.size.Tie as tie
 

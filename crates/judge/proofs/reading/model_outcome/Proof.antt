@@ -1,7 +1,7 @@
 -- Whatever was read of the children, the outcome is that of the model text.
 use Rattle.std.proofs.Common.{◌≡◌, sym, refl, ap, ◌∙◌, rules}
 use Rattle.judge.specs.{declared.reply.ChildrenRead.ChildrenRead, Reading.reading}
-use Rattle.judge.specs.Reply.Read.{outcome_of, outcome-told}
+use Rattle.judge.proofs.ReplyRead.{outcome_of, outcome-told}
 use Rattle.judge.proofs.reading.model_outcome.Statement.{statement}
 use Rattle.judge.proofs.reading.model_outcome.Tie as tie
 

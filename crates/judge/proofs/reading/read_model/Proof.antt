@@ -1,6 +1,7 @@
 -- By the reading of the whole text into arrays.
 use Rattle.std.proofs.Common.{◌∙◌, arith, rules}
-use Rattle.judge.specs.Reading.Whole.{Whole, whole-past, refused-is, reading-is}
+use Rattle.judge.proofs.ReadingWhole.{whole-past, refused-is, reading-is}
+use Rattle.judge.specs.Reading.Whole.{Whole}
 use Rattle.judge.proofs.reading.read_model.Statement.{statement}
 use Rattle.judge.proofs.reading.read_model.Tie as tie
 

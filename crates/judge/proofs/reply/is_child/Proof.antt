@@ -1,5 +1,5 @@
 -- By the length of the name, and by what comes behind it.
-use Rattle.judge.specs.Reply.Children.Laws.{child-long, child-last, child-parted}
+use Rattle.judge.proofs.ReplyChildrenLaws.{child-long, child-last, child-parted}
 use Rattle.std.proofs.Common.{rules}
 use Rattle.judge.proofs.reply.is_child.Statement.{statement}
 use Rattle.judge.proofs.reply.is_child.Tie as tie

@@ -1,7 +1,7 @@
 -- The reply to what was read.
 use Rattle.std.proofs.Common.{sym, refl, ap, rules}
 use Rattle.judge.specs.Reply.{children_reply, judged_of}
-use Rattle.judge.specs.Reply.Read.{read-both, read-fault, reply-model, reply-children, row-judged, fault-judged}
+use Rattle.judge.proofs.ReplyRead.{read-both, read-fault, reply-model, reply-children, row-judged, fault-judged}
 use Rattle.judge.proofs.reply.judge_children.Statement.{statement}
 use Rattle.judge.proofs.reply.judge_children.Tie as tie
 

@@ -1,9 +1,12 @@
 -- The model text first, then the size of the children text, then its children, by the upper counts of the model.
 use mathlib.Core.{Path.refl, List.[], List.map}
 use Rattle.std.proofs.Common.{take, arith, rules}
-use Rattle.judge.specs.Reading.Whole.{Whole, whole-past, whole-fault, whole_apart, whole-limited}
-use Rattle.judge.specs.{Packed.node_in, Packed.seen_in, FirstFault.upper_counts, Row.Tally.Seeing, Reply.Children.Laws.walk_none}
-use Rattle.judge.specs.Reply.Read.{refused_model, children-fit, long-refused, bad-refused, stopped-read, texts-read}
+use Rattle.judge.proofs.ReadingWhole.{whole-past, whole-fault, whole_apart, whole-limited}
+use Rattle.judge.specs.Reading.Whole.{Whole}
+use Rattle.judge.specs.{Packed.node_in, Packed.seen_in, FirstFault.upper_counts, Row.Tally.Seeing}
+use Rattle.judge.proofs.ReplyChildrenLaws.{walk_none}
+use Rattle.judge.proofs.ReplyRead.{children-fit, long-refused, bad-refused, stopped-read, texts-read}
+use Rattle.judge.specs.Reply.Read.{refused_model}
 use Rattle.judge.proofs.reply.read_children.Statement.{statement}
 use Rattle.judge.proofs.reply.read_children.Tie as tie
 

@@ -4,7 +4,7 @@ use Rattle.std.proofs.Common.{◌+◌, length, arith, rules}
 use Rattle.fields.specs.{Bytes.Text, Split.tab, Split.split, Split.part}
 use Rattle.fields.specs.Children.Laws.{counted}
 use Rattle.judge.specs.Reply.Children.{children_from}
-use Rattle.judge.specs.Reply.Children.Laws.{rest-counted, rest-refused, rest-none, rest_some}
+use Rattle.judge.proofs.ReplyChildrenLaws.{rest-counted, rest-refused, rest-none, rest_some}
 use Rattle.judge.proofs.reply.stopped.Statement.{statement}
 use Rattle.judge.proofs.reply.stopped.Tie as tie
 

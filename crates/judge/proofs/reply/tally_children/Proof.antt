@@ -8,9 +8,10 @@ use Rattle.judge.specs.Packed.{seen_in, SameNodes, Laws.seen_at, Laws.seen-set, 
 use Rattle.judge.specs.{Named.row_of, Reading.Laws.last-number, Reply.children_in}
 use Rattle.judge.specs.Reply.Children.{ChildrenPassed, row_whole, no_row}
 use Rattle.judge.specs.Reading.Table.{key_of, parts_in, last_in}
-use Rattle.judge.specs.Row.Tally.{one_left, Seeing, RowPassed, Laws.row-starts, Laws.row-stops, Laws.row_goes, Laws.row_ends}
-use Rattle.judge.specs.Reply.Children.Laws.{child-unnamed, NameMet, met-name, walk-starts, walk-stops, walk_inside, walk-number, walk-goes}
-use Rattle.judge.specs.Reply.Children.Laws.{walk-faulty, walk-all, walk-few, walk-many}
+use Rattle.judge.specs.Row.Tally.{one_left, Seeing, RowPassed}
+use Rattle.judge.proofs.RowTallyLaws.{row-starts, row-stops, row_goes, row_ends}
+use Rattle.judge.proofs.ReplyChildrenLaws.{child-unnamed, NameMet, met-name, walk-starts, walk-stops, walk_inside, walk-number, walk-goes}
+use Rattle.judge.proofs.ReplyChildrenLaws.{walk-faulty, walk-all, walk-few, walk-many}
 use Rattle.judge.proofs.reply.tally_children.Statement.{statement}
 use Rattle.judge.proofs.reply.tally_children.Tie as tie
 

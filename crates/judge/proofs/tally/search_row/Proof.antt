@@ -5,7 +5,7 @@ use borrow.Author.{Rules.rules, Tests.ltb-true, Tests.ltb-false}
 use Rattle.model.specs.declared.rule.Upper.{Upper}
 use Rattle.judge.specs.Packed.{seen_in, SameNodes, Laws.seen_at, Laws.seen-set, Laws.same_set}
 use Rattle.judge.specs.Row.{Laws.upto-at, Tally.one_left, Tally.Seeing, Tally.RowPassed}
-use Rattle.judge.specs.Row.Tally.Laws.{row_told, row-starts, row-stops, row_goes, row_ends}
+use Rattle.judge.proofs.RowTallyLaws.{row_told, row-starts, row-stops, row_goes, row_ends}
 use Rattle.judge.proofs.tally.search_row.Statement.{statement}
 use Rattle.judge.proofs.tally.search_row.Tie as tie
 

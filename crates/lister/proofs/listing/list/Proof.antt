@@ -4,8 +4,9 @@ use Prim.Native.Nat.{◌-◌}
 use lib.ListN.{length, take}
 use Rattle.fields.specs.{Bytes.Text, Split.lines, Split.Times.lines-few}
 use Rattle.sheet.specs.declared.{cues.CuesRead.TheVariants.Count, sheet.SheetOutcome.TheVariants.Read}
-use Rattle.sheet.specs.{Cues.cues_read, Cues.Good.good-cues, Cues.Walk.GoodCues, Sheet.sheet_outcome, Sheet.Good.outcome-is, Sheet.Places.sheet-loaded}
-use Rattle.sheet.specs.Ends.{cues-exactly}
+use Rattle.sheet.specs.{Cues.cues_read, Cues.Good.good-cues, Cues.Walk.GoodCues, Sheet.sheet_outcome}
+use Rattle.sheet.proofs.{SheetGood.outcome-is, SheetPlaces.sheet-loaded}
+use Rattle.sheet.proofs.Ends.{cues-exactly}
 use Rattle.lister.specs.{Listing.said, Listed.by_room, Listed.buffer_after, Coded.code_of}
 use Rattle.lister.specs.Coded.Laws.{coded-all, listing-coded, cues-coded, listed-sheet, listed-cues, listed-room}
 use native.Mathlib.Omega.{arith}

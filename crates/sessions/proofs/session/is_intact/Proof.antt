@@ -1,5 +1,5 @@
 -- both parts of the trail are tested, or there are more children than room
-use Rattle.sessions.specs.Session.Code.{intact-holds, intact-over}
+use Rattle.sessions.proofs.SessionCode.{intact-holds, intact-over}
 use borrow.Author.Rules.{rules}
 use Rattle.sessions.proofs.session.is_intact.Statement.{statement}
 use Rattle.sessions.proofs.session.is_intact.Tie as tie

@@ -2,7 +2,7 @@
 use mathlib.Core.{Path.sym, Path.◌∙◌, List.List}
 use Rattle.fields.specs.{Bytes.Text, Heads.Laws.Three, Heads.Laws.fields-three}
 use Rattle.judge.specs.Reading.{parts_of}
-use Rattle.sheet.specs.Sheet.Laws.{RuleLine, checked-few, checked-many, checked-word, checked-name, checked-again, checked-good}
+use Rattle.sheet.proofs.SheetLaws.{RuleLine, checked-few, checked-many, checked-word, checked-name, checked-again, checked-good}
 use native.Mathlib.Omega.{arith}
 use borrow.Author.Rules.{rules}
 use Rattle.sheet.proofs.sheet.check_line.Statement.{statement}

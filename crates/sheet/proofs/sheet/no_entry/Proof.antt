@@ -1,5 +1,5 @@
 -- By what the two calls give.
-use Rattle.sheet.specs.Sheet.Laws.{entry-made}
+use Rattle.sheet.proofs.SheetLaws.{entry-made}
 use borrow.Author.Rules.{rules}
 use Rattle.sheet.proofs.sheet.no_entry.Statement.{statement}
 use Rattle.sheet.proofs.sheet.no_entry.Tie as tie

@@ -1,5 +1,5 @@
 -- By what the two calls give.
-use Rattle.sheet.specs.Sheet.Laws.{rules-made}
+use Rattle.sheet.proofs.SheetLaws.{rules-made}
 use borrow.Author.Rules.{rules}
 use Rattle.sheet.proofs.sheet.no_rules.Statement.{statement}
 use Rattle.sheet.proofs.sheet.no_rules.Tie as tie

@@ -5,7 +5,8 @@ use lib.ListN.{length}
 use Rattle.judge.specs.Reading.{parts_of}
 use Rattle.fields.specs.{Limits.max_file, Split.part}
 use Rattle.sheet.specs.declared.sheet.Checked.TheVariants.{Good}
-use Rattle.sheet.specs.Sheet.Laws.{line_checked, heads-fit, check-refused, refused_model, model-read}
+use Rattle.sheet.proofs.SheetLaws.{heads-fit, check-refused, refused_model, model-read}
+use Rattle.sheet.specs.Sheet.Line.{line_checked}
 use native.Mathlib.Omega.{arith}
 use borrow.Author.Rules.{rules}
 use Rattle.sheet.proofs.sheet.read_line.Statement.{statement}

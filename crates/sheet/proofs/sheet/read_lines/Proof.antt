@@ -3,7 +3,7 @@ use mathlib.Core.Path.{◌∙◌}
 use Prim.Native.Nat.{◌-◌, ◌≤◌, ◌<◌}
 use lib.ListN.{length}
 use Rattle.fields.specs.{Limits.max_file, Bytes.Text, Split.line_feed, Split.Laws.end-bounds}
-use Rattle.sheet.specs.Sheet.Walk.{Gone, gone-start, gone-many, gone-bad, gone-next, gone-end}
+use Rattle.sheet.proofs.SheetWalk.{Gone, gone-start, gone-many, gone-bad, gone-next, gone-end}
 use borrow.Author.Rules.{rules}
 use native.Mathlib.Omega.{arith}
 use Rattle.sheet.proofs.sheet.read_lines.Statement.{statement}

@@ -1,7 +1,7 @@
 -- Size and last line, then the lines.
 use mathlib.Core.{Path.◌≡◌, Path.sym, Path.◌∙◌, Bool.true, List.[]}
 use Rattle.fields.specs.{Bytes.Text, Bytes.same_text, Bytes.Laws.same_text-is, Split.behind}
-use Rattle.sheet.specs.Sheet.Laws.{sheet-long, sheet-unended, sheet-begin}
+use Rattle.sheet.proofs.SheetLaws.{sheet-long, sheet-unended, sheet-begin}
 use borrow.Author.Rules.{rules}
 use Rattle.sheet.proofs.sheet.read_sheet.Statement.{statement}
 use Rattle.sheet.proofs.sheet.read_sheet.Tie as tie

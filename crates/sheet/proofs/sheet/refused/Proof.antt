@@ -1,5 +1,5 @@
 -- By what the call gives.
-use Rattle.sheet.specs.Sheet.Laws.{refused-made}
+use Rattle.sheet.proofs.SheetLaws.{refused-made}
 use borrow.Author.Rules.{rules}
 use Rattle.sheet.proofs.sheet.refused.Statement.{statement}
 use Rattle.sheet.proofs.sheet.refused.Tie as tie

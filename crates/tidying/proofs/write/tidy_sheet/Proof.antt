@@ -1,7 +1,8 @@
 -- Sheet, length, lines: nothing is written before the length is known.
 use mathlib.Core.Path.{◌≡◌, refl, sym, ap, ◌∙◌}
 use lib.ListN.{length}
-use Rattle.sheet.specs.{declared.sheet.SheetOutcome.TheVariants.Read, Sheet.sheet_outcome, Sheet.Good.outcome-is}
+use Rattle.sheet.specs.{declared.sheet.SheetOutcome.TheVariants.Read, Sheet.sheet_outcome}
+use Rattle.sheet.proofs.SheetGood.{outcome-is}
 use Rattle.tidying.specs.Tidying.Laws.{good-sheet, tidied-refused, tidied-long, tidied-written, buffer-tidied}
 use native.Mathlib.Omega.{arith}
 use borrow.Author.Rules.{rules}

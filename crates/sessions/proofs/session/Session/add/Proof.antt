@@ -2,7 +2,7 @@
 use mathlib.Core.Path.{◌≡◌, sym, ◌∙◌}
 use Rattle.judge.specs.declared.fault.JudgeFault.TheVariants.{UnknownName, NoRoom}
 use Rattle.sessions.specs.{declared.session.Outcome.TheVariants.Done, Book.adding, Session.checked}
-use Rattle.sessions.specs.Session.Code.{refused, completed, adding-refused, adding-unnamed, adding-full, adding-done}
+use Rattle.sessions.proofs.SessionCode.{refused, completed, adding-refused, adding-unnamed, adding-full, adding-done}
 use borrow.Author.Rules.{rules}
 use Rattle.sessions.proofs.session.Session.add.Statement.{statement}
 use Rattle.sessions.proofs.session.Session.add.Tie as tie

@@ -1,6 +1,6 @@
 -- each answer by the tests that led there
 use mathlib.Core.{Path.sym, Bool.true, Bool.false}
-use Rattle.sessions.specs.Session.Code.{checked-by, checked-no-model}
+use Rattle.sessions.proofs.SessionCode.{checked-by, checked-no-model}
 use borrow.Author.Rules.{rules}
 use Rattle.sessions.proofs.session.Session.checked.Statement.{statement}
 use Rattle.sessions.proofs.session.Session.checked.Tie as tie

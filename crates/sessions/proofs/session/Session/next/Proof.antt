@@ -1,7 +1,7 @@
 -- an intact trail has a row that the judge lists the next names of; else 40 comes before 42
 use mathlib.Core.{Path.sym, Path.ap, Path.◌∙◌, Bool.false}
 use Rattle.sessions.specs.Session.{intact}
-use Rattle.sessions.specs.Session.Code.{intact-fits, checked-no-model, checked-by, next-judged, next-refused}
+use Rattle.sessions.proofs.SessionCode.{intact-fits, checked-no-model, checked-by, next-judged, next-refused}
 use borrow.Author.Rules.{rules}
 use Rattle.sessions.proofs.session.Session.next.Statement.{statement}
 use Rattle.sessions.proofs.session.Session.next.Tie as tie

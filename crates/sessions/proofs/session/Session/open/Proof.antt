@@ -2,7 +2,7 @@
 use mathlib.Core.{Path.◌∙◌, Bool.true, Bool.false}
 use Rattle.judge.specs.declared.fault.JudgeFault.TheVariants.{Unreadable}
 use Rattle.sessions.specs.Book.{opening}
-use Rattle.sessions.specs.Session.Code.{opening-by, completed, refused}
+use Rattle.sessions.proofs.SessionCode.{opening-by, completed, refused}
 use borrow.Author.Rules.{rules}
 use Rattle.sessions.proofs.session.Session.open.Statement.{statement}
 use Rattle.sessions.proofs.session.Session.open.Tie as tie

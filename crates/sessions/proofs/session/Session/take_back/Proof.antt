@@ -2,7 +2,7 @@
 use mathlib.Core.Path.{◌≡◌, sym, ◌∙◌}
 use Rattle.judge.specs.declared.fault.JudgeFault.TheVariants.{NothingToTakeBack}
 use Rattle.sessions.specs.{declared.session.Outcome.TheVariants.Done, Book.taking_back, Session.checked}
-use Rattle.sessions.specs.Session.Code.{refused, completed, taking-refused, taking-none, taking-done, checked-fits}
+use Rattle.sessions.proofs.SessionCode.{refused, completed, taking-refused, taking-none, taking-done, checked-fits}
 use borrow.Author.Rules.{rules}
 use Rattle.sessions.proofs.session.Session.take_back.Statement.{statement}
 use Rattle.sessions.proofs.session.Session.take_back.Tie as tie

@@ -1,7 +1,7 @@
 -- an intact trail has a row that the judge answers; else 40 comes before 42
 use mathlib.Core.{Path.sym, Path.ap, Path.◌∙◌, Bool.false}
 use Rattle.sessions.specs.Session.{intact}
-use Rattle.sessions.specs.Session.Code.{intact-fits, checked-no-model, checked-by, asked-judged, asked-refused}
+use Rattle.sessions.proofs.SessionCode.{intact-fits, checked-no-model, checked-by, asked-judged, asked-refused}
 use borrow.Author.Rules.{rules}
 use Rattle.sessions.proofs.session.Session.verdict.Statement.{statement}
 use Rattle.sessions.proofs.session.Session.verdict.Tie as tie

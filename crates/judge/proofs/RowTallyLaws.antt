@@ -11,7 +11,8 @@ use Rattle.model.specs.Word.{Word, only}
 use Rattle.model.proofs.WordLaws.{only-is, only_self}
 use Rattle.judge.specs.declared.verdict.FirstFault.{FirstFault}
 use Rattle.judge.specs.declared.verdict.FirstFault.TheVariants.{At, Nothing}
-use Rattle.judge.specs.FirstFault.{is_fault, first_where, first_fault, Laws.count-with}
+use Rattle.judge.specs.FirstFault.{is_fault, first_where, first_fault}
+use Rattle.judge.proofs.FirstFaultLaws.{count-with}
 use Rattle.judge.specs.Row.Tally.{one_left, noted_word, Seeing, RowTallied, RowPassed}
 use Rattle.judge.specs.Row.Tally.Words.{seen-whole, full_is, seen_more, seen_other}
 

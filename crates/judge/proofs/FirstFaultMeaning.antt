@@ -25,8 +25,9 @@ use Rattle.model.specs.Model.{counted_type, operator, joined_from, joined_type, 
 use Rattle.judge.specs.declared.verdict.FirstFault.TheVariants.{Nothing}
 use Rattle.judge.specs.{Row.upto, Row.Upto, Row.Laws.upto-tells, Row.Laws.upto-at, Row.Attribute.CountsWithin, FirstFault.with_upper}
 use Rattle.judge.specs.{FirstFault.upper_counts, FirstFault.allowed, FirstFault.CountsAre}
-use Rattle.judge.specs.{FirstFault.FaultAt, FirstFault.is_fault, FirstFault.first_fault, FirstFault.Laws.first-exactly, FirstFault.Laws.count-with}
-use Rattle.judge.specs.{FirstFault.Laws.fault-tells, FirstFault.Laws.fault-place}
+use Rattle.judge.specs.{FirstFault.FaultAt, FirstFault.is_fault, FirstFault.first_fault}
+use Rattle.judge.proofs.FirstFaultLaws.{first-exactly, count-with}
+use Rattle.judge.proofs.FirstFaultLaws.{fault-tells, fault-place}
 
 -- types whose upper counts f gives
 module _ (f : ℕ → Upper) where

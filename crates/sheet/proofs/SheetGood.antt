@@ -6,7 +6,8 @@ use lib.{Dec.leb, Dec.ltb, ListN.length, ListN.get_or}
 use Rattle.fields.specs.{Limits.max_file, Tests.by-test, Bytes.Text, Bytes.same_text, Bytes.Laws.same_text-is, Split.lines, Split.behind}
 use Rattle.model.specs.{Syntax.Syntax, Fault.Answer, Fault.Answers, Fault.refused, Fault.accepted}
 use Rattle.judge.specs.Answer.{answer, answered}
-use Rattle.sheet.specs.{declared.sheet.SheetFault.SheetFault, declared.sheet.SheetOutcome.SheetOutcome, Sheet.Laws.fault-none}
+use Rattle.sheet.specs.{declared.sheet.SheetFault.SheetFault, declared.sheet.SheetOutcome.SheetOutcome}
+use Rattle.sheet.proofs.SheetLaws.{fault-none}
 use Rattle.sheet.specs.declared.sheet.SheetFault.TheVariants.{LongFile, Unended, ManyRules}
 use Rattle.sheet.specs.declared.sheet.SheetOutcome.TheVariants.{Read, Refused}
 use Rattle.sheet.specs.Sheet.{max_rules, kind, model, model_fault, line_fault, by_fault, sheet_lines, sheet_outcome, sheet_by, sheet_read}

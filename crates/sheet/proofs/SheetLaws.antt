@@ -21,23 +21,7 @@ use Rattle.sheet.specs.declared.sheet.SheetFault.TheVariants.{LongFile, Unended,
 use Rattle.sheet.specs.declared.sheet.Checked.TheVariants.{Good, Bad}
 use Rattle.sheet.specs.Sheet.{max_rules, kind, model, among, model_fault, line_fault, kind_place, model_place, entry_of, no_entry, sheet_lines, sheet_with}
 use Rattle.sheet.specs.Sheet.{sheet_by, sheet_read}
-
--- what is wrong with a line, its model left aside
-abbrev pub line_checked : List Text → Text → Checked
-line_checked ks l =
-    cond (not (eqb (length (fields l)) 3) || not (same_text (field 0 l) (bytes "rule"))) (Bad BadFields)
-    (cond (not (short_name (kind l))) (Bad NoKind)
-    (cond (among ks (kind l)) (Bad Repeated) Good))
-
-abbrev pub checked_by : Option SheetFault → Checked
-checked_by none = Good
-checked_by (some f) = Bad f
-
--- the line of the text x from at to end is read into r
-pub record LineIs (x : Text) (kinds : Names) (at end : ℕ) (r : LineRead) : Type 0 where
-  pub checked_is : r.checked ≡ checked_by (line_fault (parts_of x kinds) (part x at end))
-  pub kind_is : r.checked ≡ Good → r.kind ≡ kind_place (record { start = at; line = part x at end })
-  pub entry_is : r.checked ≡ Good → r.entry ≡ entry_of (record { start = at; line = part x at end })
+use Rattle.sheet.specs.Sheet.Line.{line_checked, checked_by, LineIs}
 
 -- what is made where nothing is read
 pub entry-made : {m : NamePlace} {r : Reading} → m ≡ no_place → r ≡ reading []

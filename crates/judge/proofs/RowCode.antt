@@ -6,8 +6,10 @@ use lib.{Dec.leb, ListN.length, ListN.take, ListN.get_or}
 use Rattle.judge.specs.{Reading.Buffer.Stores, Packed.node_in, Packed.rule_in, Packed.seen_in, Row.upto, Row.row_tested, Row.judged}
 use Rattle.judge.specs.{Row.Attribute.seen, Row.Tally.seen_of, Row.Tally.limits_in, Row.Tally.Limits.limits-seeing}
 use Rattle.judge.specs.Row.{Laws.upto-more, Tally.Seeing}
-use Rattle.judge.specs.{FirstFault.upper_counts, FirstFault.first_fault, FirstFault.Laws.first-exactly, FirstFault.Meaning.sound-rule}
-use Rattle.judge.specs.{FirstFault.Meaning.faulty-rule, Row.Attribute.CountsWithin}
+use Rattle.judge.specs.{FirstFault.upper_counts, FirstFault.first_fault}
+use Rattle.judge.proofs.{FirstFaultLaws.first-exactly, FirstFaultMeaning.sound-rule}
+use Rattle.judge.specs.{Row.Attribute.CountsWithin}
+use Rattle.judge.proofs.FirstFaultMeaning.{faulty-rule}
 use Rattle.judge.specs.declared.verdict.FirstFault.TheVariants.{At, Nothing}
 use Rattle.judge.specs.{Row.Tally.Tallied, Row.Pass.seen_verdict, Row.Pass.verdict-seen, declared.row.Tested.Tested}
 use Rattle.judge.specs.declared.row.Tested.TheVariants.{Passed, Refused as Failed}

@@ -8,7 +8,7 @@ use Rattle.judge.specs.{declared.verdict.Judged.TheVariants.Verdict as Said, Row
 use Rattle.sessions.specs.Book.{Call, opening, adding, taking_back, asking, looking_ahead, CallReply, nothing, Book, book, room, Keeps, done, next}
 use Rattle.sessions.specs.{Book.adds, Book.Laws.keeps-once, Session.free, Session.Gives}
 use Rattle.sessions.specs.Calls.{World, Plays, by_open, by_add, by_take_back, by_verdict, by_next, PlaysAll, no_more, and_then, shown}
-use Rattle.sessions.specs.Calls.Agree.{Matches, below_apart, done-opened, readable-opened, asked-says, agrees}
+use Rattle.sessions.proofs.CallsAgree.{Matches, below_apart, done-opened, readable-opened, asked-says, agrees}
 
 -- the promises of a call can be met, in every world and with any row lent, and so can those of a list
 plays-ahead : (u : World) (lent : Word) → (a : CallReply) × (v : World) × Plays u (looking_ahead (length lent)) a v

@@ -8,10 +8,11 @@ use Rattle.judge.specs.{declared.verdict.Judged.Judged, declared.verdict.Judged.
 use Rattle.judge.specs.{Named.row_of, Next.NextReply}
 use Rattle.judge.specs.Named.Laws.{rule-means, row_named, row_written}
 use Rattle.sessions.specs.{declared.session.Outcome.Outcome, declared.session.Session.Session, Book.Laws.keeps-once, Refusal.Tried, Refusal.Asks}
-use Rattle.sessions.specs.{Refusal.AsksNext, Refusal.Laws.outcome-is, Refusal.Laws.asked_is, Refusal.Laws.next_is, Calls.World, Calls.Plays}
+use Rattle.sessions.specs.{Refusal.AsksNext, Calls.World, Calls.Plays}
+use Rattle.sessions.proofs.RefusalLaws.{outcome-is, asked_is, next_is}
 use Rattle.sessions.specs.{Calls.PlaysAll, Calls.shown}
 use Rattle.sessions.specs.Session.{Trail, outcome, asked, Gives, next_asked}
-use Rattle.sessions.specs.Calls.Theorem.{plays-all, agrees-with-book, judges-row}
+use Rattle.sessions.proofs.CallsTheorem.{plays-all, agrees-with-book, judges-row}
 use Rattle.sessions.specs.Book.{Call, opening, adding, CallReply, nothing, Book, book, room, Keeps}
 use Rattle.fields.specs.Bytes.{Text}
 

@@ -11,12 +11,14 @@ use Rattle.model.specs.{Rule.Laws.used-with, Check.readable}
 use Rattle.model.proofs.CheckExact.{readable-is, type-means, means-conflict-free}
 use Rattle.model.specs.{declared.verdict.Verdict.TheVariants.Dead}
 use Rattle.model.proofs.VerdictLaws.{verdict-is}
-use Rattle.judge.specs.{declared.fault.JudgeFault.TheVariants.ShortRow, Row.upto, Row.Tally.seen_of, Row.Tally.Tallied, Row.Code.names-tallied}
+use Rattle.judge.specs.{declared.fault.JudgeFault.TheVariants.ShortRow, Row.upto, Row.Tally.seen_of, Row.Tally.Tallied}
+use Rattle.judge.proofs.RowCode.{names-tallied}
 use Rattle.judge.specs.declared.verdict.Next.TheVariants.{Names as Found, Refused as NoNames}
 use Rattle.judge.specs.Next.{numbers_to, next_names, fitted, HandsNext, Set.in_set, Laws.kept_more, Laws.kept_same, Laws.kept, Laws.list-exactly}
 use Rattle.judge.specs.Next.{Laws.dead-has-none, Ahead.root_ahead}
 use Rattle.judge.specs.Next.Meaning.{next-seen}
-use Rattle.judge.specs.{FirstFault.upper_counts, FirstFault.first_fault, Row.Code.verdict-stopped, Row.Code.row-sound}
+use Rattle.judge.specs.{FirstFault.upper_counts, FirstFault.first_fault}
+use Rattle.judge.proofs.RowCode.{verdict-stopped, row-sound}
 use Rattle.judge.specs.declared.verdict.FirstFault.TheVariants.{At, Nothing}
 
 -- those of the first n names that are in the set s

@@ -20,7 +20,8 @@ use Rattle.sheet.specs.{declared.sheet.Entry.Entry, declared.sheet.Sheet.Sheet, 
 use Rattle.sheet.specs.declared.sheet.SheetOutcome.TheVariants.{Read, Refused}
 use Rattle.sheet.specs.declared.sheet.Checked.TheVariants.{Good, Bad}
 use Rattle.sheet.specs.Sheet.{max_rules, kind, model, line_fault, sheet_lines, Placed, placed_from, kind_place, entry_of, no_entry, sheet_with, sheet_by}
-use Rattle.sheet.specs.Sheet.Laws.{checked_by, LineIs, line-kind-is, line-model-is, part-size}
+use Rattle.sheet.proofs.SheetLaws.{line-kind-is, line-model-is, part-size}
+use Rattle.sheet.specs.Sheet.Line.{checked_by, LineIs}
 
 -- the model of the line l stands at the entry's place in the text s
 pub record EntryGood (s : Text) (e : Entry) (l : Text) : Type 0 where

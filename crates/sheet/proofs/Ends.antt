@@ -2,8 +2,10 @@
 use mathlib.Core.{Path.◌≡◌, Logic.◌↔◌}
 use Rattle.fields.specs.Bytes.{Text}
 use Rattle.sheet.specs.{declared.sheet.SheetOutcome.SheetOutcome, declared.sheet.SheetOutcome.TheVariants.Read, declared.cues.CuesRead.CuesRead}
-use Rattle.sheet.specs.{Cues.cues_read, Sheet.sheet_outcome, Sheet.sheet_read, Sheet.HoldsSheet, Sheet.Places.places_are}
-use Rattle.sheet.specs.{Refusal.SheetAnswers, Refusal.CuesAnswers, Refusal.Laws.sheet-is, Refusal.Laws.cues-is}
+use Rattle.sheet.specs.{Cues.cues_read, Sheet.sheet_outcome, Sheet.sheet_read, Sheet.HoldsSheet}
+use Rattle.sheet.proofs.SheetPlaces.{places_are}
+use Rattle.sheet.specs.{Refusal.SheetAnswers, Refusal.CuesAnswers}
+use Rattle.sheet.proofs.RefusalLaws.{sheet-is, cues-is}
 
 -- Demand 1, sheet: it is refused with the first fault of the table that stands, and read where none does.
 pub sheet-exactly : (x : Text) (o : SheetOutcome) → (sheet_outcome x ≡ o) ↔ SheetAnswers x o

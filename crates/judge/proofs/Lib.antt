@@ -1,0 +1,9 @@
+pub mod Ends
+pub mod FirstFaultLaws
+pub mod FirstFaultMeaning
+pub mod NextCode
+pub mod ReadingWhole
+pub mod ReplyChildrenLaws
+pub mod ReplyRead
+pub mod RowCode
+pub mod RowTallyLaws

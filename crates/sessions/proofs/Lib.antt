@@ -1,0 +1,5 @@
+pub mod CallsAgree
+pub mod CallsTheorem
+pub mod Ends
+pub mod RefusalLaws
+pub mod SessionCode

@@ -1,0 +1,31 @@
+-- What is wrong with a line of a sheet, and what it is read into. The laws are in proofs/SheetLaws.antt.
+use mathlib.Core.{Path.◌≡◌, Bool.cond, Bool.not, Bool.◌||◌, Option.Option, Option.none}
+use mathlib.Core.{Option.some, List.List}
+use Rattle.std.specs.Prelude.{ℕ, ◌-◌, length}
+use lib.{Dec.eqb}
+use Rattle.fields.specs.{Bytes.Text, Bytes.bytes, Bytes.same_text}
+use Rattle.fields.specs.{Children.short_name}
+use Rattle.fields.specs.Split.{fields, field, part}
+use Rattle.judge.specs.{declared.reading.Names.Names}
+use Rattle.judge.specs.Reading.{parts_of}
+use Rattle.sheet.specs.{declared.sheet.SheetFault.SheetFault, declared.sheet.Checked.Checked, declared.sheet.LineRead.LineRead}
+use Rattle.sheet.specs.declared.sheet.SheetFault.TheVariants.{BadFields, NoKind, Repeated}
+use Rattle.sheet.specs.declared.sheet.Checked.TheVariants.{Good, Bad}
+use Rattle.sheet.specs.Sheet.{kind, model, among, line_fault, kind_place, entry_of}
+
+-- what is wrong with a line, its model left aside
+abbrev pub line_checked : List Text → Text → Checked
+line_checked ks l =
+    cond (not (eqb (length (fields l)) 3) || not (same_text (field 0 l) (bytes "rule"))) (Bad BadFields)
+    (cond (not (short_name (kind l))) (Bad NoKind)
+    (cond (among ks (kind l)) (Bad Repeated) Good))
+
+abbrev pub checked_by : Option SheetFault → Checked
+checked_by none = Good
+checked_by (some f) = Bad f
+
+-- the line of the text x from at to end is read into r
+pub record LineIs (x : Text) (kinds : Names) (at end : ℕ) (r : LineRead) : Type 0 where
+  pub checked_is : r.checked ≡ checked_by (line_fault (parts_of x kinds) (part x at end))
+  pub kind_is : r.checked ≡ Good → r.kind ≡ kind_place (record { start = at; line = part x at end })
+  pub entry_is : r.checked ≡ Good → r.entry ≡ entry_of (record { start = at; line = part x at end })
