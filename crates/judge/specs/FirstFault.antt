@@ -1,6 +1,6 @@
--- The first child of a row that is foreign or one too many of its name: document 02, W2. Below it:
---   Laws     there is one answer, and the functions compute it
---   Meaning  a row with such a child is dead; in a row without one, every name is known and no count is over its upper end
+-- The first child of a row that is foreign or one too many of its name: document 02, W2. In proofs/:
+--   FirstFaultLaws     there is one answer, and the functions compute it
+--   FirstFaultMeaning  a row with such a child is dead; in a row without one, every name is known and no count is over its upper end
 use mathlib.Core.{Path.◌≡◌, Bool.Bool, Bool.not, Bool.cond, List.List, List.[], List.◌∷◌}
 use Rattle.std.specs.Prelude.{ℕ, zero, suc, ◌<◌, ◌≤◌, length, take, slice_index}
 use Rattle.fields.specs.{Bytes.Text, Limits.max_row, Least.Least, Least.NoneStands}
@@ -44,7 +44,7 @@ pub data FaultAt (us : List Upper) (w : Word) (p : ℕ) : Type 0 where
   foreign : p < length w → slice_index w p ≡ 0 → FaultAt us w p
   one_too_many : p < length w → ¬ Under (count (slice_index w p) (take (suc p) w)) (allowed us (slice_index w p)) → FaultAt us w p
 
--- the place of the first such child, or that there is none (`FirstFault.Laws.first-exactly`: there is one answer, and only one)
+-- the place of the first such child, or that there is none (`FirstFaultLaws.first-exactly`: there is one answer, and only one)
 abbrev pub FirstFaultIs : List Upper → Word → FirstFault → Type 0
 FirstFaultIs us w (At p) = Least (λ q. q) (FaultAt us w) p
 FirstFaultIs us w Nothing = NoneStands (FaultAt us w)

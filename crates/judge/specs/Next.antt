@@ -4,7 +4,7 @@
 --   Ahead    what the pass over the nodes computes
 --   Longer   what the tests say of a row with a name more
 --   Meaning  the set that the pass ends with has just the names that may come next
---   Code     what is known where names are counted and listed
+-- proofs/NextCode.antt has what is known where names are counted and listed.
 pub mod Laws
 pub mod Set
 pub mod Ahead

@@ -1,4 +1,4 @@
--- The test of a rule that passes over its nodes can do: document 01, refusal 40. `Check.Exact` has that it holds just where some accepted model text
+-- The test of a rule that passes over its nodes can do: document 01, refusal 40. `CheckExact` has that it holds just where some accepted model text
 -- reads into the rule.
 pub mod Scan
 use mathlib.Core.{Bool.Bool, Bool.true, Bool.false, Bool.cond, Bool.◌&&◌, List.List, List.[], List.◌∷◌}

@@ -1,4 +1,4 @@
--- The depth of a rule, as one pass over its nodes finds it: of each flattened tree only a few facts are kept. `Depth.Laws.depth_is` has that it is the
+-- The depth of a rule, as one pass over its nodes finds it: of each flattened tree only a few facts are kept. `DepthLaws.depth_is` has that it is the
 -- depth of the model.
 use Rattle.std.specs.Prelude.{Bool, true, false, cond, not, ◌&&◌, ◌||◌, List, [], ◌∷◌, ℕ, ◌+◌, ◌-◌, ◌*◌, ◌/◌, ◌%◌, max, min}
 use lib.{Dec.ltb, Dec.eqb, ListN.get_or}

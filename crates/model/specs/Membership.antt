@@ -1,4 +1,4 @@
--- Membership, extendability and the empty word as tests by recursion on a type: document 001 decides them in linear time. `Membership.Laws` has what
+-- Membership, extendability and the empty word as tests by recursion on a type: document 001 decides them in linear time. `MembershipLaws` has what
 -- each tells of a conflict-free type.
 use Rattle.std.specs.Prelude.{Bool, true, false, not, ◌&&◌, ◌||◌, [], ◌∷◌, ℕ, leb}
 use Rattle.model.specs.declared.rule.Upper.{Upper}

@@ -1,4 +1,5 @@
--- Sheet and cue list, above the judge. Open first: Ends, then Refusal.
+-- Sheet and cue list, above the judge. Open first: proofs/Ends.antt, then Refusal. Laws that rest on what a must-fail edit changes are in
+-- proofs/, as SheetLaws.
 --   Ends       when each is refused, by the table, and what reading a sheet hands back
 --   Refusal    the table: when each refusal stands, at which line, and which one is answered
 --   Cues       the lines of a cue list, and what is wrong with one

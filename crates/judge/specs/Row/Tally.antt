@@ -1,7 +1,7 @@
 -- What the first pass over a row knows of each name: of the whole row at its end, of the children passed at each turn. Below it:
 --   Words   the numbers that hold it
 --   Limits  the upper counts of nodes, put into them before any child is seen
---   Laws    what a child more adds, and what is told at the end
+-- proofs/RowTallyLaws.antt has what a child more adds, and what is told at the end.
 pub mod Words
 pub mod Limits
 use mathlib.Core.{Path.◌≡◌, List.List, List.◌∷◌, List.◌++◌, List.map}
