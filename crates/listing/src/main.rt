@@ -3,57 +3,60 @@
 
 use fields::limits::MAX_FILE;
 use files::{NO_FILE, read_file};
-use libc::STDOUT_FILENO;
 use lister::listing::{Listed, list};
 use lister::refusal::listed_refusal;
 use sheet::number::sheet_number;
 use sheet::refusal::{REFUSAL_SIZE, Source, refusal_line};
 use sheet::sheet::{SheetOutcome, read_sheet};
+use std::io;
+use std::rt::Files;
 
-fn refuse(source: Source, number: u32, line: usize) {
+// One byte more than a file may have, so that a longer one is told.
+const ROOM: usize = MAX_FILE + 1;
+
+fn refuse(rt: &impl Print, source: Source, number: u32, line: usize) -> io::Result<()> {
     let mut buffer = [0u8; REFUSAL_SIZE];
     let n = refusal_line(source, number, line, &mut buffer);
-    io::write_all(STDOUT_FILENO, &buffer[0..n]);
+    rt.write_all(&buffer[0..n])
 }
 
 // There is no cue list. The sheet is tried before it.
-fn without_cues(sheet: &[u8]) {
+fn without_cues(rt: &impl Print, sheet: &[u8]) -> io::Result<()> {
     let read = read_sheet(sheet);
     let outcome = read.outcome;
     match outcome {
-        SheetOutcome::Read => refuse(Source::Cues, NO_FILE, 0),
-        SheetOutcome::Refused(f, line) => refuse(Source::Sheet, sheet_number(f), line),
+        SheetOutcome::Read => refuse(rt, Source::Cues, NO_FILE, 0),
+        SheetOutcome::Refused(f, line) => refuse(rt, Source::Sheet, sheet_number(f), line),
     }
 }
 
-fn with_both(sheet: &[u8], cues: &[u8]) {
-    let mut buffer = io::large_buffer();
-    let listed = list(sheet, cues, &mut buffer[0..MAX_FILE]);
+fn with_both(rt: &(impl Print + Alloc), sheet: &[u8], cues: &[u8]) -> io::Result<()> {
+    let mut buffer = vec![in rt.alloc(); 0u8; MAX_FILE]?;
+    let listed = list(sheet, cues, &mut buffer);
     if let Listed::Written(n) = listed {
-        io::write_all(STDOUT_FILENO, &buffer[0..n]);
-        return;
+        return rt.write_all(&buffer[0..n]);
     }
     let refusal = listed_refusal(listed);
     let source = refusal.source;
-    refuse(source, refusal.number, refusal.line);
+    refuse(rt, source, refusal.number, refusal.line)
 }
 
-fn with_sheet(sheet: &[u8]) {
-    let mut cues = io::large_buffer();
-    let read = read_file(b"cues.txt", &mut cues);
+fn with_sheet(rt: &(impl Print + Files + Alloc), sheet: &[u8]) -> io::Result<()> {
+    let mut cues = vec![in rt.alloc(); 0u8; ROOM]?;
+    let read = read_file(rt, b"cues.txt", &mut cues);
     if read.whole {
-        with_both(sheet, &cues[..read.length]);
+        with_both(rt, sheet, &cues[..read.length])
     } else {
-        without_cues(sheet);
+        without_cues(rt, sheet)
     }
 }
 
-fn main() {
-    let mut sheet = io::large_buffer();
-    let read = read_file(b"sheet.txt", &mut sheet);
+fn main(rt: HostRuntime) -> io::Result<()> {
+    let mut sheet = vec![in rt.alloc(); 0u8; ROOM]?;
+    let read = read_file(&rt, b"sheet.txt", &mut sheet);
     if read.whole {
-        with_sheet(&sheet[..read.length]);
+        with_sheet(&rt, &sheet[..read.length])
     } else {
-        refuse(Source::Sheet, NO_FILE, 0);
+        refuse(&rt, Source::Sheet, NO_FILE, 0)
     }
 }

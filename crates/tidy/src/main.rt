@@ -3,34 +3,34 @@
 
 use fields::limits::MAX_FILE;
 use files::{NO_FILE, read_file};
-use libc::STDOUT_FILENO;
 use sheet::refusal::{REFUSAL_SIZE, Source, refusal_line};
+use std::io;
 use tidying::refusal::tidied_refusal;
 use tidying::write::{SheetTidied, tidy_sheet};
 
-fn refuse(number: u32, line: usize) {
+fn refuse(rt: &impl Print, number: u32, line: usize) -> io::Result<()> {
     let mut buffer = [0u8; REFUSAL_SIZE];
     let n = refusal_line(Source::Sheet, number, line, &mut buffer);
-    io::write_all(STDOUT_FILENO, &buffer[0..n]);
+    rt.write_all(&buffer[0..n])
 }
 
-fn with_sheet(sheet: &[u8]) {
-    let mut buffer = io::large_buffer();
-    let tidied = tidy_sheet(sheet, &mut buffer[0..MAX_FILE]);
+fn with_sheet(rt: &(impl Print + Alloc), sheet: &[u8]) -> io::Result<()> {
+    let mut buffer = vec![in rt.alloc(); 0u8; MAX_FILE]?;
+    let tidied = tidy_sheet(sheet, &mut buffer);
     if let SheetTidied::Written(n) = tidied {
-        io::write_all(STDOUT_FILENO, &buffer[0..n]);
-        return;
+        return rt.write_all(&buffer[0..n]);
     }
     let refusal = tidied_refusal(tidied);
-    refuse(refusal.number, refusal.line);
+    refuse(rt, refusal.number, refusal.line)
 }
 
-fn main() {
-    let mut sheet = io::large_buffer();
-    let read = read_file(b"sheet.txt", &mut sheet);
+// The buffer has one byte more than a file may have, so that a longer one is told.
+fn main(rt: HostRuntime) -> io::Result<()> {
+    let mut sheet = vec![in rt.alloc(); 0u8; MAX_FILE + 1]?;
+    let read = read_file(&rt, b"sheet.txt", &mut sheet);
     if read.whole {
-        with_sheet(&sheet[..read.length]);
+        with_sheet(&rt, &sheet[..read.length])
     } else {
-        refuse(NO_FILE, 0);
+        refuse(&rt, NO_FILE, 0)
     }
 }
