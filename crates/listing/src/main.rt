@@ -30,15 +30,20 @@ fn without_cues(rt: &impl Print, sheet: &[u8]) -> io::Result<()> {
     }
 }
 
-fn with_both(rt: &(impl Print + Alloc), sheet: &[u8], cues: &[u8]) -> io::Result<()> {
-    let mut buffer = vec![in rt.alloc(); 0u8; MAX_FILE]?;
-    let listed = list(sheet, cues, &mut buffer);
+// Lists into the buffer, and prints what stands there.
+fn print_listing(rt: &impl Print, sheet: &[u8], cues: &[u8], buffer: &mut [u8]) -> io::Result<()> {
+    let listed = list(sheet, cues, buffer);
     if let Listed::Written(n) = listed {
         return rt.write_all(&buffer[0..n]);
     }
     let refusal = listed_refusal(listed);
     let source = refusal.source;
     refuse(rt, source, refusal.number, refusal.line)
+}
+
+fn with_both(rt: &(impl Print + Alloc), sheet: &[u8], cues: &[u8]) -> io::Result<()> {
+    let mut buffer = vec![in rt.alloc(); 0u8; MAX_FILE]?;
+    print_listing(rt, sheet, cues, &mut buffer)
 }
 
 fn with_sheet(rt: &(impl Print + Files + Alloc), sheet: &[u8]) -> io::Result<()> {

@@ -14,14 +14,19 @@ fn refuse(rt: &impl Print, number: u32, line: usize) -> io::Result<()> {
     rt.write_all(&buffer[0..n])
 }
 
-fn with_sheet(rt: &(impl Print + Alloc), sheet: &[u8]) -> io::Result<()> {
-    let mut buffer = vec![in rt.alloc(); 0u8; MAX_FILE]?;
-    let tidied = tidy_sheet(sheet, &mut buffer);
+// Writes the tidied sheet into the buffer, and prints what stands there.
+fn print_tidied(rt: &impl Print, sheet: &[u8], buffer: &mut [u8]) -> io::Result<()> {
+    let tidied = tidy_sheet(sheet, buffer);
     if let SheetTidied::Written(n) = tidied {
         return rt.write_all(&buffer[0..n]);
     }
     let refusal = tidied_refusal(tidied);
     refuse(rt, refusal.number, refusal.line)
+}
+
+fn with_sheet(rt: &(impl Print + Alloc), sheet: &[u8]) -> io::Result<()> {
+    let mut buffer = vec![in rt.alloc(); 0u8; MAX_FILE]?;
+    print_tidied(rt, sheet, &mut buffer)
 }
 
 // The buffer has one byte more than a file may have, so that a longer one is told.
