@@ -22,7 +22,7 @@ pub struct FileRead {
 // Reads until the buffer is full, the input ends or a read fails, and gives how many bytes stand at its start.
 fn read_full<R: Read>(file: &mut R, buffer: &mut [u8]) -> usize
     ensures bound { result ≤ length buffer.new }
-    ensures front { length (take result buffer.new) ≡ result }
+    ensures front { result ≡ length (take result buffer.new) }
     ensures room { length buffer.new ≡ length buffer.old }
 {
     let mut done: usize = 0;
@@ -50,7 +50,7 @@ fn is_whole<R: Read>(file: &mut R, n: usize) -> bool {
 
 fn read_opened<R: Read>(file: &mut R, buffer: &mut [u8]) -> FileRead
     ensures bound { result.length ≤ length buffer.new }
-    ensures front { length (take result.length buffer.new) ≡ result.length }
+    ensures front { result.length ≡ length (take result.length buffer.new) }
     ensures room { length buffer.new ≡ length buffer.old }
 {
     let n = read_full(file, buffer);
@@ -63,7 +63,7 @@ fn read_opened<R: Read>(file: &mut R, buffer: &mut [u8]) -> FileRead
 // Reads a file into the start of the buffer. A name that is no text names none.
 pub fn read_file<R: Files>(files: &R, name: &[u8], buffer: &mut [u8]) -> FileRead
     ensures bound { result.length ≤ length buffer.new }
-    ensures front { length (take result.length buffer.new) ≡ result.length }
+    ensures front { result.length ≡ length (take result.length buffer.new) }
     ensures room { length buffer.new ≡ length buffer.old }
 {
     let none = FileRead {
