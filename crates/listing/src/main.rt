@@ -41,13 +41,13 @@ fn print_listing(rt: &impl Print, sheet: &[u8], cues: &[u8], buffer: &mut [u8]) 
     refuse(rt, source, refusal.number, refusal.line)
 }
 
-fn with_both(rt: &(impl Print + Alloc), sheet: &[u8], cues: &[u8]) -> io::Result<()> {
-    let mut buffer = vec![in rt.alloc(); 0u8; MAX_FILE]?;
+fn with_both(rt: &impl Print, sheet: &[u8], cues: &[u8]) -> io::Result<()> {
+    let mut buffer = [0u8; MAX_FILE];
     print_listing(rt, sheet, cues, &mut buffer)
 }
 
-fn with_sheet(rt: &(impl Print + Files + Alloc), sheet: &[u8]) -> io::Result<()> {
-    let mut cues = vec![in rt.alloc(); 0u8; ROOM]?;
+fn with_sheet(rt: &(impl Print + Files), sheet: &[u8]) -> io::Result<()> {
+    let mut cues = [0u8; ROOM];
     let read = read_file(rt, b"cues.txt", &mut cues);
     if read.whole {
         with_both(rt, sheet, &cues[..read.length])
@@ -57,7 +57,7 @@ fn with_sheet(rt: &(impl Print + Files + Alloc), sheet: &[u8]) -> io::Result<()>
 }
 
 fn main(rt: HostRuntime) -> io::Result<()> {
-    let mut sheet = vec![in rt.alloc(); 0u8; ROOM]?;
+    let mut sheet = [0u8; ROOM];
     let read = read_file(&rt, b"sheet.txt", &mut sheet);
     if read.whole {
         with_sheet(&rt, &sheet[..read.length])

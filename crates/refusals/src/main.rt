@@ -94,8 +94,8 @@ fn tell_child<'a>(
 }
 
 // 65,536 bytes, one more than a file may have.
-fn tell_long(rt: &(impl Print + Alloc)) -> io::Result<()> {
-    let text = vec![in rt.alloc(); 0u8; MAX_FILE + 1]?;
+fn tell_long(rt: &impl Print) -> io::Result<()> {
+    let text = [0u8; MAX_FILE + 1];
     tell(rt, b"20", &text, b"")?;
     tell(rt, b"30", b"", &text)?;
     tell_child(rt, b"30", b"a", &text, 1)

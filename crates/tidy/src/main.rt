@@ -24,14 +24,14 @@ fn print_tidied(rt: &impl Print, sheet: &[u8], buffer: &mut [u8]) -> io::Result<
     refuse(rt, refusal.number, refusal.line)
 }
 
-fn with_sheet(rt: &(impl Print + Alloc), sheet: &[u8]) -> io::Result<()> {
-    let mut buffer = vec![in rt.alloc(); 0u8; MAX_FILE]?;
+fn with_sheet(rt: &impl Print, sheet: &[u8]) -> io::Result<()> {
+    let mut buffer = [0u8; MAX_FILE];
     print_tidied(rt, sheet, &mut buffer)
 }
 
 // The buffer has one byte more than a file may have, so that a longer one is told.
 fn main(rt: HostRuntime) -> io::Result<()> {
-    let mut sheet = vec![in rt.alloc(); 0u8; MAX_FILE + 1]?;
+    let mut sheet = [0u8; MAX_FILE + 1];
     let read = read_file(&rt, b"sheet.txt", &mut sheet);
     if read.whole {
         with_sheet(&rt, &sheet[..read.length])
