@@ -1,6 +1,6 @@
 /* The desk: judges a row of children by a model, lists the names that may come next, finds the
    first child that is foreign or one too many, and writes a model in the one way that there is for
-   it. Link with libdesk.a (rt staticlib desk).
+   it. Link with libdesk.a (tools/desk-library).
 
    A model text is one member: `(axis,target,(crawl&gather)?,hold[0..2])`. A member may have a mark
    behind it, `?` or `!`: with `?` it also holds the empty row, with `!` it does not, so that
