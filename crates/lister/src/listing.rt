@@ -7,7 +7,7 @@ ghost use Rattle.model.specs.Syntax.{number_in};
 ghost use Rattle.judge.specs.Reading.{part_at, parts_of};
 ghost use Rattle.fields.specs.{Limits.max_file, Split.lines, Split.unlines, Split.field, Put.PutWhole};
 ghost use Rattle.sheet.specs.{Cues.children, Cues.CueFits, Cues.Walk.GoodCues};
-ghost use Rattle.sheet.proofs.SheetWalk.{Loaded};
+ghost use Rattle.sheet.specs.Sheet.Line.{Loaded};
 ghost use Rattle.lister.specs.{Listing.said_of, Listing.listing, Listed.by_room, Listed.listed, Listed.buffer_after};
 ghost use Rattle.lister.specs.Coded.{code_of, lines_coded, listing_coded, max_line, CueReady, CuesCoded, CodedUpTo};
 

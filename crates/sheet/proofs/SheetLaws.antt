@@ -1,5 +1,5 @@
 -- How the lines of a sheet are read.
-use mathlib.Core.{Path.◌≡◌, Path.refl, Path.ap, Path.sym, Path.◌∙◌, Bool.true, Bool.false, Bool.cond, Bool.not, Bool.◌||◌, Option.Option, Option.none}
+use mathlib.Core.{Path.◌≡◌, Path.refl, Path.ap, Path.sym, Path.◌∙◌, Bool.true, Bool.false, Bool.not, Bool.◌||◌, Option.Option, Option.none}
 use mathlib.Core.{Option.some, List.List, List.[], List.◌∷◌}
 use Rattle.std.specs.Prelude.{ℕ, zero, suc, ◌+◌, ◌-◌, ◌≤◌, ◌<◌, length, take, drop, replicate}
 use Rattle.std.proofs.Common.{arith, length-take, length-drop, ltb-true, ltb-false, lt-ltb, le-ltb, eqb-true, eq-eqb, ne_eqb}

@@ -11,14 +11,14 @@ use Rattle.judge.specs.Reading.{no_place, part_at, parts_of, reading}
 use Rattle.sheet.specs.{declared.sheet.LineRead.LineRead, declared.sheet.Checked.Checked, declared.sheet.Entry.Entry, declared.sheet.Sheet.Sheet}
 use Rattle.sheet.specs.{declared.sheet.SheetFault.TheVariants.ManyRules}
 use Rattle.sheet.proofs.SheetGood.{not-read}
-use Rattle.sheet.specs.Sheet.Line.{checked_by, LineIs}
+use Rattle.sheet.specs.Sheet.Line.{Loaded, checked_by, LineIs}
 use Rattle.sheet.specs.{declared.sheet.SheetFault.SheetFault}
 use Rattle.sheet.proofs.SheetGood.{lines-read}
 use Rattle.sheet.specs.declared.sheet.SheetOutcome.TheVariants.{Read, Refused}
 use Rattle.sheet.specs.declared.sheet.Checked.TheVariants.{Good, Bad}
 use Rattle.sheet.specs.Sheet.{max_rules, kind, model, line_fault, sheet_lines, sheet_outcome, Placed, placed_from, kind_place, entry_of, no_entry, sheet_with}
 use Rattle.sheet.specs.Sheet.{sheet_by, sheet_read, HoldsLine, HoldsSheet}
-use Rattle.sheet.proofs.SheetWalk.{Loaded, Gone, nowhere, placed-length, gone-start, gone-many, gone-bad, gone-next, gone-loaded, gone-end}
+use Rattle.sheet.proofs.SheetWalk.{Gone, nowhere, placed-length, gone-start, gone-many, gone-bad, gone-next, gone-loaded, gone-end}
 
 module _ (x : Text) (read : sheet_lines 0 [] (lines x) ≡ Read) where
   -- where a line is left, the walk goes on behind it

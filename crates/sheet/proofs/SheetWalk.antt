@@ -19,20 +19,9 @@ use Rattle.sheet.specs.{declared.sheet.SheetFault.SheetFault, declared.sheet.She
 use Rattle.sheet.specs.{declared.sheet.Entry.Entry, declared.sheet.Sheet.Sheet, declared.sheet.SheetRead.SheetRead}
 use Rattle.sheet.specs.declared.sheet.SheetOutcome.TheVariants.{Read, Refused}
 use Rattle.sheet.specs.declared.sheet.Checked.TheVariants.{Good, Bad}
-use Rattle.sheet.specs.Sheet.{max_rules, kind, model, line_fault, sheet_lines, Placed, placed_from, kind_place, entry_of, no_entry, sheet_with, sheet_by}
+use Rattle.sheet.specs.Sheet.{max_rules, kind, line_fault, sheet_lines, Placed, placed_from, kind_place, entry_of, no_entry, sheet_with, sheet_by}
 use Rattle.sheet.proofs.SheetLaws.{line-kind-is, line-model-is, part-size}
-use Rattle.sheet.specs.Sheet.Line.{checked_by, LineIs}
-
--- the model of the line l stands at the entry's place in the text s
-pub record EntryGood (s : Text) (e : Entry) (l : Text) : Type 0 where
-  pub inside : e.model.start + e.model.len ≤ length s
-  pub model_is : part_at s e.model ≡ model l
-
--- a sheet that was read from s: its kinds, and an entry for each line
-pub record Loaded (s : Text) (r : Sheet) : Type 0 where
-  pub few : length (lines s) ≤ max_rules
-  pub kinds_are : parts_of s r.kinds ≡ map kind (lines s)
-  pub entries_good : (k : ℕ) (d : Entry) → k < length (lines s) → EntryGood s (get_or r.entries k d) (get_or (lines s) k [])
+use Rattle.sheet.specs.Sheet.Line.{checked_by, LineIs, EntryGood, Loaded}
 
 -- what the loop holds before line n, which begins at `at`
 pub record Gone (x : Text) (kinds : Names) (entries : List Entry) (n at : ℕ) : Type 0 where

@@ -22,7 +22,7 @@ use Rattle.sheet.specs.{declared.sheet.SheetOutcome.TheVariants.Read, declared.s
 use Rattle.sheet.specs.declared.cues.CuesRead.TheVariants.{Count as CuesCount, Refused as CuesRefused}
 use Rattle.sheet.specs.Cues.{children, cues_read, CueFits, Laws.cue-three, Walk.GoodCues, Walk.AtLine, Walk.Cue, Walk.cues-passed}
 use Rattle.sheet.specs.Sheet.{kind, sheet_outcome}
-use Rattle.sheet.proofs.SheetWalk.{Loaded}
+use Rattle.sheet.specs.Sheet.Line.{Loaded}
 use Rattle.lister.specs.declared.said.Said.{Said, TheVariants.Complete, TheVariants.Open, TheVariants.Dead, TheVariants.NoSheet}
 use Rattle.lister.specs.declared.listing.Listed.TheVariants.{Written, SheetRefused, CueRefused, TooLong}
 use Rattle.lister.specs.Listing.{word, listing_line, times_among, totals, total_line, said_by, said_of, said, listing, Laws.line-length, Laws.word-short}

@@ -3,7 +3,7 @@ use mathlib.Core.Path.{◌≡◌, refl, sym, ◌∙◌}
 use Prim.Native.Nat.{◌-◌, ◌<◌}
 use lib.ListN.{length, length-set}
 use Rattle.sheet.specs.{Cues.Walk.AtLine, Cues.Walk.Cue, Cues.Walk.before-first, Cues.Walk.before-cue, Cues.Walk.cues-passed}
-use Rattle.sheet.proofs.SheetWalk.{Loaded}
+use Rattle.sheet.specs.Sheet.Line.{Loaded}
 use Rattle.lister.specs.Coded.{CodedUpTo, Laws.rule-few, Laws.code-said, Laws.place-ready, Laws.coded_set}
 use borrow.Author.Rules.{rules}
 use native.Mathlib.Omega.{arith}
