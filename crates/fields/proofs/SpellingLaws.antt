@@ -37,7 +37,8 @@ module _ (x : Text) where
       go (b ∷ y) h = refl
 
   pub spelt-next : (i : ℕ) (good : Bool) → i < length x
-      → good && goes_on (get_or x (i - 1) 0) (drop i x) ≡ (good && may_follow (get_or x (i - 1) 0) (get_or x i 0)) && goes_on (get_or x (i + 1 - 1) 0) (drop (i + 1) x)
+      → good && goes_on (get_or x (i - 1) 0) (drop i x)
+      ≡ (good && may_follow (get_or x (i - 1) 0) (get_or x i 0)) && goes_on (get_or x (i + 1 - 1) 0) (drop (i + 1) x)
   spelt-next i good h =
       let j : i + 1 - 1 ≡ i = omega arith in
       rw (j, add-one, drop-cons x i 0 h) (sym (and_assoc good _ _))

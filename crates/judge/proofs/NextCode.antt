@@ -127,7 +127,8 @@ module _ (l : List Node) (e : readable (rule_with l) ≡ true) (w : Word) {m : �
 
   -- else the second lists them, with what the first has counted
   pub next-tallied : first_fault (upper_counts l) w ≡ Nothing → (s : List ℕ) → Tallied w s
-      → keep (in_set (root_ahead (rule_with l) (length w) (λ k. seen_of (length w) (get_or s k 0))).next) (numbers_to m) ≡ next_names (rule_type (rule_with l)) m w
+      → keep (in_set (root_ahead (rule_with l) (length w) (λ k. seen_of (length w) (get_or s k 0))).next) (numbers_to m)
+      ≡ next_names (rule_type (rule_with l)) m w
   next-tallied d s g =
       let n : m ≡ names (rule_with l) = rw (used-with l) f in
       let (o, q) = row-sound l e w f h d in

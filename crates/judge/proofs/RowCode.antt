@@ -16,7 +16,8 @@ use Rattle.judge.specs.declared.row.Tested.TheVariants.{Passed, Refused as Faile
 use Rattle.judge.specs.declared.verdict.Judged.TheVariants.{Verdict, Refused}
 use Rattle.model.specs.{declared.rule.Rule.Rule, declared.rule.Node.Node, declared.verdict.Verdict.TheVariants.Dead, Word.Word, Types.symbols}
 use Rattle.model.specs.Membership.{over?}
-use Rattle.model.specs.{Verdict.verdict, Tree.atoms, Tree.nodes, Model.Laws.length-encode, Model.atoms_in, Rule.names, Rule.rule_with, Rule.rule_type, Rule.used}
+use Rattle.model.specs.{Verdict.verdict, Tree.atoms, Tree.nodes, Model.Laws.length-encode, Model.atoms_in, Rule.names, Rule.rule_with, Rule.rule_type}
+use Rattle.model.specs.{Rule.used}
 use Rattle.model.specs.{Rule.Laws.used-with, Rule.Laws.used-is, Rule.Names.names-model, Check.readable}
 use Rattle.model.proofs.CheckExact.{readable-formed}
 use Rattle.fields.specs.{Tests.by-test, Limits.max_atoms, Limits.max_nodes, Limits.max_row}

@@ -8,7 +8,8 @@ use Rattle.sheet.specs.{declared.cues.CuesRead.CuesRead, declared.sheet.SheetOut
 use Rattle.sheet.specs.declared.refusal.Refusal.{Refusal}
 use Rattle.sheet.specs.declared.cues.CuesRead.TheVariants.{Count, Refused}
 use Rattle.sheet.specs.declared.sheet.SheetOutcome.TheVariants.{Read, Refused as SheetIsRefused}
-use Rattle.sheet.specs.{Cues.cues_read, Sheet.sheet_number, Sheet.sheet_outcome, Refusal.SheetStands, Refusal.sheet_rank, Refusal.CueStands, RefusalLine.too_long}
+use Rattle.sheet.specs.{Cues.cues_read, Sheet.sheet_number, Sheet.sheet_outcome, Refusal.SheetStands, Refusal.sheet_rank, Refusal.CueStands}
+use Rattle.sheet.specs.{RefusalLine.too_long}
 use Rattle.lister.specs.{declared.listing.Listed.Listed, Listing.listing}
 use Rattle.lister.specs.declared.listing.Listed.TheVariants.{Written, SheetRefused, CueRefused, TooLong}
 

@@ -1,6 +1,7 @@
 -- A sheet and a cue list are refused exactly as the table says.
 use mathlib.Core.{Logic.◌↔◌, Logic.◌⊎◌, Logic.inl, Logic.inr, Logic.by_cases, Option.Option}
-use Rattle.std.specs.Prelude.{◌≡◌, refl, true, cond, not, ◌&&◌, ◌||◌, List, [], ◌∷◌, ◌++◌, map, ℕ, zero, suc, ◌+◌, ◌-◌, ◌≤◌, ◌<◌, leb, eqb, length, take, drop, get_or}
+use Rattle.std.specs.Prelude.{◌≡◌, refl, true, cond, not, ◌&&◌, ◌||◌, List, [], ◌∷◌, ◌++◌, map, ℕ, zero, suc, ◌+◌, ◌-◌, ◌≤◌, ◌<◌, leb, eqb, length}
+use Rattle.std.specs.Prelude.{take, drop, get_or}
 use Rattle.std.proofs.Common.{sym, ap, ap₂, subst, ◌∙◌, take-suc, drop-cons, length-take-le, get_or-take, leb-true, le-leb, eqb-true, eq-eqb}
 use Rattle.std.proofs.Math.Bool.{and-eq-true_iff}
 use Rattle.std.proofs.lemmas.Bool.{false≢true, eqb-false, not-true, not-false}

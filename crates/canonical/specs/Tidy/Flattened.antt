@@ -167,7 +167,8 @@ tidied-kept s (t ∷ l) =
     (kept_append s (tidy t ∷ []) (map tidy l) ∙ ap (λ (us : Members Spelling). kept s (tidy t ∷ []) ⧺ us) k
     ∙ sym (kept_append s (tidy t ∷ []) (tidy_all (gathered s l))))))
 
-dropped-tidied : (s : Sign) (l : List Syntax) → dropped_mark s (any_nullable (tidy_all (gathered s l)) || some_nil l) ≡ dropped_mark s (any_nullable (map tidy l))
+dropped-tidied : (s : Sign) (l : List Syntax)
+    → dropped_mark s (any_nullable (tidy_all (gathered s l)) || some_nil l) ≡ dropped_mark s (any_nullable (map tidy l))
 dropped-tidied s l = by-test (is_choice s) (λ c. ap (dropped_mark s) (sym (tidied-nullable s c l))) (λ c. rw c)
 
 group-flatten : (s : Sign) (l : List Syntax) → tidy (over (dropped_mark s (some_nil l)) (grouped s (gathered s l))) ≡ settled_group s (map tidy l)

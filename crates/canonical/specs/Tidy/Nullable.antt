@@ -87,7 +87,8 @@ module _ (ν : Text → ℕ) where
     group-nullable : (ts : Members Spelling) (s : Sign) → Tells (group_nullable ts s) (Holds (node_type_with (meaning ν) (group s ts)) [])
     group-nullable none s = (λ e. refl, λ h. refl)
     group-nullable (t ▹ ts) s =
-        let h = joined-nullable (operator s) (tree_nullable t) (members ts s) (Holds (type_with (meaning ν) t)) (Together (operator s) (types_with (meaning ν) ts))
+        let h = joined-nullable (operator s) (tree_nullable t) (members ts s) (Holds (type_with (meaning ν) t))
+        (Together (operator s) (types_with (meaning ν) ts))
         (tree-nullable t) (members-nullable ts s) in
         let f = from-together (operator s) (type_with (meaning ν) t) (types_with (meaning ν) ts) [] in
         rw (by_sign s (tree_nullable t) (some_nullable ts) (all_nullable ts)) (λ e. f.1 (h.0 e), λ p. h.1 (f.0 p))

@@ -7,7 +7,8 @@ use native.Mathlib.{Omega.arith, Nat.add-zero}
 use Rattle.fields.specs.{Bytes.Text, Bytes.bytes, Limits.max_nodes, Put.Put, Put.Laws.put_then, Put.Laws.put_one, Put.Laws.put-length}
 use Rattle.model.specs.declared.rule.Sign.{Sign}
 use Rattle.model.specs.Tree.{group, Members, none, ◌▹◌, size, nodes}
-use Rattle.model.specs.{Syntax.Spelling, Syntax.Syntax, Syntax.sign_text, Syntax.mark_text, Syntax.node_text, Syntax.text, Syntax.members_text, Syntax.more_text}
+use Rattle.model.specs.{Syntax.Spelling, Syntax.Syntax, Syntax.sign_text, Syntax.mark_text, Syntax.node_text, Syntax.text, Syntax.members_text}
+use Rattle.model.specs.{Syntax.more_text}
 use Rattle.judge.specs.Packed.{sign_by}
 use Rattle.canonical.specs.Order.{order, order_all, arrange, Kept.order-length, Kept.order-size, Sorted.arrange-order}
 use Rattle.canonical.specs.Writer.{Place.piece_at, Stack.turned, Stack.tree_with, Stack.trees_on, Stack.HeadFits}

@@ -58,7 +58,8 @@ unfolding put_end put_at
 put-done old new s at start count p n e = (rw (p, n), e ∙ append_assoc (take start old) (take count s) (drop (start + count) old) ∙ rw (p, n))
 
 -- `put`, where there is room
-pub put-fits : (old new : Text) (at : ℕ) (s : Text) (end : ℕ) → at + length s ≤ length old → end ≡ put_end old at s → new ≡ put_at old at s → Put old new at s end
+pub put-fits : (old new : Text) (at : ℕ) (s : Text) (end : ℕ) → at + length s ≤ length old → end ≡ put_end old at s → new ≡ put_at old at s
+    → Put old new at s end
 unfolding put_end put_at
 put-fits old new at s end h e f =
     let p : put_start old at ≡ at = min-eq_left (omega (arith, h)) in

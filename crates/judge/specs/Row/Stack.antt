@@ -3,7 +3,8 @@
 use mathlib.Core.{Path.◌≡◌, Path.sym, Path.ap, Path.◌∙◌, Logic.by_cases, Bool.Bool, List.List, List.[], List.◌∷◌, List.◌++◌}
 use Rattle.std.specs.Prelude.{ℕ, suc, ◌+◌, ◌-◌, ◌<◌, ◌≤◌, min, length, get_or, take, drop, ◌==◌, slice_index, slice_index_or, slice_range, slice_set}
 use native.Mathlib.{Nat.add_comm, Decide.dec_lt, Omega.arith}
-use Rattle.std.proofs.Common.{length-set, length-drop, drop_of_length-le, drop-set-lt, get_or-set_other, take-suc, drop-cons, take_all, get_or-drop, length-take-le, eq-eqb, ne_eqb}
+use Rattle.std.proofs.Common.{length-set, length-drop, drop_of_length-le, drop-set-lt, get_or-set_other, take-suc, drop-cons, take_all, get_or-drop}
+use Rattle.std.proofs.Common.{length-take-le, eq-eqb, ne_eqb}
 use Rattle.model.specs.{declared.rule.Upper.Upper, declared.rule.Sign.Sign, declared.rule.Mark.Mark, declared.rule.Kind.Kind, declared.rule.Node.Node}
 use Rattle.model.specs.{Rule.rule_with, Rule.used, Rule.Laws.used-with, Model.Eval.after_is, Model.Eval.atoms-next}
 use Rattle.model.specs.declared.rule.Kind.TheVariants.{Atom, Group}

@@ -8,6 +8,19 @@ use borrow.Author.Rules.{rules}
 use Rattle.canonical.proofs.atom.put_atom.Statement.{statement}
 use Rattle.canonical.proofs.atom.put_atom.Tie as tie
 
+-- places that answers look back to
+abbrev kept_end-end-of-shared_slice_known-then-name-end : tie.After-shared_slice_known-then-name-end-1-unread → tie.After-kept_end-end
+kept_end-end-of-shared_slice_known-then-name-end c = c.before.before.before.before.before.before
+
+abbrev kept_end-end-of-then-text-name-eq48 : tie.Then-text-name-eq48 → tie.After-kept_end-end
+kept_end-end-of-then-text-name-eq48 c = c.before.before.before.before.before.before.before
+
+abbrev kept_end-end-of-else-text-name-eq48 : tie.Else-text-name-eq48 → tie.After-kept_end-end
+kept_end-end-of-else-text-name-eq48 c = c.before.before.before.before.before.before.before
+
+abbrev kept_end-end-of-else-name-end : tie.Else-name-end → tie.After-kept_end-end
+kept_end-end-of-else-name-end c = c.before.before.before.before.before
+
 ends : (c : tie.After-kept_end-end) → KeptEnds c.args.text.now c.args.at c.name_end-name.result c.kept_end-end.result
 ends c = record { name_is = c.name_end-name.ensures; kept_is = c.kept_end-end.ensures }
 
@@ -25,27 +38,28 @@ add-if1 : tie.Need-overflow_add-name
 add-if1 c = omega (arith, inside c.before.before.before.before)
 
 shared-slice-read-if2 : tie.Need-bounds-text-name
-shared-slice-read-if2 c = omega (arith, inside c.before.before.before.before.before.before)
+shared-slice-read-if2 c = omega (arith, inside (kept_end-end-of-shared_slice_known-then-name-end c))
 
 add-buffer-2 : tie.Need-overflow_add-buffer-then-text-name-eq48
-add-buffer-2 c = omega (arith, room c.before.before.before.before.before.before.before, inside c.before.before.before.before.before.before.before)
+add-buffer-2 c = omega (arith, room (kept_end-end-of-then-text-name-eq48 c), inside (kept_end-end-of-then-text-name-eq48 c))
 
 slice-write-buffer : tie.Need-bounds-buffer-to
 slice-write-buffer c =
-    omega (arith, room c.before.before.before.before.before.before.before, inside c.before.before.before.before.before.before.before, c.copy_part-next.auto)
+    omega (arith, room (kept_end-end-of-then-text-name-eq48 c), inside (kept_end-end-of-then-text-name-eq48 c), c.copy_part-next.auto)
 
 returns : tie.Need-returns-then-text-name-eq48
 returns c =
     let j = c.name_end-name.result + 1 - c.args.at in
-    rw (piece-raised (ends c.before.before.before.before.before.before.before) (omega arith) c.if-text-name-eq48.true)
-    (put-set c.copy_part-next.ensures j (code "1") (omega (arith, kept-length (ends c.before.before.before.before.before.before.before) c.requires.0, inside c.before.before.before.before.before.before.before)))
+    rw (piece-raised (ends (kept_end-end-of-then-text-name-eq48 c)) (omega arith) c.if-text-name-eq48.true)
+    (put-set c.copy_part-next.ensures j (code "1")
+    (omega (arith, kept-length (ends (kept_end-end-of-then-text-name-eq48 c)) c.requires.0, inside (kept_end-end-of-then-text-name-eq48 c))))
 
 returns-2 : tie.Need-returns-else-text-name-eq48
-returns-2 c = rw (piece-same (ends c.before.before.before.before.before.before.before) c.if-text-name-eq48.false) c.copy_part-next.ensures
+returns-2 c = rw (piece-same (ends (kept_end-end-of-else-text-name-eq48 c)) c.if-text-name-eq48.false) c.copy_part-next.ensures
 
 returns-3 : tie.Need-returns-else-name-end
 returns-3 c =
-    rw (piece-short (ends c.before.before.before.before.before) c.requires.0 c.if-name-end.false) c.copy_part-next.ensures
+    rw (piece-short (ends (kept_end-end-of-else-name-end c)) c.requires.0 c.if-name-end.false) c.copy_part-next.ensures
 
 pub put_atom_spec : {M : Type 1} → statement M
 put_atom_spec =

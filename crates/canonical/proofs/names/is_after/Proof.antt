@@ -58,7 +58,10 @@ shared-slice-read-d c = search rules
 
 returns : tie.Need-returns-then-c-d invariant-loop decreases-loop
 returns c =
-    told c.before.before.before.before.before (rw c.is_inner-inner.ensures (after-differs (whole c.before.before.before.before.before) (first c.before.before.before.before.before) (second c.before.before.before.before.before) (turn-inner c.before.before.before.before) (omega arith) c.if-c-d.true))
+    let l = c.before.before.before.before in
+    let text = whole l.before in
+    let differ = after-differs text (first l.before) (second l.before) (turn-inner l) (omega arith) c.if-c-d.true in
+    told l.before (rw c.is_inner-inner.ensures differ)
 
 loop-again : tie.Need-loop-i-preserved invariant-loop decreases-loop
 loop-again c =
@@ -66,11 +69,13 @@ loop-again c =
     let s = c.if-c-d.false in
     let e : c.args.a + (c.loop-i.i + 1) ≡ first c.before.before.before.before + 1 = omega arith in
     let f : c.args.b + (c.loop-i.i + 1) ≡ second c.before.before.before.before + 1 = omega arith in
-    let j : Inner (whole c.before.before.before.before) (second c.before.before.before.before) = record { inside = omega arith; inner = subst (λ (b : ℕ). is_inner b ≡ true) s i.inner } in (
+    let j : Inner (whole c.before.before.before.before) (second c.before.before.before.before) =
+    record { inside = omega arith; inner = subst (λ (b : ℕ). is_inner b ≡ true) s i.inner } in (
       omega arith,
       c.loop-i.invariant.1,
       rw e (c.loop-i.invariant.2 ∙ name-step (whole c.before.before.before.before) (first c.before.before.before.before) i.inside i.inner),
-      rw (e, f) (c.loop-i.invariant.3 ∙ after_same (whole c.before.before.before.before) (first c.before.before.before.before) (second c.before.before.before.before) i j s),
+      rw (e, f) (c.loop-i.invariant.3 ∙ after_same (whole c.before.before.before.before) (first c.before.before.before.before)
+          (second c.before.before.before.before) i j s),
     )
 
 -- the name at a goes on where the text ends at b, or it is over
@@ -83,7 +88,8 @@ returns-2 c =
     (by-test (ltb c.loop-i.i n)
     (λ e.
     let h = ltb-true c.loop-i.i n e in
-    rw e (after-longer x (first c.before) (second c.before) (name-goes x (first c.before) (omega (arith, h, m))) (front_out is_inner x (second c.before) (omega (arith, h)))))
+    rw e (after-longer x (first c.before) (second c.before) (name-goes x (first c.before) (omega (arith, h, m)))
+    (front_out is_inner x (second c.before) (omega (arith, h)))))
     (λ e. rw e (after-over x (first c.before) (second c.before) (name-over x (first c.before) (omega (arith, ltb-false c.loop-i.i n e, m))))))
 
 pub is_after_spec : {M : Type 1} → statement M

@@ -15,6 +15,14 @@ invariant-loop text stack list₀ at start head end k₀ m₀ list k m = Listing
 abbrev decreases-loop : tie.decreases-loop-k
 decreases-loop text stack list₀ at start head end k₀ m₀ list k m = end - k
 
+-- places that answers look back to
+abbrev in-loop-k : tie.After-struct_known-in-loop-k-2-1 invariant-loop decreases-loop → tie.In-loop-k invariant-loop decreases-loop
+in-loop-k c = c.before.before.before.before.before.before
+
+abbrev loop-k-of-struct_known-in-loop-k-2 : tie.After-struct_known-in-loop-k-2-1 invariant-loop decreases-loop
+    → tie.At-loop-k invariant-loop decreases-loop
+loop-k-of-struct_known-in-loop-k-2 c = c.before.before.before.before.before.before.before
+
 abbrev group : tie.At-loop-k invariant-loop decreases-loop → Head
 group l = head_at l.args.stack.now l.args.at
 
@@ -50,15 +58,16 @@ element-copy-out-unpacked-2 : tie.Need-bounds-stack-m invariant-loop decreases-l
 element-copy-out-unpacked-2 c = omega (arith, next c.before.before.before)
 
 add-m-2 : tie.Need-overflow_add-m-in-loop-k invariant-loop decreases-loop
-add-m-2 c = omega (arith, next c.before.before.before.before.before.before, c.struct_known-in-loop-k-1.given)
+add-m-2 c = omega (arith, next (in-loop-k c), c.struct_known-in-loop-k-1.given)
 
 loop-again : tie.Need-loop-k-preserved invariant-loop decreases-loop
 loop-again c =
     let r = c.requires in
     let e = c.unpacked-next.ensures in
     ⊎_elim
-    (λ w. listing-kept r c.loop-k.invariant (left c.before.before.before.before.before.before) e w.list-is (sym (sign_is c.before.before.before.before.before.before.before) ∙ w.if-head-eq44.true))
-    (λ w. listing-sorted r c.loop-k.invariant (left c.before.before.before.before.before.before) e w.list-is (λ s. w.if-head-eq44.false (sign_is c.before.before.before.before.before.before.before ∙ s)) w.insert.ensures)
+    (λ w. listing-kept r c.loop-k.invariant (left (in-loop-k c)) e w.list-is (sym (sign_is (loop-k-of-struct_known-in-loop-k-2 c)) ∙ w.if-head-eq44.true))
+    (λ w. listing-sorted r c.loop-k.invariant (left (in-loop-k c)) e w.list-is
+    (λ s. w.if-head-eq44.false (sign_is (loop-k-of-struct_known-in-loop-k-2 c) ∙ s)) w.insert.ensures)
     c.if-head-eq44.branch-raw
 
 returns : tie.Need-returns invariant-loop decreases-loop

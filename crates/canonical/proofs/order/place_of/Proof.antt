@@ -16,6 +16,13 @@ invariant-loop text stack list start end m name last low₀ high₀ low high = N
 abbrev decreases-loop : tie.decreases-loop-low
 decreases-loop text stack list start end m name last low₀ high₀ low high = high - low
 
+-- places that answers look back to
+abbrev loop-low-of-then-is_behind-2 : tie.Then-is_behind-2 invariant-loop decreases-loop → tie.At-loop-low invariant-loop decreases-loop
+loop-low-of-then-is_behind-2 c = c.before.before.before.before.before
+
+abbrev loop-low-of-else-is_behind-2 : tie.Else-is_behind-2 invariant-loop decreases-loop → tie.At-loop-low invariant-loop decreases-loop
+loop-low-of-else-is_behind-2 c = c.before.before.before.before.before
+
 -- the start, from where the end of the name is known
 abbrev begin : tie.After-name_end-name invariant-loop decreases-loop → tie.Start invariant-loop decreases-loop
 begin c = c.before.before.before.before.before.before.before
@@ -80,9 +87,12 @@ module _ (c : tie.After-other-1 invariant-loop decreases-loop) where
   abbrev at : tie.At-loop-low invariant-loop decreases-loop
   at = c.before.before.before
 
+  abbrev name-known : tie.After-name_end-name invariant-loop decreases-loop
+  name-known = at.before.before.before.before.before
+
   mid-place : TwoMembers at.args.text.now at.args.stack.now at.args.m at.name_end-name.result
       (get_or at.args.list.now (mid at) 0)
-  mid-place = two-members at.requires (own-end at.before.before.before.before.before) (mid at) (mid-listed c.before.before).0 (mid-listed c.before.before).1
+  mid-place = two-members at.requires (own-end name-known) (mid at) (mid-listed c.before.before).0 (mid-listed c.before.before).1
 
 cast-is-behind-2 : tie.Need-overflow_cast-other invariant-loop decreases-loop
 cast-is-behind-2 c = omega (arith, (mid-place c).second)
@@ -92,7 +102,8 @@ loop-less c = omega (arith, mid-inside c.before.before.before.before)
 
 loop-again : tie.Need-loop-low-preserved-then-is_behind-2 invariant-loop decreases-loop
 loop-again c =
-    narrowed-below c.loop-low.invariant (mid c.before.before.before.before.before) (mid-inside c.before.before.before.before) c.is_behind-in-loop-low.ensures c.requires.falling c.if-is_behind-2.true
+    narrowed-below c.loop-low.invariant (mid (loop-low-of-then-is_behind-2 c)) (mid-inside c.before.before.before.before) c.is_behind-in-loop-low.ensures
+    c.requires.falling c.if-is_behind-2.true
 
 add_low : tie.Need-overflow_add-low invariant-loop decreases-loop
 add_low c =
@@ -103,7 +114,8 @@ loop-less-2 c = omega (arith, mid-inside c.before.before.before.before)
 
 loop-again-2 : tie.Need-loop-low-preserved invariant-loop decreases-loop
 loop-again-2 c =
-    narrowed-above c.loop-low.invariant (mid c.before.before.before.before.before) (mid-inside c.before.before.before.before) c.is_behind-in-loop-low.ensures refl c.if-is_behind-2.false
+    narrowed-above c.loop-low.invariant (mid (loop-low-of-else-is_behind-2 c)) (mid-inside c.before.before.before.before) c.is_behind-in-loop-low.ensures
+    refl c.if-is_behind-2.false
 
 returns-3 : tie.Need-returns invariant-loop decreases-loop
 returns-3 c =

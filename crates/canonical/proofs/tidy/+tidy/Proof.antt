@@ -60,6 +60,11 @@ abbrev decreases-loop : lts.decreases-loop-p
 decreases-loop text stack₀ place top g₀ sign₀ p₀ stack g sign p = length text - p
 
 module _ (t : ℕ) where
+  -- places that answers look back to
+  abbrev tidy-t-of-gather-g : lts.After-gather-g (claims t) (at t) tidy.Post invariant-loop decreases-loop
+      → lts.After-tidy-t (claims t) (at t) tidy.Post invariant-loop decreases-loop
+  tidy-t-of-gather-g c = c.before.before.before.before.before
+
   here : (c : lts.Then-text-at-ne40 (claims t) (at t) tidy.Post invariant-loop decreases-loop)
       → AtomHere c.args.text.now c.args.at
   here c = let r = c.requires.1 in atom-here r.tree r.stands c.if-text-at-ne40.true
@@ -110,25 +115,30 @@ module _ (t : ℕ) where
 
   member-by-requires : lts.Need-member_by-p-requires (claims t) (at t) tidy.Post invariant-loop decreases-loop
   member-by-requires c κs =
-      omega (arith, next-inside c.loop-p.invariant (member c.before.before) c.tidy-t.new.stack c.tidy-t.result (tidied c.before.before), c.loop-p.invariant.short)
+      omega (
+        arith,
+        next-inside c.loop-p.invariant (member c.before.before) c.tidy-t.new.stack c.tidy-t.result (tidied c.before.before),
+        c.loop-p.invariant.short,
+      )
 
   gather-requires : lts.Need-gather-g-requires (claims t) (at t) tidy.Post invariant-loop decreases-loop
   gather-requires c κs =
-      rw c.sign_by-sign.ensures (member-fits c.loop-p.invariant (member c.before.before.before.before) c.tidy-t.new.stack c.tidy-t.result (tidied c.before.before.before.before))
+      rw c.sign_by-sign.ensures (member-fits c.loop-p.invariant (member c.before.before.before.before) c.tidy-t.new.stack c.tidy-t.result
+      (tidied c.before.before.before.before))
 
   loop-less : lts.Need-loop-p-smaller (claims t) (at t) tidy.Post invariant-loop decreases-loop
   loop-less c =
       omega (
         arith,
         c.member_by-p.ensures,
-        further c.loop-p.invariant (member c.before.before.before.before.before) c.tidy-t.new.stack c.tidy-t.result (tidied c.before.before.before.before.before),
+        further c.loop-p.invariant (member (tidy-t-of-gather-g c)) c.tidy-t.new.stack c.tidy-t.result (tidied (tidy-t-of-gather-g c)),
         place_inside c.loop-p.invariant,
       )
 
   loop-again : lts.Need-loop-p-preserved (claims t) (at t) tidy.Post invariant-loop decreases-loop
   loop-again c =
       rw (c.gather-g.ensures.0, c.member_by-p.ensures, c.sign_by-sign.ensures)
-      (goes_on-is c.loop-p.invariant (member c.before.before.before.before.before) c.tidy-t.new.stack c.tidy-t.result (tidied c.before.before.before.before.before) c.gather-g.new.stack
+      (goes_on-is c.loop-p.invariant (member (tidy-t-of-gather-g c)) c.tidy-t.new.stack c.tidy-t.result (tidied (tidy-t-of-gather-g c)) c.gather-g.new.stack
       (rw c.sign_by-sign.ensures at c.gather-g.ensures.1))
 
   add-closed : lts.Need-overflow_add-p-2 (claims t) (at t) tidy.Post invariant-loop decreases-loop

@@ -6,6 +6,10 @@ use Rattle.canonical.specs.Writer.Tidied.{joins_by}
 use Rattle.canonical.proofs.tidy.added.Statement.{statement}
 use Rattle.canonical.proofs.tidy.added.Tie as tie
 
+-- places that answers look back to
+abbrev else-t-sign : tie.After-struct_known-6-1 → tie.Else-t-sign
+else-t-sign c = c.before.before.before.before.before.before.before
+
 -- by the tests
 joins : (j : tie.Then-t-sign) → let s = j.args in joins_by s.sign s.t ≡ true
 joins j = rw (← j.is_plain-plain.ensures) j.if-t-sign.true
@@ -32,7 +36,7 @@ add-t23 c = omega (arith, c.requires)
 
 returns-3 : tie.Need-returns
 returns-3 c =
-    rw (ne_eqb _ _ c.if-t-eq-NO_SIGN.false, stays c.before.before.before.before.before.before.before) (
+    rw (ne_eqb _ _ c.if-t-eq-NO_SIGN.false, stays (else-t-sign c)) (
       cc (c.holds_empty-own.ensures, c.nullable_with-nullable.ensures, c.least_with-least.ensures),
       (c.packed.result, c.packed.ensures ∙ c.head_of-head.ensures, refl),
     )

@@ -49,6 +49,25 @@ abbrev decreases-loop : lts.decreases-loop-k
 decreases-loop text stack list₀ buffer₀ at start to head mark end before₀ p₀ k₀ list buffer before p k = k
 
 module _ (t : ℕ) where
+  -- places that answers look back to
+  abbrev unpacked-head-of-put_atom-end : lts.After-put_atom-end (claims t) (at t) put-tree.Post invariant-loop decreases-loop
+      → lts.After-unpacked-head (claims t) (at t) put-tree.Post invariant-loop decreases-loop
+  unpacked-head-of-put_atom-end c = c.before.before.before.before.before
+
+  abbrev then-head-eq-ATOM : lts.After-put_mark-arg-1 (claims t) (at t) put-tree.Post invariant-loop decreases-loop
+      → lts.Then-head-eq-ATOM (claims t) (at t) put-tree.Post invariant-loop decreases-loop
+  then-head-eq-ATOM c = c.before.before.before.before.before.before
+
+  abbrev then-head-eq-ATOM-of-slice_known-then-head-eq-ATOM-2 : lts.After-slice_known-then-head-eq-ATOM-2-1 (claims t) (at t) put-tree.Post invariant-loop
+      decreases-loop
+      → lts.Then-head-eq-ATOM (claims t) (at t) put-tree.Post invariant-loop decreases-loop
+  then-head-eq-ATOM-of-slice_known-then-head-eq-ATOM-2 c = c.before.before.before.before.before.before.before.before.before
+
+  abbrev put_atom-end-of-slice_known-then-head-eq-ATOM-2 : lts.After-slice_known-then-head-eq-ATOM-2-1 (claims t) (at t) put-tree.Post invariant-loop
+      decreases-loop
+      → lts.After-put_atom-end (claims t) (at t) put-tree.Post invariant-loop decreases-loop
+  put_atom-end-of-slice_known-then-head-eq-ATOM-2 c = c.before.before.before.before.before.before
+
   abbrev head : lts.After-unpacked-head (claims t) (at t) put-tree.Post invariant-loop decreases-loop → Head
   head c = head_at c.args.stack.now c.args.at
 
@@ -61,16 +80,18 @@ module _ (t : ℕ) where
       rw c.unpacked-head.ensures (atom-fits c.requires.1 (is-atom c.before.before))
 
   atom-so : (c : lts.After-put_atom-end (claims t) (at t) put-tree.Post invariant-loop decreases-loop)
-      → Put c.args.buffer.now c.put_atom-end.new.buffer c.args.to (piece_at c.args.text.now (head c.before.before.before.before.before).least) c.put_atom-end.result
+      → Put c.args.buffer.now c.put_atom-end.new.buffer c.args.to (piece_at c.args.text.now (head (unpacked-head-of-put_atom-end c)).least)
+      c.put_atom-end.result
   atom-so c = rw c.unpacked-head.ensures at c.put_atom-end.ensures
 
   put-mark-requires : lts.Need-put_mark-requires (claims t) (at t) put-tree.Post invariant-loop decreases-loop
   put-mark-requires c κs =
-      rw c.unpacked-head.ensures (atom-mark-fits c.requires.1 (is-atom c.before.before.before.before.before.before) (atom-so c.before.before.before))
+      rw c.unpacked-head.ensures (atom-mark-fits c.requires.1 (is-atom (then-head-eq-ATOM c)) (atom-so c.before.before.before))
 
   returns : lts.Need-returns-then-head-eq-ATOM (claims t) (at t) put-tree.Post invariant-loop decreases-loop
   returns c =
-      atom-put c.requires.1 (is-atom c.before.before.before.before.before.before.before.before.before) (atom-so c.before.before.before.before.before.before) (rw c.unpacked-head.ensures at c.put_mark.ensures)
+      atom-put c.requires.1 (is-atom (then-head-eq-ATOM-of-slice_known-then-head-eq-ATOM-2 c)) (atom-so (put_atom-end-of-slice_known-then-head-eq-ATOM-2 c))
+      (rw c.unpacked-head.ensures at c.put_mark.ensures)
 
   -- A group.
   is-group : (c : lts.Else-head-eq-ATOM (claims t) (at t) put-tree.Post invariant-loop decreases-loop) → eqb (head c.before.before).sign 1 ≡ false
@@ -82,7 +103,8 @@ module _ (t : ℕ) where
   loop-holds : lts.Need-loop-k-init (claims t) (at t) put-tree.Post invariant-loop decreases-loop
   loop-holds c = writing_begins c.requires.1 (is-group c.before.before) c.members-end.ensures
 
-  abbrev start : lts.At-loop-k (claims t) (at t) put-tree.Post invariant-loop decreases-loop → lts.Start (claims t) (at t) put-tree.Post invariant-loop decreases-loop
+  abbrev start : lts.At-loop-k (claims t) (at t) put-tree.Post invariant-loop decreases-loop
+      → lts.Start (claims t) (at t) put-tree.Post invariant-loop decreases-loop
   start l = l.before.before.before.before.before.before.before.before.before.before
 
   next : (c : lts.In-loop-k (claims t) (at t) put-tree.Post invariant-loop decreases-loop)

@@ -10,6 +10,19 @@ use Rattle.canonical.specs.Writer.Accepted.{whole-stands, whole_ready, nil-text,
 use Rattle.canonical.proofs.write.write_accepted.Statement.{statement}
 use Rattle.canonical.proofs.write.write_accepted.Tie as tie
 
+-- places that answers look back to
+abbrev tidy-t-of-slice_known-then-t-eq-NO_SIGN : tie.After-slice_known-then-t-eq-NO_SIGN-1 → tie.After-tidy-t
+tidy-t-of-slice_known-then-t-eq-NO_SIGN c = c.before.before.before.before.before.before
+
+abbrev tidy-t-of-write_tree-arg : tie.After-write_tree-arg-1 → tie.After-tidy-t
+tidy-t-of-write_tree-arg c = c.before.before.before.before.before.before.before
+
+abbrev tidy-t-of-slice_known-2 : tie.After-slice_known-2-1 → tie.After-tidy-t
+tidy-t-of-slice_known-2 c = c.before.before.before.before.before.before.before.before.before.before
+
+abbrev packed-of-slice_known-2 : tie.After-slice_known-2-1 → tie.After-packed
+packed-of-slice_known-2 c = c.before.before.before.before.before
+
 known : (c : tie.After-tidy-t) → TidiedAt c.args.text.now (replicate max_nodes 0) c.tidy-t.new.stack 0 max_nodes c.tidy-t.result c.requires.0
 known c = let p = c.requires in c.tidy-t.ensures p.0 (whole-stands c.args.text.now p.0 p.1)
 
@@ -28,7 +41,7 @@ same_length c = search rules
 
 returns : tie.Need-returns-then-t-eq-NO_SIGN
 returns c =
-    rw (c.requires.1, nil-text c.args.text.now c.requires.0 c.requires.1 (known c.before.before.before.before.before.before) c.if-t-eq-NO_SIGN.true)
+    rw (c.requires.1, nil-text c.args.text.now c.requires.0 c.requires.1 (known (tidy-t-of-slice_known-then-t-eq-NO_SIGN c)) c.if-t-eq-NO_SIGN.true)
     c.write_nothing.ensures
 
 sub-top : tie.Need-overflow_sub-top
@@ -45,14 +58,18 @@ head-is p = p.packed.ensures ∙ p.head_of-head.ensures
 
 write-tree-requires : tie.Need-write_tree-requires
 write-tree-requires c κs =
-    one-tree c.args.text.now c.requires.0 c.requires.1 (known c.before.before.before.before.before.before.before) c.if-t-eq-NO_SIGN.false c.packed.result (head-is c.before.before)
+    one-tree c.args.text.now c.requires.0 c.requires.1 (known (tidy-t-of-write_tree-arg c)) c.if-t-eq-NO_SIGN.false c.packed.result (head-is c.before.before)
 
 same-length-2 : tie.Need-shape_of-buffer
 same-length-2 c = search rules
 
 returns-2 : tie.Need-returns
 returns-2 c =
-    rw (c.requires.1, ← tree-text c.args.text.now c.requires.0 c.requires.1 (known c.before.before.before.before.before.before.before.before.before.before) c.if-t-eq-NO_SIGN.false c.packed.result (head-is c.before.before.before.before.before))
+    rw (
+      c.requires.1,
+      ← tree-text c.args.text.now c.requires.0 c.requires.1 (known (tidy-t-of-slice_known-2 c)) c.if-t-eq-NO_SIGN.false c.packed.result
+          (head-is (packed-of-slice_known-2 c)),
+    )
     c.write_tree.ensures
 
 pub write_accepted_spec : {M : Type 1} → statement M

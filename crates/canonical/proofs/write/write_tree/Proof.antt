@@ -9,6 +9,10 @@ use Rattle.canonical.specs.Writer.Accepted.{text_at, has_room, no_room, length-r
 use Rattle.canonical.proofs.write.write_tree.Statement.{statement}
 use Rattle.canonical.proofs.write.write_tree.Tie as tie
 
+-- places that answers look back to
+abbrev signed_length-length-of-slice_known-2 : tie.After-slice_known-2-1 → tie.After-signed_length-length
+signed_length-length-of-slice_known-2 c = c.before.before.before.before.before.before
+
 abbrev whole : tie.After-signed_length-length → Text
 whole c = let a = c.args in text_at a.text.now a.stack.now a.top
 
@@ -34,9 +38,11 @@ same_length c = search rules
 returns-2 : tie.Need-returns
 returns-2 c =
     let w = put_first c.put_tree.ensures.put in
-    let n : c.signed_length-length.result - 1 ≡ length (whole c.before.before.before.before.before.before) = omega (arith, known c.before.before.before.before.before.before) in
-    rw n (has_room (whole c.before.before.before.before.before.before) c.args.buffer.now c.put_tree.new.buffer (omega (arith, known c.before.before.before.before.before.before, c.if-buffer-length.false))
-    (w.1 ∙ ap (λ i. whole c.before.before.before.before.before.before ++ drop i c.args.buffer.now) w.0))
+    let n : c.signed_length-length.result - 1 ≡ length (whole (signed_length-length-of-slice_known-2 c)) = omega
+    (arith, known (signed_length-length-of-slice_known-2 c)) in
+    rw n (has_room (whole (signed_length-length-of-slice_known-2 c)) c.args.buffer.now c.put_tree.new.buffer
+    (omega (arith, known (signed_length-length-of-slice_known-2 c), c.if-buffer-length.false))
+    (w.1 ∙ ap (λ i. whole (signed_length-length-of-slice_known-2 c) ++ drop i c.args.buffer.now) w.0))
 
 pub write_tree_spec : {M : Type 1} → statement M
 write_tree_spec = tie.close (tie.spec signed-length-requires sub-length returns put-tree-requires same_length returns-2)

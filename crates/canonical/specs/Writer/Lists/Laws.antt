@@ -3,7 +3,8 @@ use mathlib.Core.{Path.◌≡◌, Path.refl, Path.sym, Path.ap, Path.◌∙◌, 
 use mathlib.Core.{Bool.true, Bool.false, List.List, List.[], List.◌∷◌, List.◌++◌, List.map, List.map-append}
 use Rattle.std.specs.Prelude.{ℕ, suc, ◌+◌, ◌-◌, ◌≤◌, ◌<◌, length, take, drop, get_or, set}
 use native.Mathlib.{Omega.arith, Decide.dec_lt}
-use Rattle.std.proofs.Common.{length-take, length-set, drop_of_length-le, take-append-drop, drop-cons, drop-set-lt, take-take, get_or-set_same, get_or-set_other, get_or-take, get_or-drop}
+use Rattle.std.proofs.Common.{length-take, length-set, drop_of_length-le, take-append-drop, drop-cons, drop-set-lt, take-take, get_or-set_same}
+use Rattle.std.proofs.Common.{get_or-set_other, get_or-take, get_or-drop}
 use Rattle.std.proofs.lemmas.List.{drop-append-le, take-set-le}
 use Rattle.std.proofs.Math.Seq.{take-set-lt}
 use Rattle.fields.specs.{Bytes.Text, Stack.slice_back}

@@ -85,7 +85,13 @@ module _ (x : Text) (p q : ℕ) where
       after-other : (get_or x p 0 ≡ get_or x q 0 → ⊥) → ltb (get_or x q 0) (get_or x p 0) ≡ not (not_after (name_from x p) (name_from x q))
       after-other n =
           by-test (ltb (get_or x q 0) (get_or x p 0))
-          (λ e. rw (both_go, e, le-ltb (get_or x p 0) (get_or x q 0) (omega (arith, ltb-true (get_or x q 0) (get_or x p 0) e)), ne_eqb (get_or x p 0) (get_or x q 0) n))
+          (λ e. rw (
+            both_go,
+            e,
+            le-ltb (get_or x p 0) (get_or x q 0) (omega (arith, ltb-true (get_or x q 0) (get_or x p 0) e)),
+            ne_eqb (get_or x p 0)
+                (get_or x q 0) n,
+          ))
           (λ e. rw (both_go, e, lt-ltb (get_or x p 0) (get_or x q 0) (omega (arith, ltb-false (get_or x q 0) (get_or x p 0) e, n))))
 
     -- the first name goes on with another byte than the text at q

@@ -166,7 +166,8 @@ module _ {x : Text} {old new : List ℕ} {p top place sign : ℕ} {g : Gathered}
   pub place_inside : place < length x
   place_inside = go h.walking.left h.walking.formed h.walking.ahead
     where
-      go : (l : Members Spelling) → MembersFormed SpellingFormed l → drop place x ≡ members_text l h.sign_of_group ++ (code ")" ∷ behind_group) → place < length x
+      go : (l : Members Spelling) → MembersFormed SpellingFormed l → drop place x ≡ members_text l h.sign_of_group ++ (code ")" ∷ behind_group)
+          → place < length x
       go none f e = byte_inside x place (code ")") behind_group e
       go (u ▹ l) f e =
           let (b, ((y, q), z)) = tree-begins u f.0 in

@@ -149,7 +149,8 @@ module _ (x : Text) where
               )
 
           -- a member has fewer nodes than the group beside the other members
-          pub few-from : j < (head_at stack p).members → nodes (tree_at x stack (place_behind x stack p j)) + (head_at stack p).members ≤ nodes (tree_at x stack p)
+          pub few-from : j < (head_at stack p).members
+              → nodes (tree_at x stack (place_behind x stack p j)) + (head_at stack p).members ≤ nodes (tree_at x stack p)
           few-from m =
               rw (tree-from, tree-at, nodes-with fits-at)
               (beside-others j (head_at stack p).members (trees_below x stack p) m fits-at.enough)

@@ -9,6 +9,10 @@ use borrow.Author.Rules.{rules}
 use Rattle.desk.proofs.child.locate_read.Statement.{statement}
 use Rattle.desk.proofs.child.locate_read.Tie as tie
 
+-- places that answers look back to
+abbrev in-Count-of-name_place : tie.After-name_place → tie.In-Count
+in-Count-of-name_place c = c.before.before.before.before.before
+
 -- the child is known to be there
 counted : (c : tie.In-Count) → asked_of c.args.children.now c.args.k ≡ Count c.in-Count.field-0
 counted c = sym c.asked.ensures ∙ c.in-Count.is
@@ -36,7 +40,7 @@ name-place-requires c κs =
 returns : tie.Need-returns-in-Count
 returns c =
     let a = c.args in
-    read-there a.model.now a.names a.children.now a.k (counted c.before.before.before.before.before) c.child_start-at.ensures.0 (here c.before.before.before)
+    read-there a.model.now a.names a.children.now a.k (counted (in-Count-of-name_place c)) c.child_start-at.ensures.0 (here c.before.before.before)
     c.number_of-number.ensures c.name_place.ensures
 
 returns-2 : tie.Need-returns-in-Refused

@@ -17,8 +17,12 @@ invariant-loop buffer₀ at bytes start count i₀ buffer i =
 abbrev decreases-loop : tie.decreases-loop-i
 decreases-loop buffer₀ at bytes start count i₀ buffer i = count - i
 
+-- places that answers look back to
+abbrev start-of-loop-i : tie.At-loop-i invariant-loop decreases-loop → tie.Start invariant-loop decreases-loop
+start-of-loop-i c = c.before.before.before.before.before
+
 abbrev entry : tie.At-loop-i invariant-loop decreases-loop → tie.Start invariant-loop decreases-loop
-entry c = c.before.before.before.before.before
+entry c = (start-of-loop-i c)
 
 -- the bytes to put are there, and so is their place
 inside : (c : tie.At-loop-i invariant-loop decreases-loop)

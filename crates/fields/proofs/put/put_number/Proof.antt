@@ -57,7 +57,8 @@ returns c =
     let l = t.before in
     let a = (start l).args in
     let i = l.loop-rest.i in
-    let left = last_written a.number l.loop-rest.rest i l.loop-rest.digits (omega (arith, l.loop-rest.invariant)) l.loop-rest.invariant.0 t.loop-rest-test.false in
+    let left = last_written a.number l.loop-rest.rest i l.loop-rest.digits (omega (arith, l.loop-rest.invariant)) l.loop-rest.invariant.0
+    t.loop-rest-test.false in
     let whole = take_all (20 - i) _ (rw (length-drop, length-set) (omega (arith, l.loop-rest.invariant.1))) ∙ sym left in
     (p.put.ensures.0 ∙ ap (put_end a.buffer.now a.at) whole, p.put.ensures.1 ∙ ap (put_at a.buffer.now a.at) whole)
 

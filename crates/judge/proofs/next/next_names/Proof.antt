@@ -5,6 +5,10 @@ use Rattle.judge.proofs.RowCode.{readable-within, Passes, tested, packed-is, pac
 use Rattle.judge.proofs.next.next_names.Statement.{statement}
 use Rattle.judge.proofs.next.next_names.Tie as tie
 
+-- places that answers look back to
+abbrev in-Passed-of-slice_known-in-Passed : tie.After-slice_known-in-Passed-1 → tie.In-Passed
+in-Passed-of-slice_known-in-Passed c = c.before.before.before.before.before.before.before
+
 passes : (c : tie.In-Passed) → Passes c.args.rule c.args.children.now c.in-Passed.names
 passes c = tested _ _ (sym c.test_row.ensures ∙ c.in-Passed.is)
 
@@ -17,7 +21,7 @@ next-on-requires c κs = packed-passes (passes c.before.before.before.before) _ 
 returns : tie.Need-returns-in-Passed
 unfolding next_judged
 returns c =
-    let p = passes c.before.before.before.before.before.before.before in
+    let p = passes (in-Passed-of-slice_known-in-Passed c) in
     rw (p.answer, ← p.names_are) (rw (packed-is p _ c.pack.ensures) at c.next_on.ensures)
 
 returns-2 : tie.Need-returns-in-Refused

@@ -10,6 +10,22 @@ use Rattle.judge.proofs.NextCode.{next-stopped, next-tallied, hands-no-names}
 use Rattle.judge.proofs.next.next_on.Statement.{statement}
 use Rattle.judge.proofs.next.next_on.Tie as tie
 
+-- places that answers look back to
+abbrev start : tie.After-root_next-arg-1 → tie.Start
+start c = c.before.before.before.before.before.before
+
+abbrev start-of-list_names-arg : tie.After-list_names-arg-1 → tie.Start
+start-of-list_names-arg c = c.before.before.before.before.before.before.before.before
+
+abbrev start-of-in-At : tie.In-At → tie.Start
+start-of-in-At c = c.before.before.before.before.before
+
+abbrev search_row-of-slice_known-in-Nothing : tie.After-slice_known-in-Nothing-1 → tie.After-search_row
+search_row-of-slice_known-in-Nothing c = c.before.before.before.before.before.before.before
+
+abbrev start-of-slice_known-in-Nothing : tie.After-slice_known-in-Nothing-1 → tie.Start
+start-of-slice_known-in-Nothing c = c.before.before.before.before.before.before.before.before.before.before.before
+
 abbrev nodes : tie.Start → List Node
 nodes s = map node_in (take s.args.len s.args.words.now)
 
@@ -33,15 +49,15 @@ search-row-requires c κs =
 
 root-next-requires : tie.Need-root_next-set-requires
 root-next-requires c κs =
-    ((c.requires.0.0, omega (arith, c.requires.0.1, c.search_row.ensures.1.1)), (rw (same c.before.before) c.requires.1.0.1, few c.before.before.before.before.before.before))
+    ((c.requires.0.0, omega (arith, c.requires.0.1, c.search_row.ensures.1.1)), (rw (same c.before.before) c.requires.1.0.1, few (start c)))
 
 list-names-requires : tie.Need-list_names-requires
-list-names-requires c κs = few c.before.before.before.before.before.before.before.before
+list-names-requires c κs = few (start-of-list_names-arg c)
 
 returns : tie.Need-returns-in-At
 returns c =
     hands-no-names c.args.row.now
-    (next-stopped (nodes c.before.before.before.before.before) c.requires.1.0.0 c.args.children.now c.requires.1.0.1 c.requires.1.1.1
+    (next-stopped (nodes (start-of-in-At c)) c.requires.1.0.0 c.args.children.now c.requires.1.0.1 c.requires.1.1.1
     (fault-told (tallied c.before) c.in-At.is))
 
 returns-2 : tie.Need-returns-in-Nothing
@@ -50,9 +66,10 @@ returns-2 c =
     let e = c.in-Nothing.is in
     rw (
       c.root_next-set.ensures,
-      same c.before.before.before.before.before.before.before,
-      next-tallied (nodes c.before.before.before.before.before.before.before.before.before.before.before) c.requires.1.0.0 c.args.children.now c.requires.1.0.1 c.requires.1.1.1 (fault-told (tallied c.before.before.before.before.before.before.before) e)
-          (seen_in f.new.words) ((tallied c.before.before.before.before.before.before.before).tallied e),
+      same (search_row-of-slice_known-in-Nothing c),
+      next-tallied (nodes (start-of-slice_known-in-Nothing c)) c.requires.1.0.0 c.args.children.now c.requires.1.0.1 c.requires.1.1.1
+          (fault-told (tallied (search_row-of-slice_known-in-Nothing c)) e)
+          (seen_in f.new.words) ((tallied (search_row-of-slice_known-in-Nothing c)).tallied e),
     )
     at c.list_names.ensures
 

@@ -48,6 +48,39 @@ invariant-loop words₀ len names children sets₀ top₀ name₀ i₀ words set
 abbrev decreases-loop : tie.decreases-loop-i
 decreases-loop words₀ len names children sets₀ top₀ name₀ i₀ words sets top name i = i
 
+-- places that answers look back to
+abbrev start-of-kind_in-kind : tie.After-kind_in-kind invariant-loop2 decreases-loop2 invariant-loop decreases-loop
+    → tie.Start invariant-loop2 decreases-loop2 invariant-loop decreases-loop
+start-of-kind_in-kind c = c.before.before.before.before.before
+
+abbrev loop-i-of-begin_ahead-x : tie.After-begin_ahead-x invariant-loop2 decreases-loop2 invariant-loop decreases-loop
+    → tie.At-loop-i invariant-loop2 decreases-loop2 invariant-loop decreases-loop
+loop-i-of-begin_ahead-x c = c.before.before.before.before.before.before.before.before.before
+
+abbrev loop-i-of-grown_ahead-x : tie.After-grown_ahead-x invariant-loop2 decreases-loop2 invariant-loop decreases-loop
+    → tie.At-loop-i invariant-loop2 decreases-loop2 invariant-loop decreases-loop
+loop-i-of-grown_ahead-x c = c.before.before.before.before.before.before.before.before.before.before.before.before.before.before.before
+
+abbrev kind_in-kind-of-atoms_of-name : tie.After-atoms_of-name invariant-loop2 decreases-loop2 invariant-loop decreases-loop
+    → tie.After-kind_in-kind invariant-loop2 decreases-loop2 invariant-loop decreases-loop
+kind_in-kind-of-atoms_of-name c = c.before.before.before.before.before.before.before.before
+
+abbrev word-of-way_told-in-loop-i : tie.After-way_told-in-loop-i-1 invariant-loop2 decreases-loop2 invariant-loop decreases-loop
+    → tie.After-word-1 invariant-loop2 decreases-loop2 invariant-loop decreases-loop
+word-of-way_told-in-loop-i c = c.before.before.before.before.before.before.before.before.before.before.before.before.before
+
+abbrev start-of-word : tie.After-word-1 invariant-loop2 decreases-loop2 invariant-loop decreases-loop
+    → tie.Start invariant-loop2 decreases-loop2 invariant-loop decreases-loop
+start-of-word c = c.before.before.before.before
+
+abbrev start-of-way_told-in-loop-i : tie.After-way_told-in-loop-i-1 invariant-loop2 decreases-loop2 invariant-loop decreases-loop
+    → tie.Start invariant-loop2 decreases-loop2 invariant-loop decreases-loop
+start-of-way_told-in-loop-i c = start-of-word (word-of-way_told-in-loop-i c)
+
+abbrev kind_in-kind-of-way_told-in-loop-i : tie.After-way_told-in-loop-i-1 invariant-loop2 decreases-loop2 invariant-loop decreases-loop
+    → tie.After-kind_in-kind invariant-loop2 decreases-loop2 invariant-loop decreases-loop
+kind_in-kind-of-way_told-in-loop-i c = c.before.before.before.before.before.before.before.before.before.before.before.before
+
 -- at the start: the nodes held, and what is seen of each name
 held : (c : tie.Start invariant-loop2 decreases-loop2 invariant-loop decreases-loop)
     → let words = c.args.words.now in Stores node_in 128 (seen_in words) words c.args.len (nodes words c.args.len)
@@ -68,7 +101,7 @@ read_is c = kind-node _ c.kind_in-kind.ensures ∙ ap node_in (c.loop-i.invarian
 named : (c : tie.After-kind_in-kind invariant-loop2 decreases-loop2 invariant-loop decreases-loop) → is_atom c.kind_in-kind.result ≤ c.loop-i.name
 named c =
     let v = c.loop-i.invariant in
-    name-turn (held c.before.before.before.before.before) c.loop-i-test.true v.0 (read_is c) v.5.name_is
+    name-turn (held (start-of-kind_in-kind c)) c.loop-i-test.true v.0 (read_is c) v.5.name_is
 
 loop-holds : tie.Need-loop-i-init invariant-loop2 decreases-loop2 invariant-loop decreases-loop
 loop-holds c =
@@ -93,7 +126,7 @@ loop2-holds : tie.Need-loop-at-init invariant-loop2 decreases-loop2 invariant-lo
 loop2-holds c =
     let v = c.loop-i in
     let b = rw (c.seen_of-here.ensures, ← get_or-drop 128 v.words v.name 0) at c.begin_ahead-x.ensures in
-    (search rules, omega arith, part_none (ahead-parts _ (seen_now c.before.before.before.before.before.before.before.before.before)) (stack_in v.words v.sets) v.top b)
+    (search rules, omega arith, part_none (ahead-parts _ (seen_now (loop-i-of-begin_ahead-x c))) (stack_in v.words v.sets) v.top b)
 
 loop2-again : tie.Need-loop-at-preserved invariant-loop2 decreases-loop2 invariant-loop decreases-loop
 loop2-again c =
@@ -106,11 +139,11 @@ loop2-again c =
     let g = rw y at c.grown_ahead-x.ensures in (
       omega arith,
       omega arith,
-      part-turn (ahead-parts _ (seen_now c.before.before.before.before.before.before.before.before.before.before.before.before.before.before.before)) stack v.top u.at blank u.invariant.0 (omega arith) g u.invariant.2,
+      part-turn (ahead-parts _ (seen_now (loop-i-of-grown_ahead-x c))) stack v.top u.at blank u.invariant.0 (omega arith) g u.invariant.2,
     )
 
 sub-name : tie.Need-overflow_sub-name invariant-loop2 decreases-loop2 invariant-loop decreases-loop
-sub-name c = omega (arith, c.atoms_of-name.ensures.0, named c.before.before.before.before.before.before.before.before)
+sub-name c = omega (arith, c.atoms_of-name.ensures.0, named (kind_in-kind-of-atoms_of-name c))
 
 loop-again : tie.Need-loop-i-preserved invariant-loop2 decreases-loop2 invariant-loop decreases-loop
 loop-again c =
@@ -124,7 +157,8 @@ loop-again c =
       omega arith,
       standing-turn v.4 place _ (omega arith) (omega arith),
       rw (stack_set c.loop-i.words c.loop-i.sets place c.attribute_word.result _ (omega arith) c.attribute_word.ensures refl)
-          (pass-turn (ahead-parts _ (seen_at c.before.before.before.before.before.before.before.before.before.before.before.before.before.before.before.before.before)) (held c.before.before.before.before.before.before.before.before.before.before.before.before.before.before.before.before.before) c.loop-i-test.true v.0 (read_is c.before.before.before.before.before.before.before.before.before.before.before.before) v.5
+          (pass-turn (ahead-parts _ (seen_at (start-of-way_told-in-loop-i c))) (held (start-of-way_told-in-loop-i c)) c.loop-i-test.true v.0
+          (read_is (kind_in-kind-of-way_told-in-loop-i c)) v.5
           (omega arith) v.2 c.members_of.ensures c.lesser.ensures c.atoms_of-name.ensures.0
           (rw (z, v.4.seen_same) at u.invariant.2) c.marked_ahead-whole.ensures),
     )

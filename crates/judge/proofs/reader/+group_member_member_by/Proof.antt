@@ -129,6 +129,55 @@ member-by-claims t = (
 )
 
 module _ (t : ℕ) where
+  -- places that answers look back to
+  abbrev in-Past-of-way_told : group-lts.After-way_told-1 (group-claims t) (group_at t) group.Post group-Inv-loop group-μ-loop
+      → group-lts.In-Past (group-claims t) (group_at t) group.Post group-Inv-loop group-μ-loop
+  in-Past-of-way_told c = c.before.before.before.before.before.before
+
+  abbrev in-Past-of-closed-then-b-eq41 : group-lts.After-closed-then-b-eq41 (group-claims t) (group_at t) group.Post group-Inv-loop group-μ-loop
+      → group-lts.In-Past (group-claims t) (group_at t) group.Post group-Inv-loop group-μ-loop
+  in-Past-of-closed-then-b-eq41 c = c.before.before.before.before.before.before.before.before
+
+  abbrev larger-height-of-closed-then-b-eq41 : group-lts.After-closed-then-b-eq41 (group-claims t) (group_at t) group.Post group-Inv-loop group-μ-loop
+      → group-lts.After-larger-height (group-claims t) (group_at t) group.Post group-Inv-loop group-μ-loop
+  larger-height-of-closed-then-b-eq41 c = c.before.before.before.before.before
+
+  abbrev in-Past-of-then-parts : group-lts.Then-parts (group-claims t) (group_at t) group.Post group-Inv-loop group-μ-loop
+      → group-lts.In-Past (group-claims t) (group_at t) group.Post group-Inv-loop group-μ-loop
+  in-Past-of-then-parts c = c.before.before.before.before.before.before
+
+  abbrev in-Past-of-number_on-next : group-lts.After-number_on-next (group-claims t) (group_at t) group.Post group-Inv-loop group-μ-loop
+      → group-lts.In-Past (group-claims t) (group_at t) group.Post group-Inv-loop group-μ-loop
+  in-Past-of-number_on-next c = c.before.before.before.before.before.before.before
+
+  abbrev in-Past-of-else-parts : group-lts.Else-parts (group-claims t) (group_at t) group.Post group-Inv-loop group-μ-loop
+      → group-lts.In-Past (group-claims t) (group_at t) group.Post group-Inv-loop group-μ-loop
+  in-Past-of-else-parts c = c.before.before.before.before.before.before
+
+  abbrev else-left-eq0 : member-lts.After-group-arg-3-1 (member-claims t) (member-at t) member.Post
+      → member-lts.Else-left-eq0 (member-claims t) (member-at t) member.Post
+  else-left-eq0 c = c.before.before.before.before.before
+
+  abbrev else-left-eq0-of-then-stands-2 : member-lts.Then-stands-2 (member-claims t) (member-at t) member.Post
+      → member-lts.Else-left-eq0 (member-claims t) (member-at t) member.Post
+  else-left-eq0-of-then-stands-2 c = c.before.before.before.before.before.before.before.before.before.before.before.before
+
+  abbrev in-Past-of-then-stands-2 : member-lts.Then-stands-2 (member-claims t) (member-at t) member.Post
+      → member-lts.In-Past (member-claims t) (member-at t) member.Post
+  in-Past-of-then-stands-2 c = c.before.before.before.before.before
+
+  abbrev else-left-eq0-of-mark-arg : member-lts.After-mark-arg-1 (member-claims t) (member-at t) member.Post
+      → member-lts.Else-left-eq0 (member-claims t) (member-at t) member.Post
+  else-left-eq0-of-mark-arg c = c.before.before.before.before.before.before.before.before.before.before.before
+
+  abbrev else-left-eq0-of-mark : member-lts.After-mark (member-claims t) (member-at t) member.Post
+      → member-lts.Else-left-eq0 (member-claims t) (member-at t) member.Post
+  else-left-eq0-of-mark c = c.before.before.before.before.before.before.before.before.before.before.before.before
+
+  abbrev in-Past-of-mark : member-lts.After-mark (member-claims t) (member-at t) member.Post
+      → member-lts.In-Past (member-claims t) (member-at t) member.Post
+  in-Past-of-mark c = c.before.before.before.before.before
+
   -- what it gave
   gave : (c : group-lts.In-Past (group-claims t) (group_at t) group.Post group-Inv-loop group-μ-loop)
       → got_in c.member_by-got.result ≡ Past c.in-Past.past
@@ -182,12 +231,13 @@ module _ (t : ℕ) where
 
   group-height-over-requires : group-lts.Need-height_over-requires (group-claims t) (group_at t) group.Post group-Inv-loop group-μ-loop
   group-height-over-requires c κs =
-      rw c.larger-height.ensures (members-low c.loop-past.invariant (behind c.before.before.before.before.before.before))
+      rw c.larger-height.ensures (members-low c.loop-past.invariant (behind (in-Past-of-way_told c)))
 
   group-returns-3 : group-lts.Need-returns-then-b-eq41 (group-claims t) (group_at t) group.Post group-Inv-loop group-μ-loop
   group-returns-3 c =
       rw c.closed-then-b-eq41.ensures
-      (group-ends c.loop-past.invariant (behind c.before.before.before.before.before.before.before.before) (more c.before.before.before.before.before) c.if-b-eq41.true _ c.packed_group.ensures
+      (group-ends c.loop-past.invariant (behind (in-Past-of-closed-then-b-eq41 c)) (more (larger-height-of-closed-then-b-eq41 c)) c.if-b-eq41.true _
+      c.packed_group.ensures
       (rw (← c.larger-height.ensures) c.height_over.ensures))
 
   -- the cursor in the number that the call gave
@@ -196,21 +246,25 @@ module _ (t : ℕ) where
   cursor-past c = past_is c.member_by-got.result (gave c)
 
   group-number-on-requires : group-lts.Need-number_on-next-requires (group-claims t) (group_at t) group.Post group-Inv-loop group-μ-loop
-  group-number-on-requires c κs = rw (cursor-past c.before.before.before.before.before.before) (omega (arith, place-fits c.before.before.before))
+  group-number-on-requires c κs = rw (cursor-past (in-Past-of-then-parts c)) (omega (arith, place-fits c.before.before.before))
 
   group-loop-less : group-lts.Need-loop-past-smaller (group-claims t) (group_at t) group.Post group-Inv-loop group-μ-loop
   group-loop-less c =
-      rw (c.number_on-next.ensures, cursor-past c.before.before.before.before.before.before.before) (turn-less c.loop-past.invariant (behind c.before.before.before.before.before.before.before) (more c.before.before.before.before))
+      rw (c.number_on-next.ensures, cursor-past (in-Past-of-number_on-next c))
+      (turn-less c.loop-past.invariant (behind (in-Past-of-number_on-next c)) (more c.before.before.before.before))
 
   group-loop-again : group-lts.Need-loop-past-preserved (group-claims t) (group_at t) group.Post group-Inv-loop group-μ-loop
   group-loop-again c =
-      rw (c.number_on-next.ensures, cursor-past c.before.before.before.before.before.before.before, c.larger-height.ensures)
-      (group-joins c.loop-past.invariant (behind c.before.before.before.before.before.before.before) (more c.before.before.before.before) c.if-b-eq41.false
+      let b = c.before.before.before.before in
+      let p = b.before.before.before in
+      rw (c.number_on-next.ensures, cursor-past p, c.larger-height.ensures)
+      (group-joins c.loop-past.invariant (behind p) (more b) c.if-b-eq41.false
       (sym c.parts.ensures ∙ c.if-parts.true))
 
   group-returns-4 : group-lts.Need-returns-else-parts (group-claims t) (group_at t) group.Post group-Inv-loop group-μ-loop
   group-returns-4 c =
-      group-bad c.loop-past.invariant (behind c.before.before.before.before.before.before) (more c.before.before.before) c.if-b-eq41.false (sym c.parts.ensures ∙ c.if-parts.false)
+      group-bad c.loop-past.invariant (behind (in-Past-of-else-parts c)) (more c.before.before.before) c.if-b-eq41.false
+      (sym c.parts.ensures ∙ c.if-parts.false)
 
   group-returns-5 : group-lts.Need-returns-in-Fault (group-claims t) (group_at t) group.Post group-Inv-loop group-μ-loop
   group-returns-5 c =
@@ -259,19 +313,19 @@ module _ (t : ℕ) where
 
   member-group-requires : member-lts.Need-group-requires (member-claims t) (member-at t) member.Post
   member-group-requires c κs =
-      rw c.inside-first.ensures (omega (arith, c.requires.0, (opening c.before.before.before.before.before).inside), goes_in c.requires.1 (opening c.before.before.before.before.before))
+      rw c.inside-first.ensures (omega (arith, c.requires.0, (opening (else-left-eq0 c)).inside), goes_in c.requires.1 (opening (else-left-eq0 c)))
 
   member-returns-5 : member-lts.Need-returns-then-stands-2 (member-claims t) (member-at t) member.Post
   member-returns-5 c =
-      empty-marked c.requires.1 (opening c.before.before.before.before.before.before.before.before.before.before.before.before) (closed c.before.before.before.before.before) c.if-past-c.true
+      empty-marked c.requires.1 (opening (else-left-eq0-of-then-stands-2 c)) (closed (in-Past-of-then-stands-2 c)) c.if-past-c.true
       (sym c.stands-then-past-c.ensures ∙ c.if-stands-2.true)
 
   member-mark-requires : member-lts.Need-mark-requires (member-claims t) (member-at t) member.Post
-  member-mark-requires c κs = (opening c.before.before.before.before.before.before.before.before.before.before.before).few
+  member-mark-requires c κs = (opening (else-left-eq0-of-mark-arg c)).few
 
   member-returns-6 : member-lts.Need-returns-after-past-c (member-claims t) (member-at t) member.Post
   member-returns-6 c =
-      group-member c.requires.1 (opening c.before.before.before.before.before.before.before.before.before.before.before.before) (closed c.before.before.before.before.before) (fits c.before.before) c.mark.ensures
+      group-member c.requires.1 (opening (else-left-eq0-of-mark c)) (closed (in-Past-of-mark c)) (fits c.before.before) c.mark.ensures
 
   member-by-member-requires : member-by-lts.Need-member-requires (member-by-claims t) (member-by-at t) member-by.Post
   member-by-member-requires c κs = rw c.cursor_in.ensures (omega (arith, c.requires.0), c.requires.1)
@@ -330,7 +384,7 @@ pub +group_member_member_by_spec : {M : Type 1} → statement M
     (λ c. omega (arith, (opening t c).few))
     (λ c. omega (arith, (opening t c.before).few))
     (member-inside-requires t)
-    (λ c. omega (arith, (opening t c.before.before.before.before.before).deeper))
+    (λ c. omega (arith, (opening t (else-left-eq0 t c)).deeper))
     (member-group-requires t)
     (λ c. search rules)
     (λ c κs. omega arith)

@@ -23,6 +23,55 @@ invariant-loop model names n heads children words₀ count₀ at₀ words count 
 abbrev decreases-loop : tie.decreases-loop-at
 decreases-loop model names n heads children words₀ count₀ at₀ words count at = length children + 1 - at
 
+-- places that answers look back to
+abbrev start : tie.After-look_up-number invariant-loop decreases-loop → tie.Start invariant-loop decreases-loop
+start c = c.before.before.before.before.before.before.before.before.before.before.before
+
+abbrev then-is_child : tie.Then-is_full invariant-loop decreases-loop → tie.Then-is_child invariant-loop decreases-loop
+then-is_child c = c.before.before.before.before.before.before
+
+abbrev in-loop-at : tie.Then-is_full invariant-loop decreases-loop → tie.In-loop-at invariant-loop decreases-loop
+in-loop-at c = c.before.before.before.before.before.before.before.before.before.before.before
+
+abbrev then-is_child-of-stopped : tie.After-stopped invariant-loop decreases-loop → tie.Then-is_child invariant-loop decreases-loop
+then-is_child-of-stopped c = c.before.before.before.before.before.before.before
+
+abbrev loop-at-of-stopped : tie.After-stopped invariant-loop decreases-loop → tie.At-loop-at invariant-loop decreases-loop
+loop-at-of-stopped c = c.before.before.before.before.before.before.before.before.before.before.before.before.before
+
+abbrev start-of-loop-at : tie.At-loop-at invariant-loop decreases-loop → tie.Start invariant-loop decreases-loop
+start-of-loop-at c = c.before.before.before
+
+abbrev start-of-stopped : tie.After-stopped invariant-loop decreases-loop → tie.Start invariant-loop decreases-loop
+start-of-stopped c = start-of-loop-at (loop-at-of-stopped c)
+
+abbrev in-loop-at-of-stopped : tie.After-stopped invariant-loop decreases-loop → tie.In-loop-at invariant-loop decreases-loop
+in-loop-at-of-stopped c = c.before.before.before.before.before.before.before.before.before.before.before.before
+
+abbrev look_up-number-of-stopped : tie.After-stopped invariant-loop decreases-loop → tie.After-look_up-number invariant-loop decreases-loop
+look_up-number-of-stopped c = c.before.before.before.before.before
+
+abbrev in-loop-at-of-else-is_full : tie.Else-is_full invariant-loop decreases-loop → tie.In-loop-at invariant-loop decreases-loop
+in-loop-at-of-else-is_full c = c.before.before.before.before.before.before.before.before.before.before.before
+
+abbrev in-loop-at-of-noted : tie.After-noted invariant-loop decreases-loop → tie.In-loop-at invariant-loop decreases-loop
+in-loop-at-of-noted c = c.before.before.before.before.before.before.before.before.before.before.before.before
+
+abbrev then-is_child-of-noted : tie.After-noted invariant-loop decreases-loop → tie.Then-is_child invariant-loop decreases-loop
+then-is_child-of-noted c = c.before.before.before.before.before.before.before
+
+abbrev loop-at-of-noted : tie.After-noted invariant-loop decreases-loop → tie.At-loop-at invariant-loop decreases-loop
+loop-at-of-noted c = c.before.before.before.before.before.before.before.before.before.before.before.before.before
+
+abbrev start-of-noted : tie.After-noted invariant-loop decreases-loop → tie.Start invariant-loop decreases-loop
+start-of-noted c = start-of-loop-at (loop-at-of-noted c)
+
+abbrev look_up-number-of-noted : tie.After-noted invariant-loop decreases-loop → tie.After-look_up-number invariant-loop decreases-loop
+look_up-number-of-noted c = c.before.before.before.before.before
+
+abbrev start-of-then-count-le-MAX_ROW : tie.Then-count-le-MAX_ROW invariant-loop decreases-loop → tie.Start invariant-loop decreases-loop
+start-of-then-count-le-MAX_ROW c = c.before.before.before.before.before
+
 met : (c : tie.Then-is_child invariant-loop decreases-loop) → NameMet c.args.children.now c.loop-at.at c.name_end-read.result.end
 met c =
     met-name c.args.children.now c.loop-at-test.true c.name_end-read.ensures.end_is
@@ -34,9 +83,9 @@ texts s = parts_in s.args.model.now s.args.names.now s.args.n
 abbrev child : tie.After-look_up-number invariant-loop decreases-loop → Text
 child c = take (c.name_end-read.result.end - c.loop-at.at) (drop c.loop-at.at c.args.children.now)
 
-number_is : (c : tie.After-look_up-number invariant-loop decreases-loop) → c.look_up-number.result ≡ number_in (texts c.before.before.before.before.before.before.before.before.before.before.before) (child c)
+number_is : (c : tie.After-look_up-number invariant-loop decreases-loop) → c.look_up-number.result ≡ number_in (texts (start c)) (child c)
 number_is c =
-    ◌∙◌ {b = last_in (texts c.before.before.before.before.before.before.before.before.before.before.before) (child c)} c.look_up-number.ensures.0 (last-number (texts c.before.before.before.before.before.before.before.before.before.before.before) (child c) c.requires.0.1)
+    ◌∙◌ {b = last_in (texts (start c)) (child c)} c.look_up-number.ensures.0 (last-number (texts (start c)) (child c) c.requires.0.1)
 
 -- each child and its tab have two bytes
 few : (c : tie.In-loop-at invariant-loop decreases-loop) → c.loop-at.count ≤ 32768
@@ -106,22 +155,24 @@ is-full-requires c κs = search rules
 
 stopped-requires : tie.Need-stopped-requires invariant-loop decreases-loop
 stopped-requires c κs =
-    ((met c.before.before.before.before.before.before).bounds.1, c.requires.1.1, omega (arith, few c.before.before.before.before.before.before.before.before.before.before.before))
+    ((met (then-is_child c)).bounds.1, c.requires.1.1, omega (arith, few (in-loop-at c)))
 
 returns-3 : tie.Need-returns-then-is_full invariant-loop decreases-loop
 returns-3 c =
     let p = c.loop-at.invariant in
     let h = c.loop-at-test.true in (
       λ us t. rw c.stopped.ensures
-          (walk-faulty c.args.children.now p.0 h (met c.before.before.before.before.before.before.before) us (texts c.before.before.before.before.before.before.before.before.before.before.before.before.before.before.before.before) _
-          (row-stops (p.2 us t) (walk_inside c.args.children.now p.0 h (met c.before.before.before.before.before.before.before) (texts c.before.before.before.before.before.before.before.before.before.before.before.before.before.before.before.before)) (omega (arith, few c.before.before.before.before.before.before.before.before.before.before.before.before))
-          (walk-number c.args.children.now p.0 h (met c.before.before.before.before.before.before.before) (texts c.before.before.before.before.before.before.before.before.before.before.before.before.before.before.before.before) (number_is c.before.before.before.before.before)) c.look_up-number.ensures.1
+          (walk-faulty c.args.children.now p.0 h (met (then-is_child-of-stopped c)) us (texts (start-of-stopped c)) _
+          (row-stops (p.2 us t) (walk_inside c.args.children.now p.0 h (met (then-is_child-of-stopped c)) (texts (start-of-stopped c)))
+          (omega (arith, few (in-loop-at-of-stopped c)))
+          (walk-number c.args.children.now p.0 h (met (then-is_child-of-stopped c)) (texts (start-of-stopped c)) (number_is (look_up-number-of-stopped c)))
+          c.look_up-number.ensures.1
           (rw (seen_at c.loop-at.words c.look_up-number.result) (ltb-true _ _ (sym c.is_full.ensures ∙ c.if-is_full.true))))),
       p.1,
     )
 
 cast-noted : tie.Need-overflow_cast-count invariant-loop decreases-loop
-cast-noted c = omega (arith, few c.before.before.before.before.before.before.before.before.before.before.before)
+cast-noted c = omega (arith, few (in-loop-at-of-else-is_full c))
 
 noted-requires : tie.Need-noted-requires invariant-loop decreases-loop
 noted-requires c κs = free c
@@ -136,13 +187,13 @@ element-write-words : tie.Need-bounds-words-number-in-loop-at invariant-loop dec
 element-write-words c = omega (arith, c.look_up-number.ensures.1)
 
 add-count : tie.Need-overflow_add-count invariant-loop decreases-loop
-add-count c = omega (arith, few c.before.before.before.before.before.before.before.before.before.before.before.before)
+add-count c = omega (arith, few (in-loop-at-of-noted c))
 
 add_at : tie.Need-overflow_add-at invariant-loop decreases-loop
-add_at c = omega (arith, (met c.before.before.before.before.before.before.before).bounds, c.requires.1.1)
+add_at c = omega (arith, (met (then-is_child-of-noted c)).bounds, c.requires.1.1)
 
 loop-less : tie.Need-loop-at-smaller invariant-loop decreases-loop
-loop-less c = omega (arith, (met c.before.before.before.before.before.before.before).bounds, c.loop-at-test.true)
+loop-less c = omega (arith, (met (then-is_child-of-noted c)).bounds, c.loop-at-test.true)
 
 loop-again : tie.Need-loop-at-preserved invariant-loop decreases-loop
 loop-again c =
@@ -150,18 +201,20 @@ loop-again c =
     let h = c.loop-at-test.true in
     let w = c.loop-at.words in
     let e = seen_at w c.look_up-number.result in (
-      walk-goes c.args.children.now p.0 h (met c.before.before.before.before.before.before.before),
+      walk-goes c.args.children.now p.0 h (met (then-is_child-of-noted c)),
       same_set c.args.words.now w p.1 c.look_up-number.result c.noted.result,
       λ us t. rw (seen-set w c.look_up-number.result c.noted.result)
-          (row_goes (p.2 us t) (walk_inside c.args.children.now p.0 h (met c.before.before.before.before.before.before.before) (texts c.before.before.before.before.before.before.before.before.before.before.before.before.before.before.before.before)) (omega (arith, few c.before.before.before.before.before.before.before.before.before.before.before.before))
-          (walk-number c.args.children.now p.0 h (met c.before.before.before.before.before.before.before) (texts c.before.before.before.before.before.before.before.before.before.before.before.before.before.before.before.before) (number_is c.before.before.before.before.before)) c.look_up-number.ensures.1
+          (row_goes (p.2 us t) (walk_inside c.args.children.now p.0 h (met (then-is_child-of-noted c)) (texts (start-of-noted c)))
+          (omega (arith, few (in-loop-at-of-noted c)))
+          (walk-number c.args.children.now p.0 h (met (then-is_child-of-noted c)) (texts (start-of-noted c)) (number_is (look_up-number-of-noted c)))
+          c.look_up-number.ensures.1
           (rw e (free c.before)) (rw e c.noted.ensures)),
     )
 
 returns-4 : tie.Need-returns-then-count-le-MAX_ROW invariant-loop decreases-loop
 returns-4 c =
     let p = c.loop-at.invariant in
-    let n = walk-all c.args.children.now p.0 c.loop-at-test.false (texts c.before.before.before.before.before) in
+    let n = walk-all c.args.children.now p.0 c.loop-at-test.false (texts (start-of-then-count-le-MAX_ROW c)) in
     let all = walk-few c.args.children.now p.0 c.loop-at-test.false c.if-count-le-MAX_ROW.true in
     (λ us t. row_whole all (row_ends (p.2 us t) (omega (arith, n)) (omega (arith, n, c.if-count-le-MAX_ROW.true))), p.1)
 

@@ -16,6 +16,16 @@ invariant-loop row words₀ i₀ words i =
 abbrev decreases-loop : tie.decreases-loop-i
 decreases-loop row words₀ i₀ words i = length row - i
 
+-- places that answers look back to
+abbrev in-loop-i : tie.Else-is_full invariant-loop decreases-loop → tie.In-loop-i invariant-loop decreases-loop
+in-loop-i c = c.before.before.before.before.before
+
+abbrev in-loop-i-of-then-is_full : tie.Then-is_full invariant-loop decreases-loop → tie.In-loop-i invariant-loop decreases-loop
+in-loop-i-of-then-is_full c = c.before.before.before.before.before
+
+abbrev in-loop-i-of-noted : tie.After-noted invariant-loop decreases-loop → tie.In-loop-i invariant-loop decreases-loop
+in-loop-i-of-noted c = c.before.before.before.before.before.before
+
 -- the child's name
 abbrev name : tie.In-loop-i invariant-loop decreases-loop → ℕ
 name c = get_or c.args.row.now c.loop-i.i 0
@@ -26,7 +36,7 @@ number c = upto-at 64 c.args.row.now c.requires.1 c.loop-i.i c.loop-i-test.true
 short : (c : tie.In-loop-i invariant-loop decreases-loop) → c.loop-i.i ≤ 4096
 short c = omega (arith, c.loop-i-test.true, c.requires.0)
 
-free : (c : tie.Else-is_full invariant-loop decreases-loop) → one_left ≤ get_or c.loop-i.words (128 + name c.before.before.before.before.before) 0
+free : (c : tie.Else-is_full invariant-loop decreases-loop) → one_left ≤ get_or c.loop-i.words (128 + name (in-loop-i c)) 0
 free c = ltb-false _ _ (sym c.is_full.ensures ∙ c.if-is_full.false)
 
 loop-holds : tie.Need-loop-i-init invariant-loop decreases-loop
@@ -56,8 +66,8 @@ is-full-requires c κs = search rules
 returns : tie.Need-returns-then-is_full invariant-loop decreases-loop
 returns c = (
   λ us t. row_told
-      (row-stops (c.loop-i.invariant.2 us t) c.loop-i-test.true (omega (arith, short c.before.before.before.before.before)) refl (number c.before.before.before.before.before)
-      (rw (seen_at c.loop-i.words (name c.before.before.before.before.before)) (ltb-true _ _ (sym c.is_full.ensures ∙ c.if-is_full.true)))),
+      (row-stops (c.loop-i.invariant.2 us t) c.loop-i-test.true (omega (arith, short (in-loop-i-of-then-is_full c))) refl (number (in-loop-i-of-then-is_full c))
+      (rw (seen_at c.loop-i.words (name (in-loop-i-of-then-is_full c))) (ltb-true _ _ (sym c.is_full.ensures ∙ c.if-is_full.true)))),
   c.loop-i.invariant.1,
 )
 
@@ -68,13 +78,13 @@ noted-requires : tie.Need-noted-requires invariant-loop decreases-loop
 noted-requires c κs = free c
 
 add_words : tie.Need-overflow_add-words invariant-loop decreases-loop
-add_words c = let n = number c.before.before.before.before.before.before in search rules
+add_words c = let n = number (in-loop-i-of-noted c) in search rules
 
 mul_words : tie.Need-offset_bounds-words-name-in-loop-i invariant-loop decreases-loop
-mul_words c = let n = number c.before.before.before.before.before.before in search rules
+mul_words c = let n = number (in-loop-i-of-noted c) in search rules
 
 element-write-words : tie.Need-bounds-words-name-in-loop-i invariant-loop decreases-loop
-element-write-words c = let n = number c.before.before.before.before.before.before in search rules
+element-write-words c = let n = number (in-loop-i-of-noted c) in search rules
 
 add-i : tie.Need-overflow_add-i invariant-loop decreases-loop
 add-i c = search rules
@@ -84,11 +94,12 @@ loop-less c = search rules
 
 loop-again : tie.Need-loop-i-preserved invariant-loop decreases-loop
 loop-again c =
-    let e = seen_at c.loop-i.words (name c.before.before.before.before.before.before) in (
+    let e = seen_at c.loop-i.words (name (in-loop-i-of-noted c)) in (
       omega (arith, c.loop-i-test.true),
-      same_set c.args.words.now c.loop-i.words c.loop-i.invariant.1 (name c.before.before.before.before.before.before) c.noted.result,
-      λ us t. rw (seen-set c.loop-i.words (name c.before.before.before.before.before.before) c.noted.result)
-          (row_goes (c.loop-i.invariant.2 us t) c.loop-i-test.true (omega (arith, short c.before.before.before.before.before.before)) refl (number c.before.before.before.before.before.before) (rw e (free c.before)) (rw e c.noted.ensures)),
+      same_set c.args.words.now c.loop-i.words c.loop-i.invariant.1 (name (in-loop-i-of-noted c)) c.noted.result,
+      λ us t. rw (seen-set c.loop-i.words (name (in-loop-i-of-noted c)) c.noted.result)
+          (row_goes (c.loop-i.invariant.2 us t) c.loop-i-test.true (omega (arith, short (in-loop-i-of-noted c))) refl (number (in-loop-i-of-noted c))
+          (rw e (free c.before)) (rw e c.noted.ensures)),
     )
 
 returns-2 : tie.Need-returns invariant-loop decreases-loop

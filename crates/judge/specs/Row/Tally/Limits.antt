@@ -90,7 +90,8 @@ module _ (l : List Node) where
         word_is = λ k i. word k ∙ sym (seen_none us k);
       }
     where
-      word : (k : ℕ) → slice_index (0 ∷ (map limit_word (upper_counts l) ++ replicate (max_atoms - length (upper_counts l)) 0)) k ≡ limit_word (allowed (upper_counts l) k)
+      word : (k : ℕ)
+          → slice_index (0 ∷ (map limit_word (upper_counts l) ++ replicate (max_atoms - length (upper_counts l)) 0)) k ≡ limit_word (allowed (upper_counts l) k)
       word zero = refl
       word (suc j) = limit-at (upper_counts l) (max_atoms - length (upper_counts l)) j
 
@@ -100,7 +101,8 @@ atoms-take l i = omega (arith, atoms-append (take i l) (drop i l), ap atoms_in (
 
 -- by what the node's kind is
 limits-more : (l : List Node) (κ : Kind) (m : Mark) → atoms_in l + is_atom κ ≤ max_atoms
-    → let k = atoms_in l + is_atom κ in slice_set (limits_in l) k (limited_word κ (slice_index (limits_in l) k)) ≡ limits_in (l ++ (record { kind = κ; mark = m } ∷ []))
+    → let k = atoms_in l + is_atom κ in slice_set (limits_in l) k (limited_word κ (slice_index (limits_in l) k))
+    ≡ limits_in (l ++ (record { kind = κ; mark = m } ∷ []))
 limits-more l (Atom lo hi) m h = limits-atom l lo hi m (omega arith)
 limits-more l (Group s n) m h = set-get_or (limits_in l) (atoms_in l + 0) 0 ∙ sym (limits-group l s n m)
 

@@ -10,7 +10,8 @@ use Rattle.model.specs.declared.rule.Upper.TheVariants.{Number, Unbounded}
 use Rattle.model.specs.Membership.{under}
 use Rattle.model.specs.Word.{Word, Names, only, count, keep, touched}
 use Rattle.model.proofs.WordLaws.{only_self}
-use Rattle.model.proofs.WordSpan.{first_place, last_behind, first-untouched, behind-untouched, touched-behind, touched-more, count-more, first_more, behind_more}
+use Rattle.model.proofs.WordSpan.{first_place, last_behind, first-untouched, behind-untouched, touched-behind, touched-more, count-more, first_more}
+use Rattle.model.proofs.WordSpan.{behind_more}
 use Rattle.judge.specs.Row.Attribute.{seen}
 use Rattle.judge.specs.FirstFault.{allowed}
 use Rattle.judge.specs.Row.Tally.{packed_seen, one_left, one_seen, limit_number, seen_of, noted_word, first_seen, seen_word}

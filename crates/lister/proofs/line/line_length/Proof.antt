@@ -9,6 +9,10 @@ use borrow.Author.Rules.{rules}
 use Rattle.lister.proofs.line.line_length.Statement.{statement}
 use Rattle.lister.proofs.line.line_length.Tie as tie
 
+-- places that answers look back to
+abbrev first_fields-ends-of-number_length : tie.After-number_length → tie.After-first_fields-ends
+first_fields-ends-of-number_length c = c.before.before.before.before.before
+
 three : (c : tie.After-first_fields-ends) → Three c.args.cue.now c.first_fields-ends.result
 three c = cue-three c.first_fields-ends.ensures.0 c.requires
 
@@ -40,16 +44,38 @@ number-length-requires c κs = omega (arith, children-are c.before.before, c.req
 add-result-2 : tie.Need-overflow_add-result-2
 add-result-2 c =
     let digits-few = digits-length 4 c.times_in-children.result (omega (arith, children-are c.before.before.before, c.requires.few)) in
-    omega (arith, (three c.before.before.before.before.before).ascending, c.word_length.ensures, word-short c.args.said, c.requires.short, c.number_length.ensures, digits-few)
+    omega (
+      arith,
+      (three (first_fields-ends-of-number_length c)).ascending,
+      c.word_length.ensures,
+      word-short c.args.said,
+      c.requires.short,
+      c.number_length.ensures,
+      digits-few,
+    )
 
 add-result-3 : tie.Need-overflow_add-result-3
 add-result-3 c =
     let digits-few = digits-length 4 c.times_in-children.result (omega (arith, children-are c.before.before.before, c.requires.few)) in
-    omega (arith, (three c.before.before.before.before.before).ascending, c.word_length.ensures, word-short c.args.said, c.requires.short, c.number_length.ensures, digits-few)
+    omega (
+      arith,
+      (three (first_fields-ends-of-number_length c)).ascending,
+      c.word_length.ensures,
+      word-short c.args.said,
+      c.requires.short,
+      c.number_length.ensures,
+      digits-few,
+    )
 
 returns : tie.Need-returns
 returns c =
-    omega (arith, c.word_length.ensures, c.number_length.ensures, line-length c.args.said (three c.before.before.before.before.before) (children-are c.before.before.before))
+    omega (
+      arith,
+      c.word_length.ensures,
+      c.number_length.ensures,
+      line-length c.args.said (three (first_fields-ends-of-number_length c))
+          (children-are c.before.before.before),
+    )
 
 pub line_length_spec : {M : Type 1} → statement M
 line_length_spec =

@@ -20,6 +20,15 @@ invariant-loop buffer₀ cues codes written₀ n₀ at₀ buffer written n at =
 abbrev decreases-loop : tie.decreases-loop-at
 decreases-loop buffer₀ cues codes written₀ n₀ at₀ buffer written n at = length cues - at
 
+-- places that answers look back to
+abbrev decode-said-of-slice_known-in-loop-at : tie.After-slice_known-in-loop-at-1 invariant-loop decreases-loop
+    → tie.After-decode-said invariant-loop decreases-loop
+decode-said-of-slice_known-in-loop-at c = c.before.before.before.before.before
+
+abbrev part_end-end-of-slice_known-in-loop-at : tie.After-slice_known-in-loop-at-1 invariant-loop decreases-loop
+    → tie.After-part_end-end invariant-loop decreases-loop
+part_end-end-of-slice_known-in-loop-at c = c.before.before.before.before.before.before.before
+
 cue : (c : tie.After-part_end-end invariant-loop decreases-loop) → Cue c.args.cues.now c.loop-at.n c.loop-at.at c.part_end-end.result
 cue c = before-cue c.loop-at.invariant.0 c.loop-at-test.true c.part_end-end.ensures
 
@@ -74,20 +83,29 @@ write-line-requires c κs =
     ((cue c.before.before.before.before).fits, piece-room (line c.before.before) (rest c.before.before) (begun c.before.before))
 
 add-written : tie.Need-overflow_add-written invariant-loop decreases-loop
-add-written c = omega (arith, fits c.before.before.before.before.before, begun-length (begun c.before.before.before.before.before), c.write_line-more.ensures.end_is)
+add-written c = omega (
+  arith,
+  fits (decode-said-of-slice_known-in-loop-at c),
+  begun-length (begun (decode-said-of-slice_known-in-loop-at c)),
+  c.write_line-more.ensures.end_is,
+)
 
 add-n : tie.Need-overflow_add-n invariant-loop decreases-loop
-add-n c = omega (arith, (cue c.before.before.before.before.before.before.before).bounds)
+add-n c = omega (arith, (cue (part_end-end-of-slice_known-in-loop-at c)).bounds)
 
 add_at : tie.Need-overflow_add-at invariant-loop decreases-loop
-add_at c = omega (arith, (cue c.before.before.before.before.before.before.before).bounds)
+add_at c = omega (arith, (cue (part_end-end-of-slice_known-in-loop-at c)).bounds)
 
 loop-less : tie.Need-loop-at-smaller invariant-loop decreases-loop
-loop-less c = omega (arith, (cue c.before.before.before.before.before.before.before).bounds)
+loop-less c = omega (arith, (cue (part_end-end-of-slice_known-in-loop-at c)).bounds)
 
 loop-again : tie.Need-loop-at-preserved invariant-loop decreases-loop
-loop-again c =
-    ((cue c.before.before.before.before.before.before.before).next, c.loop-at.invariant.1, piece-put (line c.before.before.before.before.before) (rest c.before.before.before.before.before) (begun c.before.before.before.before.before) c.write_line-more.ensures)
+loop-again c = (
+  (cue (part_end-end-of-slice_known-in-loop-at c)).next,
+  c.loop-at.invariant.1,
+  piece-put (line (decode-said-of-slice_known-in-loop-at c))
+      (rest (decode-said-of-slice_known-in-loop-at c)) (begun (decode-said-of-slice_known-in-loop-at c)) c.write_line-more.ensures,
+)
 
 same_length : tie.Need-shape_of-buffer invariant-loop decreases-loop
 same_length c = begun-length c.loop-at.invariant.2

@@ -21,6 +21,24 @@ invariant-loop buffer₀ codes numbers end₀ i₀ buffer end i =
 abbrev decreases-loop : tie.decreases-loop-i
 decreases-loop buffer₀ codes numbers end₀ i₀ buffer end i = 5 - i
 
+-- places that answers look back to
+abbrev put-end-of-put_number-end : tie.After-put_number-end invariant-loop decreases-loop → tie.After-put-end invariant-loop decreases-loop
+put-end-of-put_number-end c = c.before.before.before.before.before.before.before.before.before.before.before.before
+
+abbrev totals_of-totals-of-put-end : tie.After-put-end invariant-loop decreases-loop → tie.After-totals_of-totals invariant-loop decreases-loop
+totals_of-totals-of-put-end c = c.before.before.before.before
+
+abbrev totals_of-totals-of-put_number-end : tie.After-put_number-end invariant-loop decreases-loop
+    → tie.After-totals_of-totals invariant-loop decreases-loop
+totals_of-totals-of-put_number-end c = totals_of-totals-of-put-end (put-end-of-put_number-end c)
+
+abbrev totals_of-totals-of-put : tie.After-put invariant-loop decreases-loop → tie.After-totals_of-totals invariant-loop decreases-loop
+totals_of-totals-of-put c = c.before.before.before.before.before.before.before.before.before.before.before.before
+
+abbrev totals_of-totals-of-slice_known-3 : tie.After-slice_known-3-1 invariant-loop decreases-loop
+    → tie.After-totals_of-totals invariant-loop decreases-loop
+totals_of-totals-of-slice_known-3 c = c.before.before.before.before.before.before.before.before.before.before.before.before.before.before
+
 abbrev numbers : tie.After-totals_of-totals invariant-loop decreases-loop → List ℕ
 numbers c = c.totals_of-totals.result
 
@@ -40,14 +58,15 @@ room c =
 more : (c : tie.After-put_number-end invariant-loop decreases-loop)
     → let t = c in
     let p = t in
-    let ns = numbers p.before.before.before.before.before.before.before.before.before.before.before.before.before.before.before.before in
+    let ns = numbers (totals_of-totals-of-put_number-end p) in
     (old : Text) → Begun old p.put-end.new.buffer (bytes "total" ++ tabbed ns) p.put-end.result (tabbed ns)
     → Begun old c.put_number-end.new.buffer (bytes "total" ++ tabbed ns) c.put_number-end.result (tabbed (drop (t.loop-i.i + 1) ns))
 more c old g =
     let p = c in
     let t = p in
     let n = t in
-    let begun = rw (tabbed-next (numbers n.before.before.before.before.before.before.before.before.before.before.before.before.before.before.before.before) t.loop-i.i (omega (arith, five n.before.before.before.before.before.before.before.before.before.before.before.before.before.before.before.before))) at (t.loop-i.invariant.1 old g) in
+    let begun = rw (tabbed-next (numbers (totals_of-totals-of-put_number-end n)) t.loop-i.i (omega (arith, five (totals_of-totals-of-put_number-end n)))) at
+    (t.loop-i.invariant.1 old g) in
     let tab-put = begun-put (tab ∷ []) _ begun p.put-end-in-loop-i.ensures.0 p.put-end-in-loop-i.ensures.1 in
     begun-put _ _ tab-put c.put_number-end.ensures.0 c.put_number-end.ensures.1
 
@@ -57,14 +76,14 @@ loop-again c = (omega arith, more c.before.before)
 -- the turn that ends the loop, from the line feed
 done : (c : tie.After-put invariant-loop decreases-loop)
     → let n = c in
-    Put n.args.buffer.now c.put.new.buffer 0 (bytes "total" ++ tabbed (numbers n.before.before.before.before.before.before.before.before.before.before.before.before)) c.put.result
+    Put n.args.buffer.now c.put.new.buffer 0 (bytes "total" ++ tabbed (numbers (totals_of-totals-of-put n))) c.put.result
 done c =
     let t = c in
     let p = t in
     let n = p in
-    let behind : length (numbers n.before.before.before.before.before.before.before.before.before.before.before.before) ≤ t.loop-i.i = omega (arith, five n.before.before.before.before.before.before.before.before.before.before.before.before, c.loop-i-test.false) in
-    let begun = t.loop-i.invariant.1 _ (begun-put (bytes "total") _ (begun-none (room n.before.before.before.before.before.before.before.before.before.before.before.before)) p.put-end.ensures.0 p.put-end.ensures.1) in
-    let all = rw (drop_of_length-le (numbers n.before.before.before.before.before.before.before.before.before.before.before.before) {i = t.loop-i.i} behind) at begun in
+    let behind : length (numbers (totals_of-totals-of-put n)) ≤ t.loop-i.i = omega (arith, five (totals_of-totals-of-put n), c.loop-i-test.false) in
+    let begun = t.loop-i.invariant.1 _ (begun-put (bytes "total") _ (begun-none (room (totals_of-totals-of-put n))) p.put-end.ensures.0 p.put-end.ensures.1) in
+    let all = rw (drop_of_length-le (numbers (totals_of-totals-of-put n)) {i = t.loop-i.i} behind) at begun in
     begun-end (begun-put (line_feed ∷ []) [] all c.put.ensures.0 c.put.ensures.1)
 
 same_length : tie.Need-shape_of-buffer invariant-loop decreases-loop
@@ -72,7 +91,7 @@ same_length c = put-length (done c.before.before)
 
 returns : tie.Need-returns invariant-loop decreases-loop
 returns c =
-    rw (← line_is c.before.before.before.before.before.before.before.before.before.before.before.before.before.before) (done c.before.before)
+    rw (← line_is (totals_of-totals-of-slice_known-3 c)) (done c.before.before)
 
 pub write_total_spec : {M : Type 1} → statement M
 write_total_spec =

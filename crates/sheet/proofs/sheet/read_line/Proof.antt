@@ -12,6 +12,16 @@ use borrow.Author.Rules.{rules}
 use Rattle.sheet.proofs.sheet.read_line.Statement.{statement}
 use Rattle.sheet.proofs.sheet.read_line.Tie as tie
 
+-- places that answers look back to
+abbrev in-Good-of-names : tie.After-names-1 → tie.In-Good
+in-Good-of-names c = c.before.before.before.before.before
+
+abbrev in-Good-of-place_in-kind : tie.After-place_in-kind → tie.In-Good
+in-Good-of-place_in-kind c = c.before.before.before.before.before.before
+
+abbrev in-Good-of-place_in-place : tie.After-place_in-place → tie.In-Good
+in-Good-of-place_in-place c = c.before.before.before.before.before.before.before
+
 good : (c : tie.In-Good)
     → (let a = c.args in line_checked (parts_of a.text.now a.kinds) (part a.text.now a.at a.end)) ≡ Good
 good c = sym c.check_line.ensures ∙ c.in-Good.is
@@ -30,14 +40,14 @@ returns-2 c =
     refused_model c.first_fields-ends.ensures.0 (good c.before.before.before.before) c.read_model-model.ensures c.in-Refused.is c.bad_line-in-Refused.ensures
 
 place-in-requires : tie.Need-place_in-kind-requires
-place-in-requires c κs = let s = fits c.before.before.before.before.before in (omega arith, omega arith)
+place-in-requires c κs = let s = fits (in-Good-of-names c) in (omega arith, omega arith)
 
 place-in-requires-2 : tie.Need-place_in-place-requires
-place-in-requires-2 c κs = let s = fits c.before.before.before.before.before.before in (omega arith, omega arith)
+place-in-requires-2 c κs = let s = fits (in-Good-of-place_in-kind c) in (omega arith, omega arith)
 
 returns-3 : tie.Need-returns
 returns-3 c =
-    model-read c.first_fields-ends.ensures.0 (good c.before.before.before.before.before.before.before) c.read_model-model.ensures
+    model-read c.first_fields-ends.ensures.0 (good (in-Good-of-place_in-place c)) c.read_model-model.ensures
     c.place_in-kind.ensures c.place_in-place.ensures c.in-Read.is
 
 pub read_line_spec : {M : Type 1} → statement M
@@ -62,8 +72,8 @@ read_line_spec =
     (λ c. search rules)
     (λ c κs. search rules)
     returns-2
-    (λ c. omega (arith, fits c.before.before.before.before.before))
+    (λ c. omega (arith, fits (in-Good-of-names c)))
     place-in-requires
-    (λ c. omega (arith, fits c.before.before.before.before.before.before))
+    (λ c. omega (arith, fits (in-Good-of-place_in-kind c)))
     place-in-requires-2
     returns-3)

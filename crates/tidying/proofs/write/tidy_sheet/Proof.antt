@@ -9,6 +9,10 @@ use borrow.Author.Rules.{rules}
 use Rattle.tidying.proofs.write.tidy_sheet.Statement.{statement}
 use Rattle.tidying.proofs.write.tidy_sheet.Tie as tie
 
+-- places that answers look back to
+abbrev in-Read-of-slice_known-2 : tie.After-slice_known-2-1 → tie.In-Read
+in-Read-of-slice_known-2 c = c.before.before.before.before.before.before
+
 -- the outcome that is told is the sheet's
 told : (c : tie.After-read_sheet-read) → sheet_outcome c.args.sheet.now ≡ c.read_sheet-read.result.outcome
 told c = sym (outcome-is c.args.sheet.now) ∙ sym (ap (λ r. r.outcome) c.read_sheet-read.ensures)
@@ -37,7 +41,7 @@ returns-3 : tie.Need-returns
 returns-3 c =
     let a = c.args in
     let total-is = c.tidied_length-total.ensures in (
-      tidied-written a.sheet.now (read c.before.before.before.before.before.before) total-is (length a.buffer.now) c.if-buffer-total.false,
+      tidied-written a.sheet.now (read (in-Read-of-slice_known-2 c)) total-is (length a.buffer.now) c.if-buffer-total.false,
       buffer-tidied a.sheet.now total-is c.write_rules.ensures,
     )
 

@@ -9,6 +9,28 @@ use borrow.Author.Rules.{rules}
 use Rattle.tidying.proofs.write.write_rule.Statement.{statement}
 use Rattle.tidying.proofs.write.write_rule.Tie as tie
 
+-- places that answers look back to
+abbrev first_fields-ends-of-put_model-arg : tie.After-put_model-arg-1 → tie.After-first_fields-ends
+first_fields-ends-of-put_model-arg c = c.before.before.before.before.before.before.before
+
+abbrev first_fields-ends-of-put_model-arg-2 : tie.After-put_model-arg-2-1 → tie.After-first_fields-ends
+first_fields-ends-of-put_model-arg-2 c = c.before.before.before.before.before.before.before.before
+
+abbrev first_fields-ends-of-put-arg-3 : tie.After-put-arg-3-1 → tie.After-first_fields-ends
+first_fields-ends-of-put-arg-3 c = c.before.before.before.before.before.before.before.before.before.before.before.before
+
+abbrev put-head-of-put-arg-3 : tie.After-put-arg-3-1 → tie.After-put-head
+put-head-of-put-arg-3 c = c.before.before.before.before.before.before.before.before
+
+abbrev put-head-of-slice_known-4 : tie.After-slice_known-4-1 → tie.After-put-head
+put-head-of-slice_known-4 c = c.before.before.before.before.before.before.before.before.before.before.before.before.before
+
+abbrev first_fields-ends-of-put-head : tie.After-put-head → tie.After-first_fields-ends
+first_fields-ends-of-put-head c = c.before.before.before.before
+
+abbrev first_fields-ends-of-slice_known-4 : tie.After-slice_known-4-1 → tie.After-first_fields-ends
+first_fields-ends-of-slice_known-4 c = first_fields-ends-of-put-head (put-head-of-slice_known-4 c)
+
 three : (c : tie.After-first_fields-ends) → Three c.args.line.now c.first_fields-ends.result
 three c = rule-three c.requires.0 c.first_fields-ends.ensures.0
 
@@ -35,25 +57,33 @@ head-inside : (p : tie.After-put-head) → p.put-head.result ≤ length p.put-he
 head-inside p = omega (arith, put-ends (head-is p), (head-is p).fits)
 
 sub-put-model-2 : tie.Need-slice_bounds-put_model-count-2
-sub-put-model-2 c = omega (arith, (three c.before.before.before.before.before.before.before).ascending)
+sub-put-model-2 c = omega (arith, (three (first_fields-ends-of-put_model-arg c)).ascending)
 
 part-put-model-start-2 : tie.Need-slice_bounds-put_model-start-2
-part-put-model-start-2 c = omega (arith, (three c.before.before.before.before.before.before.before).ascending)
+part-put-model-start-2 c = omega (arith, (three (first_fields-ends-of-put_model-arg c)).ascending)
 
 put-model-requires : tie.Need-put_model-model-requires
 put-model-requires c κs =
-    rule-ready c.requires.0 c.first_fields-ends.ensures.0 (rw (length-take, length-drop) (omega (arith, room c.before.before.before.before.before.before.before.before, put-ends (head-is c.before.before.before.before))))
+    rule-ready c.requires.0 c.first_fields-ends.ensures.0
+    (rw (length-take, length-drop) (omega (arith, room (first_fields-ends-of-put_model-arg-2 c), put-ends (head-is c.before.before.before.before))))
 
 add-put : tie.Need-overflow_add-head
 add-put c =
-    omega (arith, room c.before.before.before.before.before.before.before.before.before.before.before.before, put-ends (head-is c.before.before.before.before.before.before.before.before), put-ends c.put_model-model.ensures)
+    omega (arith, room (first_fields-ends-of-put-arg-3 c), put-ends (head-is (put-head-of-put-arg-3 c)), put-ends c.put_model-model.ensures)
 
 returns : tie.Need-returns
 returns c =
-    let both = put-behind (head-is c.before.before.before.before.before.before.before.before.before.before.before.before.before) c.put_model-model.ensures in
+    let both = put-behind (head-is (put-head-of-slice_known-4 c)) c.put_model-model.ensures in
     rw (← rule-pieces c.requires.0 c.first_fields-ends.ensures.0)
     (put_then both
-    (put-fits _ _ _ _ _ (omega (arith, room c.before.before.before.before.before.before.before.before.before.before.before.before.before.before.before.before.before, put-ends (head-is c.before.before.before.before.before.before.before.before.before.before.before.before.before), put-ends c.put_model-model.ensures, put-ends both)) c.put.ensures.0
+    (put-fits _ _ _ _ _ (omega (
+      arith,
+      room (first_fields-ends-of-slice_known-4 c),
+      put-ends (head-is (put-head-of-slice_known-4 c)),
+      put-ends
+          c.put_model-model.ensures,
+      put-ends both,
+    )) c.put.ensures.0
     c.put.ensures.1))
 
 pub write_rule_spec : {M : Type 1} → statement M

@@ -17,6 +17,11 @@ invariant-loop buffer₀ sheet written₀ at₀ buffer written at = AtRule sheet
 abbrev decreases-loop : tie.decreases-loop-at
 decreases-loop buffer₀ sheet written₀ at₀ buffer written at = length sheet - at
 
+-- places that answers look back to
+abbrev part_end-end-of-slice_known-in-loop-at : tie.After-slice_known-in-loop-at-1 invariant-loop decreases-loop
+    → tie.After-part_end-end invariant-loop decreases-loop
+part_end-end-of-slice_known-in-loop-at c = c.before.before.before.before.before
+
 rule : (c : tie.After-part_end-end invariant-loop decreases-loop) → RuleAt c.args.sheet.now c.loop-at.at c.part_end-end.result
 rule c = rule-next c.loop-at.invariant.0 c.loop-at-test.true c.part_end-end.ensures
 
@@ -64,17 +69,25 @@ write-rule-requires c κs =
 
 add-written : tie.Need-overflow_add-written invariant-loop decreases-loop
 add-written c =
-    omega (arith, fits c.before.before.before.before.before, begun-length (begun c.before.before.before.before.before), c.write_rule-more.ensures.end_is)
+    omega (
+      arith,
+      fits (part_end-end-of-slice_known-in-loop-at c),
+      begun-length (begun (part_end-end-of-slice_known-in-loop-at c)),
+      c.write_rule-more.ensures.end_is,
+    )
 
 add_at : tie.Need-overflow_add-at invariant-loop decreases-loop
-add_at c = omega (arith, (rule c.before.before.before.before.before).bounds)
+add_at c = omega (arith, (rule (part_end-end-of-slice_known-in-loop-at c)).bounds)
 
 loop-less : tie.Need-loop-at-smaller invariant-loop decreases-loop
-loop-less c = omega (arith, (rule c.before.before.before.before.before).bounds)
+loop-less c = omega (arith, (rule (part_end-end-of-slice_known-in-loop-at c)).bounds)
 
 loop-again : tie.Need-loop-at-preserved invariant-loop decreases-loop
-loop-again c =
-    ((rule c.before.before.before.before.before).next, piece-put (line c.before.before.before.before.before) (rest c.before.before.before.before.before) (begun c.before.before.before.before.before) c.write_rule-more.ensures)
+loop-again c = (
+  (rule (part_end-end-of-slice_known-in-loop-at c)).next,
+  piece-put (line (part_end-end-of-slice_known-in-loop-at c))
+      (rest (part_end-end-of-slice_known-in-loop-at c)) (begun (part_end-end-of-slice_known-in-loop-at c)) c.write_rule-more.ensures,
+)
 
 same_length : tie.Need-shape_of-buffer invariant-loop decreases-loop
 same_length c = begun-length c.loop-at.invariant.1

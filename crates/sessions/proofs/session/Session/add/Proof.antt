@@ -19,7 +19,8 @@ returns c =
 returns-2 : tie.Need-returns-then-most-children
 returns-2 c =
     let a = c.args in
-    let e = adding-full a.self a.trail.now _ (passed c.before.before.before.before) _ c.names-names.ensures c.if-names-number.false _ c.room_in-most.ensures c.if-most-children.true in
+    let e = adding-full a.self a.trail.now _ (passed c.before.before.before.before) _ c.names-names.ensures c.if-names-number.false _ c.room_in-most.ensures
+    c.if-most-children.true in
     refused (adding a.name.0) a.self a.trail.now NoRoom _ e c.refused-then-most-children.ensures
 
 returns-3 : tie.Need-returns-in-Refused
@@ -31,7 +32,8 @@ returns-3 c =
 returns-4 : tie.Need-returns-else-most-children
 returns-4 c =
     let a = c.args in
-    let e = adding-done a.self a.trail.now _ (passed c.before.before.before.before) _ c.names-names.ensures c.if-names-number.false _ c.room_in-most.ensures c.if-most-children.false in
+    let e = adding-done a.self a.trail.now _ (passed c.before.before.before.before) _ c.names-names.ensures c.if-names-number.false _ c.room_in-most.ensures
+    c.if-most-children.false in
     completed (adding a.name.0) a.self a.trail.now _ e c.done.ensures
 
 pub add_spec : {M : Type 1} → statement M
