@@ -89,8 +89,7 @@ module _ (x : Text) (p q : ℕ) where
             both_go,
             e,
             le-ltb (get_or x p 0) (get_or x q 0) (omega (arith, ltb-true (get_or x q 0) (get_or x p 0) e)),
-            ne_eqb (get_or x p 0)
-                (get_or x q 0) n,
+            ne_eqb (get_or x p 0) (get_or x q 0) n,
           ))
           (λ e. rw (both_go, e, lt-ltb (get_or x p 0) (get_or x q 0) (omega (arith, ltb-false (get_or x q 0) (get_or x p 0) e, n))))
 

@@ -73,8 +73,7 @@ returns c =
       arith,
       c.word_length.ensures,
       c.number_length.ensures,
-      line-length c.args.said (three (first_fields-ends-of-number_length c))
-          (children-are c.before.before.before),
+      line-length c.args.said (three (first_fields-ends-of-number_length c)) (children-are c.before.before.before),
     )
 
 pub line_length_spec : {M : Type 1} → statement M

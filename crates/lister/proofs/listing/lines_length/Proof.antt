@@ -73,8 +73,7 @@ returns : tie.Need-returns invariant-loop decreases-loop
 returns c =
     let done = ap length (coded-end c.args.codes.now c.loop-at.invariant.0 c.loop-at-test.false) in (
       omega (arith, c.loop-at.invariant.2, done),
-      omega
-          (arith, c.loop-at.invariant.3, c.loop-at.invariant.0.below, c.loop-at.invariant.0.good.short, c.loop-at.invariant.0.stand.within),
+      omega (arith, c.loop-at.invariant.3, c.loop-at.invariant.0.below, c.loop-at.invariant.0.good.short, c.loop-at.invariant.0.stand.within),
     )
 
 pub lines_length_spec : {M : Type 1} → statement M

@@ -85,8 +85,7 @@ returns-2 c =
     let a = c.args in
     let x = listing_coded a.codes.now a.cues.now in (
       room-enough x (size (lines_length-above-of-slice_known-3 c)) (length a.buffer.now) c.if-buffer-length.false,
-      buffer-written x
-          (size (lines_length-above-of-slice_known-3 c)) (written c.before.before),
+      buffer-written x (size (lines_length-above-of-slice_known-3 c)) (written c.before.before),
     )
 
 pub write_listing_spec : {M : Type 1} → statement M

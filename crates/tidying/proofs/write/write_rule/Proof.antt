@@ -80,8 +80,7 @@ returns c =
       arith,
       room (first_fields-ends-of-slice_known-4 c),
       put-ends (head-is (put-head-of-slice_known-4 c)),
-      put-ends
-          c.put_model-model.ensures,
+      put-ends c.put_model-model.ensures,
       put-ends both,
     )) c.put.ensures.0
     c.put.ensures.1))
