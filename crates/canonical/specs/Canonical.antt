@@ -12,7 +12,7 @@ pub mod Accepted
 pub mod Held
 pub mod Reply
 use mathlib.Core.{Path.◌≡◌, Bool.cond, List.List, List.◌++◌}
-use Rattle.std.specs.Prelude.{ℕ, ◌≤◌, ◌<◌}
+use Rattle.std.specs.Prelude.{ℕ, ◌≤◌, ◌<◌, Result, Ok, Err}
 use lib.{Dec.leb, ListN.length, ListN.drop}
 use Rattle.fields.specs.Bytes.{Text}
 use Rattle.model.specs.{Types.Holds, Model.model_of, Model.type_of, Flatten.flatten}
@@ -20,9 +20,8 @@ use Rattle.judge.specs.Answer.{answer}
 use Rattle.model.specs.Fault.{Answer, Answers, refused, accepted, model_number}
 use Rattle.model.specs.Syntax.{Syntax, text, written_names}
 use Rattle.judge.specs.Named.{row_of}
-use Rattle.canonical.specs.{declared.fault.WriteFault.WriteFault, declared.write.Written.Written, Tidy.tidy, Order.order}
+use Rattle.canonical.specs.{declared.fault.WriteFault.WriteFault, declared.fault.Unwritten.Unwritten, Tidy.tidy, Order.order}
 use Rattle.canonical.specs.declared.fault.WriteFault.TheVariants.{Model, LongText}
-use Rattle.canonical.specs.declared.write.Written.TheVariants.{Length, Refused}
 
 -- flattened as in W3; counts and marks in one way; members in order
 abbrev pub canonical : Syntax → Syntax
@@ -56,9 +55,12 @@ abbrev pub write_reply : Text → ℕ → WriteReply
 write_reply x k = write_by (answer x) k
 
 -- as `write_model` hands it back
-abbrev pub written_of : WriteReply → Written
-written_of (wrote y) = Length (length y)
-written_of (refused_write f p) = Refused f p
+abbrev pub unwritten : WriteFault → ℕ → Unwritten
+unwritten f p = record { fault = f; place = p }
+
+abbrev pub written_of : WriteReply → Result ℕ Unwritten
+written_of (wrote y) = Ok (length y)
+written_of (refused_write f p) = Err (unwritten f p)
 
 -- the buffer at exit: the text, then the bytes as they were; or all as they were
 abbrev pub buffer_written : WriteReply → Text → Text

@@ -1,6 +1,6 @@
 -- What the proofs of the writer's code need. No promise names a definition below.
 --   Place      names, counts, atoms and trees at a place of a model text
---   Head       what is kept of a tree as one number
+--   Head       what the head of a tree tells of it
 --   Put        a byte of what was put is put anew
 --   Tidied     what the code makes of a tidied tree and of a group's members, step by step
 --   Keeps          what it knows of them

@@ -1,6 +1,6 @@
 // The atoms of a model text: as they stand, and as they are written.
 
-ghost use Rattle.std.specs.Prelude.{◌≡◌, ◌+◌, ◌-◌, ◌≤◌, length, take, drop};
+ghost use Rattle.std.specs.Prelude.{◌≡◌, ◌+◌, ◌≤◌, length};
 ghost use Rattle.fields.specs.Put.{Put};
 ghost use Rattle.canonical.specs.Writer.Place.{behind_name, kept_end, piece_at};
 
@@ -13,20 +13,10 @@ pub(crate) fn kept_end(text: &[u8], at: usize, name: usize) -> usize
     ensures { result ≡ kept_end text.now at }
 {
     let end = count_end(text, name);
-    if end == name + 6 {
-        if (text[name + 1] <= b'1') & (text[name + 4] == b'1') {
-            return name;
-        }
+    if end == name + 6 && text[name + 1] <= b'1' && text[name + 4] == b'1' {
+        return name;
     }
     end
-}
-
-// Writes the bytes from `at` to `end`.
-fn copy_part(text: &[u8], buffer: &mut [u8], at: usize, end: usize, to: usize) -> usize
-    requires { (at ≤ end) × (end ≤ length text.now) × (to + (end - at) ≤ length buffer.old) }
-    ensures { Put buffer.old buffer.new to (take (end - at) (drop at text.now)) result }
-{
-    put(buffer, to, &text[at..end])
 }
 
 // Writes the atom at `at`; a lower count of 0 is written as 1.
@@ -36,12 +26,9 @@ pub(crate) fn put_atom(text: &[u8], buffer: &mut [u8], at: usize, to: usize) -> 
 {
     let name = name_end(text, at);
     let end = kept_end(text, at, name);
-    let next = copy_part(text, buffer, at, end, to);
-    if name + 1 < end {
-        if text[name + 1] == b'0' {
-            buffer[to + (name + 1 - at)] = b'1';
-            return next;
-        }
+    let next = put(buffer, to, &text[at..end]);
+    if name + 1 < end && text[name + 1] == b'0' {
+        buffer[to + (name + 1 - at)] = b'1';
     }
     next
 }

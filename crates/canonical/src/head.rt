@@ -1,45 +1,70 @@
-// What the writer keeps of a tree: one number each, in an array that is lent.
+// What the writer keeps of a tree, on a stack in an array that is lent.
 
 ghost use Rattle.std.specs.Prelude.{◌≡◌};
-ghost use Rattle.canonical.specs.Writer.Head.{head_in};
+ghost use Rattle.canonical.specs.Writer.{Head.is_nothing, Head.is_atom, Head.is_group, Head.sign_of, Keeps.sign_byte};
 
-use model::mark::{MARK_PLACE, mark_number, numbered_mark};
-use model::rule::Mark;
+use model::rule::{Mark, Sign};
 
-// What stands for the sign: of an atom, and of `()` or a group of which no sign is known yet.
-pub(crate) const ATOM: u8 = 1;
+// `()`, and a group of which no sign is known yet, is a group without a sign.
+#[derive(Clone, Copy)]
+pub(crate) enum Shape {
+    Group(Sign),
+    Atom,
+}
 
-pub(crate) const NO_SIGN: u8 = 0;
+impl Shape {
+    // A group without a sign?
+    pub(crate) fn is_nothing(self) -> bool
+        ensures { result ≡ is_nothing self }
+    {
+        self.is_group(Sign::None)
+    }
 
-// `sign` is the byte of a group's sign, or ATOM; `size` is the number of nodes; the smallest name begins at `least`.
+    pub(crate) fn is_group(self, sign: Sign) -> bool
+        ensures { result ≡ is_group sign self }
+    {
+        match self {
+            Shape::Group(own) => sign == own,
+            Shape::Atom => false,
+        }
+    }
+
+    pub(crate) fn is_atom(self) -> bool
+        ensures { result ≡ is_atom self }
+    {
+        matches!(self, Shape::Atom)
+    }
+
+    // The byte that stands for the sign, 0 where there is none.
+    pub(crate) fn byte(self) -> u8
+        ensures { result ≡ sign_byte (sign_of self) }
+    {
+        match self {
+            Shape::Group(Sign::Sequence) => b',',
+            Shape::Group(Sign::Choice) => b'|',
+            Shape::Group(Sign::Interleaving) => b'&',
+            Shape::Group(Sign::None) | Shape::Atom => 0,
+        }
+    }
+}
+
+// `nullable`: it holds the empty row without its mark; `size` is the number of nodes; the smallest name begins at `least`.
 #[derive(Clone, Copy)]
 pub(crate) struct Head {
-    pub(crate) sign: u8,
+    pub(crate) shape: Shape,
     pub(crate) mark: Mark,
+    pub(crate) nullable: bool,
     pub(crate) members: u8,
     pub(crate) size: u8,
     pub(crate) least: u16,
 }
 
-pub(crate) fn packed(head: Head) -> u64
-    ensures { head_in result ≡ head }
-{
-    let mark = head.mark;
-    let number = mark_number(mark);
-    ((head.least as u64) * 256 + (head.size as u64)) * 65536
-        + (head.members as u64) * 256
-        + (head.sign as u64)
-        + number * MARK_PLACE
-}
-
-pub(crate) fn unpacked(word: u64) -> Head
-    ensures { result ≡ head_in word }
-{
-    Head {
-        sign: (word % 256) as u8,
-        mark: numbered_mark(word / MARK_PLACE % 4),
-        members: (word / 256 % 256) as u8,
-        size: (word / 65536 % 256) as u8,
-        least: (word / 16777216 % 65536) as u16,
-    }
-}
+// Of no tree.
+pub(crate) const NO_HEAD: Head = Head {
+    shape: Shape::Group(Sign::None),
+    mark: Mark::Plain,
+    nullable: false,
+    members: 0,
+    size: 0,
+    least: 0,
+};

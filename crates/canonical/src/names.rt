@@ -6,22 +6,18 @@ ghost use Rattle.model.specs.Fault.{name_from};
 ghost use Rattle.canonical.specs.{Order.not_after, Writer.Place.behind_name, Writer.Place.behind_count};
 
 use fields::bytes::is_inner;
-use fields::limits::lesser;
 
 // Where the name ends that begins at `at`.
 pub(crate) fn name_end(text: &[u8], at: usize) -> usize
     requires { at ≤ length text.now }
     ensures { result ≡ behind_name text.now at }
 {
-    let mut i = at;
-    while i < text.len() {
-        if is_inner(text[i]) {
-            i += 1;
-        } else {
+    for i in at..text.len() {
+        if !is_inner(text[i]) {
             return i;
         }
     }
-    i
+    text.len()
 }
 
 // Behind the count at `at`; `at` itself where there is none.
@@ -29,21 +25,15 @@ pub(crate) fn count_end(text: &[u8], at: usize) -> usize
     requires { at ≤ length text.now }
     ensures { result ≡ behind_count text.now at }
 {
-    if at == text.len() {
+    if text.get(at) != Some(&b'[') {
         return at;
     }
-    if text[at] != b'[' {
-        return at;
-    }
-    let mut i = at;
-    while i < text.len() {
-        let b = text[i];
-        i += 1;
-        if b == b']' {
-            return i;
+    for i in at..text.len() {
+        if text[i] == b']' {
+            return i + 1;
         }
     }
-    i
+    text.len()
 }
 
 // Does the name from a to `end` come after the name at b, in byte order?
@@ -51,18 +41,16 @@ pub(crate) fn is_after(text: &[u8], a: usize, end: usize, b: usize) -> bool
     requires { (a ≤ length text.now) × (end ≡ behind_name text.now a) × (b ≤ length text.now) }
     ensures { result ≡ not (not_after (name_from text.now a) (name_from text.now b)) }
 {
-    let most = lesser(end - a, text.len() - b);
-    let mut i: usize = 0;
-    while i < most {
+    let length = end - a;
+    let most = length.min(text.len() - b);
+    for i in 0..most {
         let c = text[a + i];
         let d = text[b + i];
         if c != d {
             // the name at b may have ended
-            let inner = is_inner(d);
-            return (d < c) | !inner;
+            return d < c || !is_inner(d);
         }
-        i += 1;
     }
     // where the text ended first, the name at a goes on
-    i < end - a
+    most < length
 }

@@ -5,26 +5,20 @@ ghost use Rattle.fields.specs.Limits.{max_nodes};
 ghost use Rattle.model.specs.Syntax.{Spelling};
 ghost use Rattle.canonical.specs.Writer.Place.{AtomAt};
 ghost use Rattle.canonical.specs.Tidy.{fitting};
-ghost use Rattle.canonical.specs.Writer.Tidied.{remarked_by, head_of, placed_at, marking_by, stripped_by, zero_between, count_mark, atom_by, nothing_by};
-ghost use Rattle.canonical.specs.Writer.Tidied.{no_members, holds_empty, noted_by, least_by, nullable_by, FitsOn, added_by, StackedBy, grouped_by};
+ghost use Rattle.canonical.specs.Writer.Tidied.{remarked_by, placed_at, marking_by, stripped_by, zero_between, count_mark, atom_by, nothing_by};
+ghost use Rattle.canonical.specs.Writer.Tidied.{no_members, holds_empty, noted_by, least_by, nullable_by, FitsOn, added_by, stacked_by, grouped_by};
 ghost use Rattle.canonical.specs.Writer.Tidied.{group_closed_by, marked_by, sign_after, member_after};
 ghost use Rattle.canonical.specs.Writer.Recursion.{TidyReady, Tidies};
 
-use crate::head::{ATOM, Head, NO_SIGN, packed};
+use crate::head::{Head, NO_HEAD, Shape};
 use crate::names::{count_end, is_after, name_end};
 use model::mark::{is_plain, mark_at};
-use model::rule::{MAX_NODES, Mark};
+use model::rule::{MAX_NODES, Mark, Sign};
 
-// A tidied tree: what a head holds of it, with NO_SIGN for `()`; whether it holds the empty row without its mark; from where on the stack holds its
-// members, the last first; and where the text goes on behind it.
+// A tidied tree: its head; from where on the stack holds its members, the last first; and where the text goes on behind it.
 #[derive(Clone, Copy)]
 pub(crate) struct Tidied {
-    pub(crate) sign: u8,
-    pub(crate) mark: Mark,
-    pub(crate) nullable: bool,
-    pub(crate) members: u8,
-    pub(crate) size: u8,
-    pub(crate) least: u16,
+    pub(crate) head: Head,
     pub(crate) top: usize,
     pub(crate) next: usize,
 }
@@ -47,27 +41,8 @@ fn remarked(t: Tidied, mark: Mark) -> Tidied
     ensures { result ≡ remarked_by mark t }
 {
     Tidied {
-        sign: t.sign,
-        mark: mark,
-        nullable: t.nullable,
-        members: t.members,
-        size: t.size,
-        least: t.least,
-        top: t.top,
-        next: t.next,
-    }
-}
-
-pub(crate) fn head_of(t: Tidied) -> Head
-    ensures { result ≡ head_of t }
-{
-    let mark = t.mark;
-    Head {
-        sign: t.sign,
-        mark: mark,
-        members: t.members,
-        size: t.size,
-        least: t.least,
+        head: Head { mark, ..t.head },
+        ..t
     }
 }
 
@@ -75,17 +50,7 @@ pub(crate) fn head_of(t: Tidied) -> Head
 fn placed(t: Tidied, top: usize, next: usize) -> Tidied
     ensures { result ≡ placed_at top next t }
 {
-    let mark = t.mark;
-    Tidied {
-        sign: t.sign,
-        mark: mark,
-        nullable: t.nullable,
-        members: t.members,
-        size: t.size,
-        least: t.least,
-        top: top,
-        next: next,
-    }
+    Tidied { top, next, ..t }
 }
 
 // A mark, or none where it changes nothing.
@@ -93,17 +58,9 @@ fn fitting(mark: Mark, nullable: bool) -> Mark
     ensures { result ≡ fitting mark nullable }
 {
     match mark {
-        Mark::Plain => Mark::Plain,
-        Mark::Optional => if nullable {
-            Mark::Plain
-        } else {
-            Mark::Optional
-        },
-        Mark::Nonempty => if nullable {
-            Mark::Nonempty
-        } else {
-            Mark::Plain
-        },
+        Mark::Optional if nullable => Mark::Plain,
+        Mark::Nonempty if !nullable => Mark::Plain,
+        _ => mark,
     }
 }
 
@@ -111,30 +68,28 @@ fn fitting(mark: Mark, nullable: bool) -> Mark
 fn marking(t: Tidied, mark: Mark) -> Tidied
     ensures { result ≡ marking_by mark t }
 {
-    let plain = is_plain(mark);
-    if plain | (t.sign == NO_SIGN) {
+    if is_plain(mark) || t.head.shape.is_nothing() {
         t
     } else {
-        remarked(t, fitting(mark, t.nullable))
+        remarked(t, fitting(mark, t.head.nullable))
     }
 }
 
 fn holds_empty(t: Tidied) -> bool
     ensures { result ≡ holds_empty t }
 {
-    let mark = t.mark;
-    match mark {
-        Mark::Plain => t.nullable,
+    match t.head.mark {
+        Mark::Plain => t.head.nullable,
         Mark::Optional => true,
         Mark::Nonempty => false,
     }
 }
 
 // A member of a group with the sign: in a choice it goes without the empty row.
-fn stripped(t: Tidied, sign: u8) -> Tidied
+fn stripped(t: Tidied, sign: Sign) -> Tidied
     ensures { result ≡ stripped_by sign t }
 {
-    if sign == b'|' {
+    if sign == Sign::Choice {
         marking(t, Mark::Nonempty)
     } else {
         t
@@ -146,12 +101,11 @@ fn count_mark(text: &[u8], name: usize, end: usize) -> Mark
     requires { (name ≤ end) × (end ≤ length text.now) }
     ensures { result ≡ count_mark (zero_between text.now name end) }
 {
-    if name + 1 < end {
-        if text[name + 1] == b'0' {
-            return Mark::Optional;
-        }
+    if name + 1 < end && text[name + 1] == b'0' {
+        Mark::Optional
+    } else {
+        Mark::Plain
     }
-    Mark::Plain
 }
 
 // The atom that begins at `at`.
@@ -161,15 +115,17 @@ fn atom(text: &[u8], at: usize, top: usize) -> Tidied
 {
     let name = name_end(text, at);
     let end = count_end(text, name);
-    let mark = count_mark(text, name, end);
-    Tidied {
-        sign: ATOM,
-        mark: mark,
+    let head = Head {
+        shape: Shape::Atom,
+        mark: count_mark(text, name, end),
         nullable: false,
         members: 0,
         size: 1,
         least: at as u16,
-        top: top,
+    };
+    Tidied {
+        head,
+        top,
         next: end,
     }
 }
@@ -178,16 +134,12 @@ fn atom(text: &[u8], at: usize, top: usize) -> Tidied
 fn nothing(top: usize, next: usize) -> Tidied
     ensures { result ≡ nothing_by top next }
 {
-    Tidied {
-        sign: NO_SIGN,
-        mark: Mark::Plain,
+    let head = Head {
         nullable: true,
-        members: 0,
         size: 1,
-        least: 0,
-        top: top,
-        next: next,
-    }
+        ..NO_HEAD
+    };
+    Tidied { head, top, next }
 }
 
 fn no_members(top: usize) -> Gathered
@@ -200,7 +152,7 @@ fn no_members(top: usize) -> Gathered
         nullable: true,
         size: 0,
         least: 0,
-        top: top,
+        top,
     }
 }
 
@@ -208,16 +160,9 @@ fn no_members(top: usize) -> Gathered
 fn noted(g: Gathered, t: Tidied) -> Gathered
     ensures { result ≡ noted_by t g }
 {
-    let last = g.last;
-    let given = holds_empty(t);
     Gathered {
-        last: last,
-        given: g.given | given,
-        members: g.members,
-        nullable: g.nullable,
-        size: g.size,
-        least: g.least,
-        top: g.top,
+        given: g.given || holds_empty(t),
+        ..g
     }
 }
 
@@ -229,8 +174,9 @@ fn least_with(text: &[u8], members: u8, least: u16, at: u16) -> u16
     if members == 0 {
         return at;
     }
-    let end = name_end(text, least as usize);
-    if is_after(text, least as usize, end, at as usize) {
+    let place = usize::from(least);
+    let end = name_end(text, place);
+    if is_after(text, place, end, usize::from(at)) {
         at
     } else {
         least
@@ -238,71 +184,70 @@ fn least_with(text: &[u8], members: u8, least: u16, at: u16) -> u16
 }
 
 // Whether the empty row is held, with a member more: of a choice one has to hold it, of another group each.
-fn nullable_with(members: u8, sign: u8, nullable: bool, own: bool) -> bool
+fn nullable_with(members: u8, sign: Sign, nullable: bool, own: bool) -> bool
     ensures { result ≡ nullable_by members sign nullable own }
 {
     if members == 0 {
-        return own;
-    }
-    if sign == b'|' {
-        nullable | own
+        own
+    } else if sign == Sign::Choice {
+        nullable || own
     } else {
-        nullable & own
+        nullable && own
     }
 }
 
 // One member more for a group of the sign: `()` is dropped, and an unmarked group of the same sign joins.
-fn added(text: &[u8], stack: &mut [u64; MAX_NODES], g: Gathered, sign: u8, t: Tidied) -> Gathered
+fn added(text: &[u8], stack: &mut [Head; MAX_NODES], g: Gathered, sign: Sign, t: Tidied) -> Gathered
     requires { FitsOn text.now stack.old g t }
     ensures value { result ≡ added_by text.now g sign t }
-    ensures stacked_by { StackedBy stack.old stack.new sign t }
+    ensures stack_after { stack.new ≡ stacked_by stack.old sign t }
 {
-    if t.sign == NO_SIGN {
+    if t.head.shape.is_nothing() {
         return g;
     }
-    let own = holds_empty(t);
-    let nullable = nullable_with(g.members, sign, g.nullable, own);
-    let least = least_with(text, g.members, g.least, t.least);
-    let mark = t.mark;
-    let plain = is_plain(mark);
-    if (t.sign == sign) & plain {
+    let nullable = nullable_with(g.members, sign, g.nullable, holds_empty(t));
+    let least = least_with(text, g.members, g.least, t.head.least);
+    if t.head.shape.is_group(sign) && is_plain(t.head.mark) {
         return Gathered {
             last: t,
-            given: g.given,
-            members: g.members + t.members,
-            nullable: nullable,
-            size: g.size + (t.size - 1),
-            least: least,
+            members: g.members + t.head.members,
+            nullable,
+            size: g.size + (t.head.size - 1),
+            least,
             top: t.top,
+            ..g
         };
     }
     let top = t.top - 1;
-    let head = head_of(t);
-    stack[top] = packed(head);
+    stack[top] = t.head;
     Gathered {
         last: t,
-        given: g.given,
         members: g.members + 1,
-        nullable: nullable,
-        size: g.size + t.size,
-        least: least,
-        top: top,
+        nullable,
+        size: g.size + t.head.size,
+        least,
+        top,
+        ..g
     }
 }
 
 // One member more as it was tidied: a choice takes it without the empty row.
-fn gather(text: &[u8], stack: &mut [u64; MAX_NODES], g: Gathered, sign: u8, t: Tidied) -> Gathered
+fn gather(
+    text: &[u8],
+    stack: &mut [Head; MAX_NODES],
+    g: Gathered,
+    sign: Sign,
+    t: Tidied,
+) -> Gathered
     requires { FitsOn text.now stack.old (noted_by t g) (stripped_by sign t) }
     ensures value { result ≡ added_by text.now (noted_by t g) sign (stripped_by sign t) }
-    ensures stacked_by { StackedBy stack.old stack.new sign (stripped_by sign t) }
+    ensures stack_after { stack.new ≡ stacked_by stack.old sign (stripped_by sign t) }
 {
-    let h = noted(g, t);
-    let u = stripped(t, sign);
-    added(text, stack, h, sign, u)
+    added(text, stack, noted(g, t), sign, stripped(t, sign))
 }
 
 // A group of no members is `()`, and a group of one dissolves.
-fn grouped(g: Gathered, sign: u8, next: usize) -> Tidied
+fn grouped(g: Gathered, sign: Sign, next: usize) -> Tidied
     requires { (g.top ≤ max_nodes) × (g.size ≤ max_nodes) }
     ensures { result ≡ grouped_by g sign next }
 {
@@ -310,28 +255,30 @@ fn grouped(g: Gathered, sign: u8, next: usize) -> Tidied
         return nothing(g.top, next);
     }
     if g.members == 1 {
-        let only = g.last;
-        return placed(only, g.top + 1, next);
+        return placed(g.last, g.top + 1, next);
     }
-    Tidied {
-        sign: sign,
+    let head = Head {
+        shape: Shape::Group(sign),
         mark: Mark::Plain,
         nullable: g.nullable,
         members: g.members,
         size: g.size + 1,
         least: g.least,
+    };
+    Tidied {
+        head,
         top: g.top,
-        next: next,
+        next,
     }
 }
 
 // A choice of which a member held the empty row gets a `?`.
-fn closed(g: Gathered, sign: u8, next: usize) -> Tidied
+fn closed(g: Gathered, sign: Sign, next: usize) -> Tidied
     requires { (g.top ≤ max_nodes) × (g.size ≤ max_nodes) }
     ensures { result ≡ group_closed_by g sign next }
 {
     let t = grouped(g, sign, next);
-    if (sign == b'|') & g.given {
+    if sign == Sign::Choice && g.given {
         marking(t, Mark::Optional)
     } else {
         t
@@ -342,20 +289,23 @@ fn closed(g: Gathered, sign: u8, next: usize) -> Tidied
 fn with_mark(text: &[u8], t: Tidied) -> Tidied
     ensures { result ≡ marked_by text.now t }
 {
-    let at = t.next;
-    let mark = mark_at(text, at);
+    let mark = mark_at(text, t.next);
     if is_plain(mark) {
         return t;
     }
-    let u = marking(t, mark);
-    placed(u, t.top, at + 1)
+    placed(marking(t, mark), t.top, t.next + 1)
 }
 
 // The sign of a group, by the byte behind a member: `)` tells none.
-fn sign_by(sign: u8, behind: u8) -> u8
+fn sign_by(sign: Sign, behind: u8) -> Sign
     ensures { result ≡ sign_after sign behind }
 {
-    if behind == b')' { sign } else { behind }
+    match behind {
+        b',' => Sign::Sequence,
+        b'|' => Sign::Choice,
+        b'&' => Sign::Interleaving,
+        _ => sign,
+    }
 }
 
 // Where the next member begins, by the byte at `next` behind a member; a `)` ends the group.
@@ -367,25 +317,22 @@ fn member_by(next: usize, behind: u8) -> usize
 }
 
 // The tree that begins at `at`.
-pub(crate) fn tidy(text: &[u8], stack: &mut [u64; MAX_NODES], at: usize, top: usize) -> Tidied
+pub(crate) fn tidy(text: &[u8], stack: &mut [Head; MAX_NODES], at: usize, top: usize) -> Tidied
     requires { TidyReady text.now stack.old at top }
     ensures { Tidies text.now stack.old stack.new at top result }
 {
     if text[at] != b'(' {
-        let a = atom(text, at, top);
-        return with_mark(text, a);
+        return with_mark(text, atom(text, at, top));
     }
     let mut g = no_members(top);
-    let mut sign: u8 = NO_SIGN;
+    let mut sign = Sign::None;
     let mut p = at + 1;
     while text[p] != b')' {
         let t = tidy(text, stack, p, g.top);
-        let next = t.next;
-        let behind = text[next];
+        let behind = text[t.next];
         sign = sign_by(sign, behind);
-        p = member_by(next, behind);
+        p = member_by(t.next, behind);
         g = gather(text, stack, g, sign, t);
     }
-    let t = closed(g, sign, p + 1);
-    with_mark(text, t)
+    with_mark(text, closed(g, sign, p + 1))
 }

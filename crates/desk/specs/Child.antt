@@ -8,8 +8,7 @@ use lib.{Dec.T, ListN.length, ListN.take, ListN.drop, ListN.get_or}
 use mir.Mem.{Loc}
 use Rattle.fields.specs.Bytes.{Text}
 use Rattle.model.specs.{Syntax.Syntax, Syntax.written_names, Syntax.number_in, Fault.name_at, Fault.name_from, Fault.places}
-use Rattle.desk.specs.{declared.child.Located.Located, Desk.reply_number}
-use Rattle.desk.specs.declared.child.Located.TheVariants.{InModel, InChildren, ModelRefused, ChildrenRefused}
+use Rattle.desk.specs.Desk.{reply_number}
 use Rattle.judge.specs.Reply.{children_in, child, Reply, model_refused, children_refused, good, Replies, reply}
 
 -- a part of one of the two texts: its first place and its length
@@ -82,10 +81,3 @@ pub record Hands (m c : Text) (k : ℕ) (model children : Loc) (bytes : Text) (p
   pub text_is : place.0 ≡ text_of (child_part m c k) model.0 children.0
   pub start_is : place.1 ≡ text_of (child_part m c k) model.1 children.1 + start_of (child_part m c k)
   pub bytes_are : bytes ≡ bytes_of (child_part m c k) m c
-
--- as the code hands it on
-abbrev pub located : Reply Part → Located
-located (model_refused f) = ModelRefused f
-located (children_refused f) = ChildrenRefused f
-located (good (of_model p n)) = InModel p n
-located (good (of_children p n)) = InChildren p n

@@ -1,12 +1,12 @@
 -- The numbers that the desk's functions hand to C: document 01, "Desk and layers", and document 02, W1, W2 and W4.
 pub mod Laws
-use Rattle.std.specs.Prelude.{ℕ, ◌+◌, ◌<◌, length}
+use Rattle.std.specs.Prelude.{ℕ, ◌+◌, ◌<◌, length, Option, Some, None}
 use Rattle.fields.specs.{Bytes.Text, Children.cue_number, Limits.max_row}
 use Rattle.model.specs.{declared.verdict.Verdict.Verdict, Word.Word, Fault.model_number}
 use Rattle.model.specs.declared.verdict.Verdict.TheVariants.{Complete, Open, Dead}
 use Rattle.judge.specs.{Row.judge_number, Next.NextReply, Next.next_listed, Next.next_refused, Next.children_next, Next.children_row_after}
-use Rattle.judge.specs.{declared.verdict.FirstFault.FirstFault, FirstFault.children_fault}
-use Rattle.judge.specs.declared.verdict.FirstFault.TheVariants.{At, Nothing}
+use Rattle.judge.specs.FirstFault.{children_fault}
+use Rattle.judge.specs.declared.fault.TextFault.{TextFault, TheVariants.Model, TheVariants.Children}
 use Rattle.canonical.specs.Canonical.{WriteReply, wrote, refused_write, write_reply, write_number, buffer_written}
 use Rattle.judge.specs.Reply.{Reply, model_refused, children_refused, good, children_reply}
 
@@ -15,6 +15,10 @@ abbrev pub reply_number : {A : Type 0} → (A → ℕ) → Reply A → ℕ
 reply_number n (model_refused f) = model_number f
 reply_number n (children_refused f) = cue_number f
 reply_number n (good v) = n v
+
+abbrev pub text_number : TextFault → ℕ
+text_number (Model f) = model_number f
+text_number (Children f) = cue_number f
 
 abbrev pub verdict_number : Verdict → ℕ
 verdict_number Complete = 0
@@ -48,19 +52,19 @@ abbrev pub desk_row : Text → Text → Word → Word
 desk_row m c lent = children_row_after (children_next m c (length lent)) lent
 
 -- the place of the first child that is foreign or one too many of its name, or that there is none
-abbrev pub fault_number : FirstFault → ℕ
-fault_number (At p) = p
-fault_number Nothing = 65535
+abbrev pub fault_number : Option ℕ → ℕ
+fault_number (Some p) = p
+fault_number None = 65535
 
 abbrev pub desk_fault : Text → Text → ℕ
 desk_fault m c = based_number fault_number (children_fault m c)
 
 -- a reply whose place, if it has one, is that of one of 4,096 children
-abbrev pub PlaceFits : Reply FirstFault → Type 0
+abbrev pub PlaceFits : Reply (Option ℕ) → Type 0
 PlaceFits (model_refused f) = Unit {0}
 PlaceFits (children_refused f) = Unit {0}
-PlaceFits (good (At p)) = p < max_row
-PlaceFits (good Nothing) = Unit {0}
+PlaceFits (good (Some p)) = p < max_row
+PlaceFits (good None) = Unit {0}
 
 -- how long the text is that was written, or the refusal (document 02, W4)
 abbrev pub write_reply_number : WriteReply → ℕ

@@ -1,10 +1,10 @@
 -- The ends: what the desk's promises come to. Each proof is a citation.
 use mathlib.Core.{Path.◌≡◌, Logic.◌↔◌}
-use Rattle.std.specs.Prelude.{ℕ, ◌<◌}
+use Rattle.std.specs.Prelude.{ℕ, ◌<◌, Option}
 use Rattle.model.specs.{declared.verdict.Verdict.Verdict, Word.Word}
 use Rattle.fields.specs.Bytes.{Text}
 use Rattle.judge.specs.{Reply.Reply, Reply.good, Reply.ChildrenJudges, Next.NextReply, Next.next_listed, Next.ChildrenNextStands, Next.children_next}
-use Rattle.judge.specs.{declared.verdict.FirstFault.FirstFault, FirstFault.ChildrenFaultStands}
+use Rattle.judge.specs.FirstFault.{ChildrenFaultStands}
 use Rattle.judge.proofs.Ends.{children-next-exactly}
 use Rattle.desk.specs.{Desk.reply_number, Desk.verdict_number, Desk.desk_answer, Desk.refusal_base, Desk.desk_next, Desk.Laws.answer-exactly}
 use Rattle.desk.specs.{Desk.based_number, Desk.fault_number, Desk.desk_fault, Desk.PlaceFits, Desk.Laws.fault-exactly}
@@ -25,7 +25,7 @@ pub desk-next-told : (m c : Text) (k : ℕ) → (desk_next m c k < refusal_base)
 desk-next-told = next-told
 
 -- `desk_first_fault`: its number is that of the one reply by the upper counts, whose place is that of one of 4,096 children; no other such reply has it.
-pub desk-fault-exactly : (m c : Text) (r : Reply FirstFault)
+pub desk-fault-exactly : (m c : Text) (r : Reply (Option ℕ))
     → ((desk_fault m c ≡ based_number fault_number r) × PlaceFits r) ↔ ChildrenFaultStands m c r
 desk-fault-exactly = fault-exactly
 

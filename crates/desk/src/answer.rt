@@ -1,20 +1,19 @@
 // The numbers that the desk answers.
 
-ghost use Rattle.std.specs.Prelude.{◌≡◌, length};
-ghost use Rattle.desk.specs.Desk.{verdict_number, desk_answer, desk_next, desk_row, desk_fault, desk_canonical, desk_text};
+ghost use Rattle.std.specs.Prelude.{◌≡◌, ◌+◌, ◌<◌, length};
+ghost use Rattle.desk.specs.Desk.{verdict_number, text_number, refusal_base, desk_answer, desk_next, desk_row, desk_fault, desk_canonical, desk_text};
 
 use canonical::fault::write_number;
-use canonical::write::{Written, write_model};
+use canonical::write::write_model;
 use fields::fault::cue_number;
-use judge::fault::judge_number;
+use judge::fault::{NextFault, TextFault, judge_number};
 use judge::first_fault::search_children;
 use judge::next::next_children;
 use judge::reply::judge_children;
-use judge::verdict::{ChildrenJudged, ChildrenNext, ChildrenSearched, FirstFault, Next};
 use model::fault::model_number;
 use model::verdict::Verdict;
 
-// A refusal's number has this added where the answer is else a length or a place.
+// Added to a refusal's number where the answer is else a length or a place.
 const REFUSED: u32 = 2147483648;
 
 // No place is as large.
@@ -30,14 +29,29 @@ fn verdict_number(verdict: Verdict) -> u32
     }
 }
 
+pub(crate) fn text_number(fault: TextFault) -> u32
+    ensures { result ≡ text_number fault }
+{
+    match fault {
+        TextFault::Model(f) => model_number(f),
+        TextFault::Children(f) => cue_number(f),
+    }
+}
+
+fn refused(number: u32) -> u32
+    requires { number < refusal_base }
+    ensures { result ≡ refusal_base + number }
+{
+    REFUSED + number
+}
+
 // 0 complete, 1 open, 2 dead; or the refusal of the model text, 10 to 19, then of the children text, 30, 35, 36.
 pub fn desk_judge(model: &[u8], children: &[u8]) -> u32
     ensures { result ≡ desk_answer model.now children.now }
 {
     match judge_children(model, children) {
-        ChildrenJudged::Verdict(v) => verdict_number(v),
-        ChildrenJudged::ModelRefused(f) => model_number(f),
-        ChildrenJudged::ChildrenRefused(f) => cue_number(f),
+        Ok(verdict) => verdict_number(verdict),
+        Err(fault) => text_number(fault),
     }
 }
 
@@ -49,12 +63,9 @@ pub fn desk_next(model: &[u8], children: &[u8], row: &mut [u16]) -> u32
     ensures row_after { row.new ≡ desk_row model.now children.now row.old }
 {
     match next_children(model, children, row) {
-        ChildrenNext::Next(next) => match next {
-            Next::Names(n) => n as u32,
-            Next::Refused(f) => REFUSED + judge_number(f),
-        },
-        ChildrenNext::ModelRefused(f) => REFUSED + model_number(f),
-        ChildrenNext::ChildrenRefused(f) => REFUSED + cue_number(f),
+        Ok(count) => count as u32,
+        Err(NextFault::Text(fault)) => refused(text_number(fault)),
+        Err(NextFault::Row(fault)) => refused(judge_number(fault)),
     }
 }
 
@@ -64,12 +75,9 @@ pub fn desk_first_fault(model: &[u8], children: &[u8]) -> u32
     ensures { result ≡ desk_fault model.now children.now }
 {
     match search_children(model, children) {
-        ChildrenSearched::Found(fault) => match fault {
-            FirstFault::At(place) => place as u32,
-            FirstFault::Nothing => NO_FAULT,
-        },
-        ChildrenSearched::ModelRefused(f) => REFUSED + model_number(f),
-        ChildrenSearched::ChildrenRefused(f) => REFUSED + cue_number(f),
+        Ok(Some(place)) => place as u32,
+        Ok(None) => NO_FAULT,
+        Err(fault) => refused(text_number(fault)),
     }
 }
 
@@ -80,7 +88,7 @@ pub fn desk_canonical(model: &[u8], buffer: &mut [u8]) -> u32
     ensures buffer_after { buffer.new ≡ desk_text model.now buffer.old }
 {
     match write_model(model, buffer) {
-        Written::Length(n) => n as u32,
-        Written::Refused(f, _) => REFUSED + write_number(f),
+        Ok(length) => length as u32,
+        Err(unwritten) => refused(write_number(unwritten.fault)),
     }
 }

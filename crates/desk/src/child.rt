@@ -1,102 +1,77 @@
 // Child look-up: the part of a text where a child's name stands.
 
-ghost use Rattle.std.specs.Prelude.{◌≡◌, ◌-◌, ◌≤◌, length};
+ghost use Rattle.std.specs.Prelude.{◌≡◌, ◌-◌, ◌≤◌, length, IfOk, IfErr, OnOk};
 ghost use Rattle.fields.specs.{Limits.max_file, Split.tab, Split.split};
-ghost use Rattle.desk.specs.Child.{start_in, found, located, child_refusal, Hands};
-ghost use Rattle.desk.specs.Child.Code.{ChildReached, asked_of, located_in, located_read};
+ghost use Rattle.judge.specs.Reply.{result_of};
+ghost use Rattle.desk.specs.Child.{found, child_refusal, Hands};
+ghost use Rattle.desk.specs.Child.Code.{ChildReached, HandsField, asked_of};
 
-use fields::children::{Children, count_children};
-use fields::fault::{CueFault, cue_number};
+use crate::answer::text_number;
+use fields::children::count_children;
+use fields::fault::CueFault;
 use fields::limits::MAX_FILE;
 use fields::split::{TAB, part_end};
-use judge::reading::{Names, Outcome, number_of, read_model};
-use model::fault::{ModelFault, model_number};
+use judge::fault::TextFault;
+use judge::reading::{number_of, read_model};
 
-// A first place and a length, in the model text or in the children text; or the refusal.
-#[derive(Clone, Copy)]
-enum Located {
-    InModel(usize, usize),
-    InChildren(usize, usize),
-    ModelRefused(ModelFault),
-    ChildrenRefused(CueFault),
-}
-
-// How many children there are, if child k is one of them; or the refusal.
-fn asked(children: &[u8], k: usize) -> Children
+// Nothing where child k is one of them; else why it is not.
+fn check_child(children: &[u8], k: usize) -> Result<(), CueFault>
     ensures { result ≡ asked_of children.now k }
 {
-    let size = children.len();
-    if MAX_FILE < size {
-        return Children::Refused(CueFault::LongFile);
+    if MAX_FILE < children.len() {
+        return Err(CueFault::LongFile);
     }
-    if size == 0 {
-        return Children::Refused(CueFault::NoChild);
+    if children.is_empty() {
+        return Err(CueFault::NoChild);
     }
-    match count_children(children) {
-        Children::Count(n) => {
-            if (1 <= k) & (k <= n) {
-                return Children::Count(n);
-            }
-            Children::Refused(CueFault::NoChild)
-        }
-        Children::Refused(f) => Children::Refused(f),
+    let count = count_children(children)?;
+    if 1 <= k && k <= count {
+        Ok(())
+    } else {
+        Err(CueFault::NoChild)
     }
 }
 
 // Where child k begins.
 fn child_start(children: &[u8], k: usize) -> usize
     requires { (1 ≤ k) × (k ≤ length (split tab children.now)) × (length children.now ≤ max_file) }
-    ensures { (result ≡ start_in (split tab children.now) (k - 1)) × ChildReached children.now (k - 1) result }
+    ensures { ChildReached children.now (k - 1) result }
 {
-    let last = k - 1;
-    let mut at: usize = 0;
-    let mut i: usize = 0;
-    while i < last {
+    let mut at = 0;
+    for _ in 1..k {
         at = part_end(children, at, TAB) + 1;
-        i += 1;
     }
     at
 }
 
-// The place of the name with this number, or, for 0, the child's own.
-fn name_place(names: Names, number: u16, at: usize, end: usize) -> Located
-    requires { (number ≤ 64) × (at ≤ end) }
-    ensures { result ≡ located_in names number at (end - at) }
+// The part where child k stands.
+fn child_field(children: &[u8], k: usize) -> Result<&[u8], CueFault>
+    ensures part { IfOk result (λ field. HandsField children.now k children.entry.ref_ptr field.now field.ref_ptr) }
+    ensures refusal { IfErr result (λ f. asked_of children.now k ≡ Err f) }
 {
-    if number == 0 {
-        return Located::InChildren(at, end - at);
-    }
-    let i = number as usize - 1;
-    let place = names.places[i];
-    Located::InModel(place.start as usize, place.len as usize)
+    check_child(children, k)?;
+    let at = child_start(children, k);
+    let end = part_end(children, at, TAB);
+    Ok(&children[at..end])
 }
 
-fn locate_read(model: &[u8], names: Names, children: &[u8], k: usize) -> Located
-    ensures { result ≡ located_read model.now names children.now k }
-{
-    match asked(children, k) {
-        Children::Count(_) => {
-            let at = child_start(children, k);
-            let end = part_end(children, at, TAB);
-            let number = number_of(model, names, &children[at..end]);
-            name_place(names, number.0, at, end)
-        }
-        Children::Refused(f) => Located::ChildrenRefused(f),
-    }
-}
-
-fn locate(model: &[u8], children: &[u8], k: usize) -> Located
-    ensures { result ≡ located (found model.now children.now k) }
+// The part that `child` hands back, or the refusal.
+fn locate<'a>(model: &'a [u8], children: &'a [u8], k: usize) -> Result<&'a [u8], TextFault>
+    ensures part { IfOk result (λ part. Hands model.now children.now k model.entry.ref_ptr children.entry.ref_ptr part.now part.ref_ptr) }
+    ensures no_refusal { OnOk result (child_refusal model.now children.now k ≡ 0) }
+    ensures refusal { IfErr result (λ f. result_of (found model.now children.now k) ≡ Err f) }
 {
     let read = read_model(model);
-    let outcome = read.outcome;
-    match outcome {
-        Outcome::Read => {
-            let names = read.names;
-            locate_read(model, names, children, k)
-        }
-        Outcome::Refused(f, _) => Located::ModelRefused(f),
+    read.outcome?;
+    let name = child_field(children, k)?;
+    let number = usize::from(number_of(model, read.names, name).0);
+    if number == 0 {
+        return Ok(name);
     }
+    let place = read.names.places[number - 1];
+    let start = usize::from(place.start);
+    let end = start + usize::from(place.len);
+    Ok(&model[start..end])
 }
 
 // The part of the model text where the name of child k stands, or, for a name that the model lacks, the part of the children text. Where
@@ -105,16 +80,8 @@ pub fn child<'a>(model: &'a [u8], children: &'a [u8], k: usize) -> &'a [u8]
     ensures { Hands model.now children.now k model.entry.ref_ptr children.entry.ref_ptr result.now result.ref_ptr }
 {
     match locate(model, children, k) {
-        Located::InModel(start, len) => {
-            let end = start + len;
-            &model[start..end]
-        }
-        Located::InChildren(start, len) => {
-            let end = start + len;
-            &children[start..end]
-        }
-        Located::ModelRefused(_) => &children[0..0],
-        Located::ChildrenRefused(_) => &children[0..0],
+        Ok(part) => part,
+        Err(_) => &children[..0],
     }
 }
 
@@ -123,9 +90,7 @@ pub fn child_refusal(model: &[u8], children: &[u8], k: usize) -> u32
     ensures { result ≡ child_refusal model.now children.now k }
 {
     match locate(model, children, k) {
-        Located::InModel(_, _) => 0,
-        Located::InChildren(_, _) => 0,
-        Located::ModelRefused(f) => model_number(f),
-        Located::ChildrenRefused(f) => cue_number(f),
+        Ok(_) => 0,
+        Err(fault) => text_number(fault),
     }
 }

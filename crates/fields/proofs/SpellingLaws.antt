@@ -1,12 +1,12 @@
 -- What the tests of neighbouring bytes say of the fields.
-use mathlib.Core.{Path.◌≡◌, Path.refl, Path.sym, Path.◌∙◌, List.List, List.[], List.◌∷◌}
-use Rattle.std.specs.Prelude.{Bool, true, false, cond, not, ◌&&◌, ◌||◌, ℕ, ◌+◌, ◌-◌, ◌<◌}
+use mathlib.Core.{Path.◌≡◌, Path.refl, Path.sym, Path.◌∙◌, List.[], List.◌∷◌}
+use Rattle.std.specs.Prelude.{Bool, cond, ◌&&◌, ℕ, ◌+◌, ◌-◌, ◌<◌}
 use Rattle.std.proofs.Math.Bool.{and_assoc}
 use native.Mathlib.{Omega.arith, Numerals.add-one}
-use lib.{Dec.eqb, ListN.length, ListN.drop, ListN.get_or, Seq.drop-cons, Seq.drop-length}
+use lib.{Dec.eqb, ListN.length, ListN.drop, ListN.get_or, Seq.drop-cons}
 use Rattle.std.proofs.Common.{eqb-true}
 use Rattle.fields.specs.{Tests.by-test, Split.tab, Split.split, Split.Laws.parted}
-use Rattle.fields.specs.Bytes.{Text, is_initial, is_later, is_inner, all, is_name}
+use Rattle.fields.specs.Bytes.{Text, is_initial, is_later}
 use Rattle.fields.specs.Children.Spelling.{all_spelt, may_follow, goes_on, rest_spelt}
 
 -- behind a tab names begin, behind any other byte one goes on
@@ -22,13 +22,6 @@ goes_on-is a (b ∷ y) =
     (λ f. rw f (by-test (eqb a tab) (λ e. rw e) (λ e. rw e (by-test (is_later b) (λ g. rw g) (λ g. rw g)))))))
 
 module _ (x : Text) where
-  pub spelt-none : length x ≡ 0 → false ≡ all_spelt (split tab x)
-  spelt-none h = go x h
-    where
-      go : (y : Text) → length y ≡ 0 → false ≡ all_spelt (split tab y)
-      go [] h = refl
-      go (b ∷ y) h = absurd (omega arith)
-
   pub spelt-first : 0 < length x → all_spelt (split tab x) ≡ may_follow tab (get_or x 0 0) && goes_on (get_or x 0 0) (drop 1 x)
   spelt-first h = sym (goes_on-is tab x) ∙ go x h
     where
@@ -42,6 +35,3 @@ module _ (x : Text) where
   spelt-next i good h =
       let j : i + 1 - 1 ≡ i = omega arith in
       rw (j, add-one, drop-cons x i 0 h) (sym (and_assoc good _ _))
-
-  pub spelt-last : (i : ℕ) (good : Bool) → i ≡ length x → good && goes_on (get_or x (i - 1) 0) (drop i x) ≡ good && not (eqb (get_or x (length x - 1) 0) tab)
-  spelt-last i good e = rw (e, drop-length x)

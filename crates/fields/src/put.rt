@@ -3,21 +3,16 @@
 ghost use Rattle.std.specs.Prelude.{◌≡◌};
 ghost use Rattle.fields.specs.{Bytes.digits, Put.put_at, Put.put_end};
 
-use crate::limits::lesser;
-
 // Writes the bytes at `at`, as many as there is room for, and gives the place behind them.
 pub fn put(buffer: &mut [u8], at: usize, bytes: &[u8]) -> usize
     ensures value { result ≡ put_end buffer.old at bytes.now }
     ensures buffer_after { buffer.new ≡ put_at buffer.old at bytes.now }
 {
-    let start = lesser(at, buffer.len());
-    let count = lesser(bytes.len(), buffer.len() - start);
-    let mut i: usize = 0;
-    while i < count {
-        buffer[start + i] = bytes[i];
-        i += 1;
-    }
-    start + i
+    let start = at.min(buffer.len());
+    let count = bytes.len().min(buffer.len() - start);
+    let end = start + count;
+    buffer[start..end].copy_from_slice(&bytes[..count]);
+    end
 }
 
 // Of a number of 64 bits.
@@ -33,9 +28,9 @@ pub fn put_number(buffer: &mut [u8], at: usize, number: usize) -> usize
     let mut i = MAX_DIGITS - 1;
     while 10 <= rest {
         digits[i] = b'0' + ((rest % 10) as u8);
-        rest = rest / 10;
+        rest /= 10;
         i -= 1;
     }
     digits[i] = b'0' + (rest as u8);
-    put(buffer, at, &digits[i..MAX_DIGITS])
+    put(buffer, at, &digits[i..])
 }

@@ -1,80 +1,56 @@
 // The files that programs read. Their bytes are not known beforehand, so all that is promised is where they stand.
 #![tactic(auto)]
 
-ghost use Rattle.std.specs.Prelude.{◌≡◌, ◌≤◌, length, take};
+ghost use Rattle.std.specs.Prelude.{◌≡◌, ◌≤◌, length, take, IfOk, IfSome};
 
 use fields::limits::MAX_FILE;
 use std::fs::File;
-use std::io::Read;
+use std::io::{self, Read};
 use std::rt::Files;
 use std::str::from_utf8;
 
 // The number of a file that cannot be opened or read to its end.
 pub const NO_FILE: u32 = 60;
 
-// `whole`: read to its end, or longer than MAX_FILE.
-#[derive(Clone, Copy)]
-pub struct FileRead {
-    pub whole: bool,
-    pub length: usize,
-}
-
-// Reads until the buffer is full, the input ends or a read fails, and gives how many bytes stand at its start.
-fn read_full<R: Read>(file: &mut R, buffer: &mut [u8]) -> usize
-    ensures bound { result ≤ length buffer.new }
-    ensures front { result ≡ length (take result buffer.new) }
+// Reads until the buffer is full or the input ends, and gives how many bytes stand at its start.
+fn read_full<R: Read>(file: &mut R, buffer: &mut [u8]) -> io::Result<usize>
+    ensures bound { IfOk result (λ n. n ≤ length buffer.new) }
     ensures room { length buffer.new ≡ length buffer.old }
 {
     let mut done: usize = 0;
     while done < buffer.len() {
-        let n = file.read(&mut buffer[done..]).unwrap_or(0);
+        let n = file.read(&mut buffer[done..])?;
         if n == 0 {
             break;
         }
         done += n;
     }
-    done
+    Ok(done)
 }
 
-// Does a further read give nothing? A failed one, as of a folder, and one that gives bytes are no end.
-fn at_end<R: Read>(file: &mut R) -> bool {
+fn at_end<R: Read>(file: &mut R) -> io::Result<bool> {
     let mut more = [0u8; 1];
-    matches!(file.read(&mut more), Ok(0))
+    Ok(file.read(&mut more)? == 0)
 }
 
-// Are the n bytes that `read_full` gave the whole file? It stops at a failed read as it does at the end, so the end is asked for. More than
-// MAX_FILE bytes are taken as they are: they are refused as too many, whatever follows.
-fn is_whole<R: Read>(file: &mut R, n: usize) -> bool {
-    MAX_FILE < n || at_end(file)
-}
-
-fn read_opened<R: Read>(file: &mut R, buffer: &mut [u8]) -> FileRead
-    ensures bound { result.length ≤ length buffer.new }
-    ensures front { result.length ≡ length (take result.length buffer.new) }
+// More than MAX_FILE bytes are taken as they are: they are refused as too many, whatever follows.
+fn read_opened<R: Read>(file: &mut R, buffer: &mut [u8]) -> io::Result<Option<usize>>
+    ensures bound { IfOk result (λ read. IfSome read (λ n. n ≤ length buffer.new)) }
     ensures room { length buffer.new ≡ length buffer.old }
 {
-    let n = read_full(file, buffer);
-    FileRead {
-        whole: is_whole(file, n),
-        length: n,
-    }
+    let n = read_full(file, buffer)?;
+    let whole = MAX_FILE < n || at_end(file)?;
+    Ok(whole.then_some(n))
 }
 
-// Reads a file into the start of the buffer. A name that is no text names none.
-pub fn read_file<R: Files>(files: &R, name: &[u8], buffer: &mut [u8]) -> FileRead
-    ensures bound { result.length ≤ length buffer.new }
-    ensures front { result.length ≡ length (take result.length buffer.new) }
+// Reads a file into the start of the buffer, and gives how many bytes stand there: `None` for one that cannot be opened or read to its end. A name that
+// is no text names none.
+pub fn read_file<R: Files>(files: &R, name: &[u8], buffer: &mut [u8]) -> Option<usize>
+    ensures bound { IfSome result (λ n. n ≤ length buffer.new) }
+    ensures front { IfSome result (λ n. n ≡ length (take n buffer.new)) }
     ensures room { length buffer.new ≡ length buffer.old }
 {
-    let none = FileRead {
-        whole: false,
-        length: 0,
-    };
-    let Ok(path) = from_utf8(name) else {
-        return none;
-    };
-    match File::open(files, path) {
-        Ok(mut file) => read_opened(&mut file, buffer),
-        Err(_) => none,
-    }
+    let path = from_utf8(name).ok()?;
+    let mut file = File::open(files, path).ok()?;
+    read_opened(&mut file, buffer).ok()?
 }

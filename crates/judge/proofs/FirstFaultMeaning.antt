@@ -1,6 +1,6 @@
 -- What a fault says of the verdict: a row with one is dead, and a row without one has only names of the type, none more often than its upper count.
 use mathlib.Core.{Path.◌≡◌, Path.refl, Path.sym, Path.ap, Path.◌∙◌, Logic.◌↔◌, Logic.by_cases, List.List, List.[], List.◌∷◌}
-use Rattle.std.specs.Prelude.{ℕ, zero, suc, ◌+◌, ◌<◌, ◌≤◌, Bool, true, false, not, ◌≢◌}
+use Rattle.std.specs.Prelude.{ℕ, zero, suc, ◌+◌, ◌<◌, ◌≤◌, Bool, true, false, not, ◌≢◌, None}
 use Rattle.std.proofs.Common.{true≢false}
 use Rattle.std.proofs.Math.Bool.{and-eq-true_iff, and-false, or-true}
 use native.Mathlib.{Decide.dec_lt, Omega.arith}
@@ -22,7 +22,6 @@ use Rattle.model.specs.declared.rule.Kind.TheVariants.{Atom, Group}
 use Rattle.model.specs.Types.{Operator, sequence, choice, interleaving, Ty, ε, atom, join, nonempty, symbols}
 use Rattle.model.specs.Membership.{under, joined, begun, done, alive, over?, holds?, extends?}
 use Rattle.model.specs.Model.{counted_type, operator, joined_from, joined_type, marked_type, type_by, after, eval_step, eval}
-use Rattle.judge.specs.declared.verdict.FirstFault.TheVariants.{Nothing}
 use Rattle.judge.specs.{Row.upto, Row.Upto, Row.Laws.upto-tells, Row.Laws.upto-at, Row.Attribute.CountsWithin, FirstFault.with_upper}
 use Rattle.judge.specs.{FirstFault.upper_counts, FirstFault.allowed, FirstFault.CountsAre}
 use Rattle.judge.specs.{FirstFault.FaultAt, FirstFault.is_fault, FirstFault.first_fault}
@@ -237,8 +236,8 @@ module _ (r : Rule) (e : readable r ≡ true) where
     abbrev counts : List Upper
     counts = upper_counts (used r)
 
-    pub sound-rule : first_fault counts w ≡ Nothing → (over? (symbols (rule_type r)) w ≡ true) × CountsWithin (rule_type r) w
-    sound-rule d = sound-row counts (rule_type r) (names r) (rule-counts r) rule-named w u ((first-exactly counts w Nothing).0 d)
+    pub sound-rule : first_fault counts w ≡ None → (over? (symbols (rule_type r)) w ≡ true) × CountsWithin (rule_type r) w
+    sound-rule d = sound-row counts (rule_type r) (names r) (rule-counts r) rule-named w u ((first-exactly counts w None).0 d)
 
     pub faulty-rule : {p : ℕ} → FaultAt counts w p → verdict (rule_type r) w ≡ Dead
     faulty-rule = faulty-row counts (rule_type r) (names r) (rule-counts r) rule-named w u

@@ -1,60 +1,47 @@
 -- The whole text: where the reader starts, and what its answer says.
-use mathlib.Core.{Path.◌≡◌, Path.refl, Path.sym, Path.ap, Path.◌∙◌, Logic.⊎_elim, Logic.inl, Logic.inr, Bool.true, Bool.false, Bool.◌||◌, List.List}
+use mathlib.Core.{Path.◌≡◌, Path.refl, Path.sym, Path.ap, Path.◌∙◌, List.List}
 use mathlib.Core.{List.[], List.map, Option.some}
-use Rattle.std.specs.Prelude.{ℕ, ◌+◌, ◌<◌, ◌≤◌, min, ◌==◌, nat_lt}
-use Rattle.std.proofs.Common.{arith, eqb→eq, ltb→lt, nltb→le}
-use lib.{ListN.length, ListN.take, ListN.replicate, ListN.drop_of_length-le, Seq.take-length}
-use Rattle.std.proofs.Math.Facts.{or_yes, or_no, eqb_no}
+use Rattle.std.specs.Prelude.{ℕ, ◌+◌, ◌<◌, ◌≤◌, min, Ok}
+use Rattle.std.proofs.Common.{arith}
+use lib.{ListN.length, ListN.take, ListN.replicate, Seq.take-length}
 use Rattle.model.specs.{declared.fault.ModelFault.ModelFault, declared.rule.Rule.Rule, Tree.leaf, Tree.group, Tree.marked}
 use Rattle.model.proofs.SyntaxComplete.{behind_atom}
 use Rattle.model.specs.{Model.model_of, Model.atoms_in, Rule.rule_of, Rule.rule_with, Fault.refused, Fault.accepted, Fault.Answers}
 use Rattle.model.proofs.SyntaxComplete.{focus_behind}
-use Rattle.model.specs.{Fault.places, Rule.Laws.used-with, Check.readable}
-use Rattle.model.proofs.{CheckExact.readable-is, AcceptLaws.accepted-within}
+use Rattle.model.specs.{Fault.places, Rule.Laws.used-with}
+use Rattle.model.proofs.{AcceptLaws.accepted-within}
 use Rattle.judge.specs.Answer.{answer-is}
-use Rattle.model.specs.declared.fault.ModelFault.TheVariants.{Size, Spelling as Misspelling, TooDeep}
+use Rattle.model.specs.declared.fault.ModelFault.TheVariants.{Spelling as Misspelling, TooDeep}
 use Rattle.model.specs.declared.rule.Mark.TheVariants.{Plain, Optional, Nonempty}
 use Rattle.model.specs.Syntax.{Count, unwritten, between, onward, Syntax, written_names}
 use Rattle.model.specs.Syntax.Machine.{atom, run, start, whole, result}
-use Rattle.model.proofs.FaultPlaces.{size-answers, dead-answers, accepted-answers, deep-answers}
+use Rattle.model.proofs.FaultPlaces.{dead-answers, accepted-answers, deep-answers}
 use Rattle.model.specs.{Flatten.depth, Depth.rule_depth}
 use Rattle.model.proofs.{FlattenDepth.no-higher, DepthLaws.text-depth}
-use Rattle.judge.specs.{declared.cursor.Cursor.Cursor, declared.reading.Names.Names, declared.reading.Outcome.TheVariants.Read}
-use Rattle.judge.specs.{declared.reading.Reading.Reading, declared.cursor.Got.Got, Packed.node_in, Packed.place_of, Packed.rule_in, Packed.Fresh}
-use Rattle.judge.specs.{Reading.Table.Laws.table_none, Reading.Buffer.holds-count, Reading.At.next, Reading.Search.parts-named}
-use Rattle.judge.specs.declared.cursor.Got.TheVariants.{Past, Fault as Faulty}
-use Rattle.judge.specs.Reading.{names_with, refusal, reading_by, reading, part_at, Cursor.cursor_in, Cursor.Laws.cursor-start}
-use Rattle.judge.specs.Reading.Table.{slots, parts_in, Distinct, Tabled}
+use Rattle.judge.specs.{declared.cursor.Cursor.Cursor, declared.reading.Names.Names}
+use Rattle.judge.specs.{declared.reading.Reading.Reading, Packed.node_in, Packed.rule_in, Packed.Fresh}
+use Rattle.judge.specs.{Reading.Table.Laws.table_none, Reading.At.next, Reading.Search.parts-named}
+use Rattle.judge.specs.Reading.{name_place, names_with, refusal, reading_by, reading, part_at}
+use Rattle.judge.specs.Reading.Table.{slots, entry_place, parts_in, Distinct}
+use Rattle.judge.specs.declared.table.Entry.{Entry}
+use Rattle.std.proofs.lemmas.List.{length-map}
 use Rattle.judge.specs.Reading.Laws.{parts-begin, names_are, names-many}
 use Rattle.judge.specs.{Packed.seen_in, FirstFault.upper_counts, Row.Tally.Seeing, Row.Tally.Limits.limits-none, Row.Tally.Limits.limits-seeing}
-use Rattle.judge.specs.Reading.Walk.{Kept, NodesHeld, NamesHeld, names-tabled, tree_nodes, stack_at, Behind, Ready}
-use Rattle.fields.specs.{Bytes.Text, Limits.max_text, Limits.max_depth, Limits.max_nesting, Limits.max_nodes}
-use Rattle.judge.specs.Reading.Whole.{Whole, WholeRead}
+use Rattle.judge.specs.Reading.Walk.{Kept, spots-many, names-tabled, tree_nodes, Behind, Ready}
+use Rattle.fields.specs.{Bytes.Text, Limits.max_text, Limits.max_depth, Limits.max_nesting, Limits.max_atoms}
+use Rattle.judge.specs.Reading.Whole.{Whole}
 
-pub whole-past : {x : Text} {work : List ℕ} {kept : Kept} {g : Got} {d : Cursor} → WholeRead x work kept g → g ≡ Past d → Whole x work kept d
-whole-past y e = rw e at y
+abbrev pub start_cursor : Cursor
+start_cursor = record { at = 0; nodes = 0; names = 0; height = 0 }
 
-pub whole-fault : {x : Text} (work : List ℕ) (kept : Kept) {g : Got} {f : ModelFault} {q : ℕ} → WholeRead x work kept g → g ≡ Faulty f q
-    → Answers x (refused f q)
-whole-fault work kept y e = rw e at y
-
-pub size-refused : (x : Text) → (length x == 0 || nat_lt max_text (length x)) ≡ true → Answers x (refused Size 0)
-size-refused x e =
-    size-answers x
-    (⊎_elim (λ h. inl (eqb→eq _ _ h)) (λ h. inr (ltb→lt max_text (length x) h)) (or_yes (length x == 0) (nat_lt max_text (length x)) (rw e tt)))
-
-pub start-ready : {x : Text} {work names heads : List ℕ} → Fresh work × (length names ≡ max_nodes) × (heads ≡ replicate slots 0)
-    → (length x == 0 || nat_lt max_text (length x)) ≡ false →
-    Ready x work (names, heads) (cursor_in 0) max_nesting (stack_at x (cursor_in 0).at)
-start-ready {x} {names = names} l e =
-    let s = or_no (length x == 0) (nat_lt max_text (length x)) (rw e tt) in
-    let z : length x ≡ 0 → ⊥ = eqb_no s.0 in
-    rw cursor-start
-    (record {
+pub start-ready : {x : Text} {work : List ℕ} {names : List Entry} {heads : List ℕ} → Fresh work × (length names ≡ max_atoms) × (heads ≡ replicate slots 0)
+    → (length x ≡ 0 → ⊥) → length x ≤ max_text → Ready x work (names, heads) start_cursor max_nesting []
+start-ready {x} {names = names} l z s =
+    record {
       expecting = record {
         spots = [];
         at_is = record {
-          sized = (omega arith, nltb→le max_text (length x) s.1);
+          sized = (omega arith, s);
           within = omega arith;
           is = refl;
           clean = λ q h. absurd (let k : q < 0 = h in omega arith);
@@ -62,14 +49,15 @@ start-ready {x} {names = names} l e =
         };
         held = rw limits-none (record { whole = l.0.0; behind = l.0.1; few = omega arith; held = refl });
         named = record {
-          held = record { whole = rw l.1 refl; behind = drop_of_length-le names {i = max_nodes} (omega (arith, l.1)); few = omega arith; held = refl };
+          few = omega arith;
+          held = refl;
           table = rw l.2 (table_none names l.1);
         };
         low = refl;
       };
       no_end = λ _. refl;
       room = refl;
-    })
+    }
 
 -- behind a whole member the text may end
 whole-behind : (t : Syntax) → whole (focus_behind t) ≡ some t
@@ -143,13 +131,9 @@ module _ {x : Text} {work : List ℕ} {kept : Kept} {d : Cursor} (w : Whole x wo
   pub whole-rule : rule_in work d.nodes ≡ rule_of (model_of w.tree)
   whole-rule = ap rule_with w.nodes.held
 
-  -- 40 does not refuse it
-  pub whole-readable : readable (rule_in work d.nodes) ≡ true
-  whole-readable = (readable-is (rule_in work d.nodes)).1 (x, record { tree = w.tree; answered = w.answers; rule_is = whole-rule })
-
   pub whole-count : d.names ≡ atoms_in (map node_in (take d.nodes work))
   whole-count =
-      sym (holds-count w.named.held)
+      sym (spots-many w.named) ∙ sym (length-map (places x (length x)) (name_place x))
       ∙ names-many x w.tree w.answers ∙ ap atoms_in (used-with (tree_nodes w.tree) ∙ sym w.nodes.held)
 
   -- no child is seen yet
@@ -161,12 +145,12 @@ module _ {x : Text} {work : List ℕ} {kept : Kept} {d : Cursor} (w : Whole x wo
 
   pub whole-names : parts_in x kept.0 d.names ≡ written_names w.tree
   whole-names =
-      ap (map (part_at x)) w.named.held.held ∙ parts-named x (places x (length x)) ∙ sym (parts-begin x) ∙ names_are x w.tree w.answers
+      ap (map (part_at x)) w.named.held ∙ parts-named x (places x (length x)) ∙ sym (parts-begin x) ∙ names_are x w.tree w.answers
 
   pub whole_apart : Distinct (parts_in x kept.0 d.names)
   whole_apart = rw whole-names (accepted-within x w.tree w.answers).apart
 
-  pub reading-is : {r : Rule} {n : Names} → r ≡ rule_in work d.nodes → n ≡ names_with (map place_of (take d.names kept.0))
-      → ◌≡◌ {A = Reading} (record { outcome = Read; rule = r; names = n }) (reading x)
+  pub reading-is : {r : Rule} {n : Names} → r ≡ rule_in work d.nodes → n ≡ names_with (map entry_place (take d.names kept.0))
+      → ◌≡◌ {A = Reading} (record { outcome = Ok tt; rule = r; names = n }) (reading x)
   reading-is e f =
-      rw (e ∙ whole-rule, f ∙ ap names_with w.named.held.held) (ap (reading_by x) (answer-is x (accepted w.tree) w.answers))
+      rw (e ∙ whole-rule, f ∙ ap names_with w.named.held) (ap (reading_by x) (answer-is x (accepted w.tree) w.answers))

@@ -1,8 +1,9 @@
 -- What is known of a row where it is judged: by its tests, of its rule when that is packed, and by the tally.
 use mathlib.Core.{Path.◌≡◌, Path.refl, Path.sym, Path.ap, Path.◌∙◌, Bool.true, List.List, List.[], List.map}
-use Rattle.std.specs.Prelude.{ℕ, ◌≤◌}
+use Rattle.std.specs.Prelude.{ℕ, ◌≤◌, Some, None, Result, Ok, Err}
 use Rattle.std.proofs.Common.{arith, leb-true}
 use lib.{Dec.leb, ListN.length, ListN.take, ListN.get_or}
+use Rattle.judge.specs.declared.packed.Sizes.{Sizes}
 use Rattle.judge.specs.{Reading.Buffer.Stores, Packed.node_in, Packed.rule_in, Packed.seen_in, Row.upto, Row.row_tested, Row.judged}
 use Rattle.judge.specs.{Row.Attribute.seen, Row.Tally.seen_of, Row.Tally.limits_in, Row.Tally.Limits.limits-seeing}
 use Rattle.judge.specs.Row.{Laws.upto-more, Tally.Seeing}
@@ -10,10 +11,7 @@ use Rattle.judge.specs.{FirstFault.upper_counts, FirstFault.first_fault}
 use Rattle.judge.proofs.{FirstFaultLaws.first-exactly, FirstFaultMeaning.sound-rule}
 use Rattle.judge.specs.{Row.Attribute.CountsWithin}
 use Rattle.judge.proofs.FirstFaultMeaning.{faulty-rule}
-use Rattle.judge.specs.declared.verdict.FirstFault.TheVariants.{At, Nothing}
-use Rattle.judge.specs.{Row.Tally.Tallied, Row.Pass.seen_verdict, Row.Pass.verdict-seen, declared.row.Tested.Tested}
-use Rattle.judge.specs.declared.row.Tested.TheVariants.{Passed, Refused as Failed}
-use Rattle.judge.specs.declared.verdict.Judged.TheVariants.{Verdict, Refused}
+use Rattle.judge.specs.{Row.Tally.Tallied, Row.Pass.seen_verdict, Row.Pass.verdict-seen, Row.Pass.Judgeable, declared.fault.JudgeFault.JudgeFault}
 use Rattle.model.specs.{declared.rule.Rule.Rule, declared.rule.Node.Node, declared.verdict.Verdict.TheVariants.Dead, Word.Word, Types.symbols}
 use Rattle.model.specs.Membership.{over?}
 use Rattle.model.specs.{Verdict.verdict, Tree.atoms, Tree.nodes, Model.Laws.length-encode, Model.atoms_in, Rule.names, Rule.rule_with, Rule.rule_type}
@@ -34,20 +32,17 @@ readable-within r e =
 pub readable-with : (r : Rule) → readable r ≡ true → r ≡ rule_with (used r)
 readable-with r e = let w = readable-formed r e in rw w.rule_is (ap rule_with (sym (used-is w.model)))
 
-pub atoms-within : (l : List Node) → readable (rule_with l) ≡ true → {m : ℕ} → m ≡ atoms_in l → m ≤ max_atoms
-atoms-within l e f = rw (f, ← used-with l) (readable-within (rule_with l) e).1
-
 -- what the tests of 40, 41 and 43 tell
 pub record Passes (r : Rule) (w : Word) (n : ℕ) : Type 0 where
   pub good : readable r ≡ true
   pub short : length w ≤ max_row
   pub named : upto n w ≡ true
   pub names_are : n ≡ names r
-  pub answer : judged r w ≡ Verdict (verdict (rule_type r) w)
+  pub answer : judged r w ≡ Ok (verdict (rule_type r) w)
 
-abbrev pub TestTells : Rule → Word → Tested → Type 0
-TestTells r w (Passed n) = Passes r w n
-TestTells r w (Failed f) = judged r w ≡ Refused f
+abbrev pub TestTells : Rule → Word → Result ℕ JudgeFault → Type 0
+TestTells r w (Ok n) = Passes r w n
+TestTells r w (Err f) = judged r w ≡ Err f
 
 test-tells : (r : Rule) (w : Word) → TestTells r w (row_tested r w)
 unfolding judged row_tested
@@ -60,7 +55,7 @@ test-tells r w =
     (λ b. rw (a, b) (rw (a, b))))
     (λ a. rw a (rw a))
 
-pub tested : (r : Rule) (w : Word) {t : Tested} → row_tested r w ≡ t → TestTells r w t
+pub tested : (r : Rule) (w : Word) {t : Result ℕ JudgeFault} → row_tested r w ≡ t → TestTells r w t
 tested r w e = rw e at (test-tells r w)
 
 -- packed, it is still the same rule
@@ -69,24 +64,28 @@ module _ {r : Rule} {w : Word} {n : ℕ} (p : Passes r w n) (words : List ℕ) (
   packed-is = rw h.held (sym (readable-with r p.good))
 
   -- what is asked where the row is judged by it
-  pub packed-passes : ((r.len ≤ max_nodes) × (max_nodes ≤ length words) × (seen_in words ≡ limits_in (map node_in (take r.len words))))
-      × (((readable (rule_in words r.len) ≡ true) × (n ≡ atoms_in (map node_in (take r.len words)))) × ((length w ≤ max_row) × (upto n w ≡ true)))
-  packed-passes = ((h.few, omega (arith, h.whole), rw h.held h.behind), ((rw packed-is p.good, rw h.held p.names_are), (p.short, p.named)))
+  pub packed-passes : Judgeable words (record { nodes = r.len; children = length w; names = n }) w
+  packed-passes = record {
+    sized = record {
+      few = h.few;
+      whole = omega (arith, h.whole);
+      names_are = rw h.held p.names_are;
+      few_names = omega (arith, p.names_are, (readable-within r p.good).1);
+    };
+    children_are = refl;
+    limits = rw h.held h.behind;
+    good = rw packed-is p.good;
+    short = p.short;
+    named = p.named;
+  }
 
 -- what the first pass asks, of the nodes that the words hold
-module _ (words : List ℕ) (len m : ℕ) (w : Word)
-    (p : ((len ≤ max_nodes) × (max_nodes ≤ length words) × (seen_in words ≡ limits_in (map node_in (take len words))))
-    × (((readable (rule_in words len) ≡ true) × (m ≡ atoms_in (map node_in (take len words)))) × ((length w ≤ max_row) × (upto m w ≡ true)))) where
-  few_names : m ≤ max_atoms
-  few_names = atoms-within (map node_in (take len words)) p.1.0.0 p.1.0.1
-
+module _ {words : List ℕ} {r : Sizes} {w : Word} (p : Judgeable words r w) where
   pub searchable : (length w ≤ max_row) × (upto max_atoms w ≡ true)
-  unfolding few_names
-  searchable = (p.1.1.0, upto-more m max_atoms w few_names p.1.1.1)
+  searchable = (p.short, upto-more r.names max_atoms w p.sized.few_names p.named)
 
-  pub counts-known : Seeing (upper_counts (map node_in (take len words))) [] (seen_in words)
-  unfolding few_names
-  counts-known = rw p.0.2 (limits-seeing (map node_in (take len words)) (omega (arith, few_names, p.1.0.1)))
+  pub counts-known : Seeing (upper_counts (map node_in (take r.nodes words))) [] (seen_in words)
+  counts-known = rw p.limits (limits-seeing (map node_in (take r.nodes words)) (omega (arith, p.sized.few_names, p.sized.names_are)))
 
 -- the first pass has counted each name of a readable rule
 pub names-tallied : (r : Rule) → readable r ≡ true → (w : Word) (s : List ℕ) → Tallied w s
@@ -99,11 +98,11 @@ module _ (l : List Node) (e : readable (rule_with l) ≡ true) (w : Word) {m : �
   named = rw (used-with l, ← f) h
 
   -- where the first has found a fault, the row is dead
-  pub verdict-stopped : {p : ℕ} → first_fault (upper_counts l) w ≡ At p → verdict (rule_type (rule_with l)) w ≡ Dead
+  pub verdict-stopped : {p : ℕ} → first_fault (upper_counts l) w ≡ Some p → verdict (rule_type (rule_with l)) w ≡ Dead
   verdict-stopped {p} d =
-      faulty-rule (rule_with l) e w named {p = p} (rw (used-with l) ((first-exactly (upper_counts l) w (At p)).0 d).0)
+      faulty-rule (rule_with l) e w named {p = p} (rw (used-with l) ((first-exactly (upper_counts l) w (Some p)).0 d).0)
 
-  module _ (d : first_fault (upper_counts l) w ≡ Nothing) where
+  module _ (d : first_fault (upper_counts l) w ≡ None) where
     -- no name is foreign, and none stands too often
     pub row-sound : (over? (symbols (rule_type (rule_with l))) w ≡ true) × CountsWithin (rule_type (rule_with l)) w
     row-sound = sound-rule (rule_with l) e w named (rw (used-with l) d)

@@ -1,6 +1,6 @@
 -- The children of a row, one by one: none that is passed is at fault, and they are seen.
 use mathlib.Core.{Path.◌≡◌, Path.refl, Path.sym, Path.◌∙◌, List.List, List.[], List.◌∷◌, List.◌++◌}
-use Rattle.std.specs.Prelude.{ℕ, suc, ◌+◌, ◌-◌, ◌<◌, ◌≤◌, cond, length, take, nat_lt, slice_index, slice_index_or, slice_set}
+use Rattle.std.specs.Prelude.{ℕ, suc, ◌+◌, ◌-◌, ◌<◌, ◌≤◌, cond, length, take, nat_lt, slice_index, slice_index_or, slice_set, Option, Some, None}
 use Rattle.std.proofs.Common.{true≢false, length-set, get_or-set_same, get_or-set_other, take_all, length-take-le}
 use native.Mathlib.{Numerals.add-one, Omega.arith}
 use Rattle.std.proofs.Math.Seq.{take-suc}
@@ -9,8 +9,6 @@ use Rattle.fields.specs.{Limits.max_atoms, Tests.by-test}
 use Rattle.model.specs.declared.rule.Upper.{Upper}
 use Rattle.model.specs.Word.{Word, only}
 use Rattle.model.proofs.WordLaws.{only-is, only_self}
-use Rattle.judge.specs.declared.verdict.FirstFault.{FirstFault}
-use Rattle.judge.specs.declared.verdict.FirstFault.TheVariants.{At, Nothing}
 use Rattle.judge.specs.FirstFault.{is_fault, first_where, first_fault}
 use Rattle.judge.proofs.FirstFaultLaws.{count-with}
 use Rattle.judge.specs.Row.Tally.{one_left, noted_word, Seeing, RowTallied, RowPassed}
@@ -29,16 +27,16 @@ module _ {us : List Upper} {w : Word} {s : List ℕ} (t : Seeing us w s) where
             (λ f. rw (get_or-set_other s x k v 0 (λ q. true≢false (sym (only_self x) ∙ (rw q at f)))) (t.word_is k i ∙ sym (seen_other us w x h k f)));
       }
 
-pub fault-told : {us : List Upper} {w : Word} {s : List ℕ} {r a : FirstFault} → RowTallied us w s r → r ≡ a → first_fault us w ≡ a
+pub fault-told : {us : List Upper} {w : Word} {s : List ℕ} {r a : Option ℕ} → RowTallied us w s r → r ≡ a → first_fault us w ≡ a
 fault-told t e = sym t.fault_is ∙ e
 
 -- in a row of no children there is none
-pub none_told : {us : List Upper} {s : List ℕ} → Seeing us [] s → RowTallied us [] s Nothing
+pub none_told : {us : List Upper} {s : List ℕ} → Seeing us [] s → RowTallied us [] s None
 unfolding first_fault
 none_told {us} t = record { fault_is = refl; tallied = λ _ k n. rw (t.word_is k n) (seen-whole us [] k (omega arith)) }
 
 -- where a child is at fault, nothing is told
-pub row_told : {us : List Upper} {w : Word} {i : ℕ} {s : List ℕ} → first_fault us w ≡ At i → RowTallied us w s (At i)
+pub row_told : {us : List Upper} {w : Word} {i : ℕ} {s : List ℕ} → first_fault us w ≡ Some i → RowTallied us w s (Some i)
 row_told e = record { fault_is = sym e; tallied = λ d. let z : ◌≡◌ {A = ℕ} 0 1 = cc in absurd (omega arith) }
 
 pub row-starts : {us : List Upper} (w : Word) {s : List ℕ} → Seeing us [] s → RowPassed us w 0 s
@@ -51,7 +49,7 @@ module _ {us : List Upper} {w : Word} {i : ℕ} {s : List ℕ} (p : RowPassed us
     passed : length (take i w) ≡ i
     passed = length-take-le i w (omega arith)
 
-    rest-next : first_fault us w ≡ cond (is_fault us w i) (At i) (first_where (is_fault us w) (suc i) (length w - suc i))
+    rest-next : first_fault us w ≡ cond (is_fault us w i) (Some i) (first_where (is_fault us w) (suc i) (length w - suc i))
     rest-next = let d : length w - i ≡ suc (length w - suc i) = omega arith in p.rest_is ∙ rw d
 
     full-tells : nat_lt (slice_index s x) one_left ≡ is_fault us w i
@@ -59,7 +57,7 @@ module _ {us : List Upper} {w : Word} {i : ℕ} {s : List ℕ} (p : RowPassed us
     full-tells =
         rw (p.seeing.word_is x n, full_is us (take i w) x (omega (arith, passed)), e, count-with w i h)
 
-    pub row-stops : slice_index_or s x 0 < one_left → first_fault us w ≡ At i
+    pub row-stops : slice_index_or s x 0 < one_left → first_fault us w ≡ Some i
     unfolding rest-next full-tells
     row-stops l = rest-next ∙ rw (sym full-tells ∙ lt-ltb (slice_index s x) one_left l)
 
@@ -72,7 +70,7 @@ module _ {us : List Upper} {w : Word} {i : ℕ} {s : List ℕ} (p : RowPassed us
         }
 
   -- there are no more
-  pub row_ends : length w ≤ i → length w < 65535 → RowTallied us w s Nothing
+  pub row_ends : length w ≤ i → length w < 65535 → RowTallied us w s None
   row_ends h short =
       let e : length w - i ≡ 0 = omega arith in
       record {

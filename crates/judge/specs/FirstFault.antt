@@ -2,7 +2,7 @@
 --   FirstFaultLaws     there is one answer, and the functions compute it
 --   FirstFaultMeaning  a row with such a child is dead; in a row without one, every name is known and no count is over its upper end
 use mathlib.Core.{Path.◌≡◌, Bool.Bool, Bool.not, Bool.cond, List.List, List.[], List.◌∷◌}
-use Rattle.std.specs.Prelude.{ℕ, zero, suc, ◌<◌, ◌≤◌, length, take, slice_index}
+use Rattle.std.specs.Prelude.{ℕ, zero, suc, ◌<◌, ◌≤◌, length, take, slice_index, Option, Some, None, Result, Ok, Err}
 use Rattle.fields.specs.{Bytes.Text, Limits.max_row, Least.Least, Least.NoneStands}
 use Rattle.model.specs.{declared.rule.Upper.Upper, declared.rule.Upper.TheVariants.Number, declared.rule.Kind.Kind, declared.rule.Node.Node}
 use Rattle.model.specs.{declared.rule.Rule.Rule, Word.Word, Word.count, Types.Ty, Types.ε, Types.atom, Types.join, Types.Under, Membership.under}
@@ -10,14 +10,9 @@ use Rattle.model.specs.Types.{nonempty}
 use Rattle.model.specs.{Model.model_of, Model.encode}
 use Rattle.model.specs.Rule.{Readable, used, names, nth}
 use Rattle.model.specs.declared.rule.Kind.TheVariants.{Atom, Group}
-use Rattle.judge.specs.{declared.fault.JudgeFault.JudgeFault, declared.row.Tested.Tested, declared.verdict.FirstFault.FirstFault}
-use Rattle.judge.specs.{declared.verdict.Searched.Searched, declared.verdict.ChildrenSearched.ChildrenSearched, Row.Upto, Row.Judges, Row.row_tested}
-use Rattle.judge.specs.declared.row.Tested.TheVariants.{Passed, Refused as Failed}
-use Rattle.judge.specs.declared.verdict.Judged.TheVariants.{Refused}
-use Rattle.judge.specs.declared.verdict.FirstFault.TheVariants.{At, Nothing}
-use Rattle.judge.specs.declared.verdict.Searched.TheVariants.{Found, Refused as NotSearched}
-use Rattle.judge.specs.declared.verdict.ChildrenSearched.TheVariants.{Found as FoundIn, ModelRefused, ChildrenRefused}
-use Rattle.judge.specs.Reply.{row, Reply, model_refused, children_refused, good, Replies, reply, row_in}
+use Rattle.judge.specs.declared.fault.JudgeFault.{JudgeFault}
+use Rattle.judge.specs.{declared.fault.TextFault.TextFault, Row.Upto, Row.Judges, Row.row_tested}
+use Rattle.judge.specs.Reply.{row, Reply, Replies, reply, row_in, result_of}
 
 -- the upper counts of the atoms among the nodes, in the order of their names
 abbrev pub with_upper : Kind → List Upper → List Upper
@@ -45,42 +40,40 @@ pub data FaultAt (us : List Upper) (w : Word) (p : ℕ) : Type 0 where
   one_too_many : p < length w → ¬ Under (count (slice_index w p) (take (suc p) w)) (allowed us (slice_index w p)) → FaultAt us w p
 
 -- the place of the first such child, or that there is none (`FirstFaultLaws.first-exactly`: there is one answer, and only one)
-abbrev pub FirstFaultIs : List Upper → Word → FirstFault → Type 0
-FirstFaultIs us w (At p) = Least (λ q. q) (FaultAt us w) p
-FirstFaultIs us w Nothing = NoneStands (FaultAt us w)
+abbrev pub FirstFaultIs : List Upper → Word → Option ℕ → Type 0
+FirstFaultIs us w (Some p) = Least (λ q. q) (FaultAt us w) p
+FirstFaultIs us w None = NoneStands (FaultAt us w)
 
 -- by a rule: refused as judging is, or by its upper counts (`Ends.first-fault-exactly`: there is one answer, and only one)
-pub data JudgesFault (r : Rule) (w : Word) : Searched → Type 0 where
-  not_searched : {f : JudgeFault} → Judges r w (Refused f) → JudgesFault r w (NotSearched f)
-  by_counts : {a : FirstFault} → Readable r → length w ≤ max_row → Upto (names r) w → FirstFaultIs (upper_counts (used r)) w a → JudgesFault r w (Found a)
+pub data JudgesFault (r : Rule) (w : Word) : Result (Option ℕ) JudgeFault → Type 0 where
+  not_searched : {f : JudgeFault} → Judges r w (Err f) → JudgesFault r w (Err f)
+  by_counts : {a : Option ℕ} → Readable r → length w ≤ max_row → Upto (names r) w → FirstFaultIs (upper_counts (used r)) w a → JudgesFault r w (Ok a)
 
 -- by texts
-abbrev pub ChildrenFaultStands : Text → Text → Reply FirstFault → Type 0
+abbrev pub ChildrenFaultStands : Text → Text → Reply (Option ℕ) → Type 0
 ChildrenFaultStands m c = Replies row (λ t a. FirstFaultIs (upper_counts (encode (model_of t))) (row_in t c) a) m c
 
 -- The same as functions: the test of one place, and the first of the n places from i on that passes a test.
 unfoldable pub is_fault : List Upper → Word → ℕ → Bool
 is_fault us w p = not (under (count (slice_index w p) (take (suc p) w)) (allowed us (slice_index w p)))
 
-abbrev pub first_where : (ℕ → Bool) → ℕ → ℕ → FirstFault
-first_where f i zero = Nothing
-first_where f i (suc n) = cond (f i) (At i) (first_where f (suc i) n)
+abbrev pub first_where : (ℕ → Bool) → ℕ → ℕ → Option ℕ
+first_where f i zero = None
+first_where f i (suc n) = cond (f i) (Some i) (first_where f (suc i) n)
 
-unfoldable pub first_fault : List Upper → Word → FirstFault
+unfoldable pub first_fault : List Upper → Word → Option ℕ
 first_fault us w = first_where (is_fault us w) 0 (length w)
 
-abbrev pub searched_if : FirstFault → Tested → Searched
-searched_if a (Passed n) = Found a
-searched_if a (Failed f) = NotSearched f
+abbrev pub searched_if : Option ℕ → Result ℕ JudgeFault → Result (Option ℕ) JudgeFault
+searched_if a (Ok n) = Ok a
+searched_if a (Err f) = Err f
 
-unfoldable pub fault_judged : Rule → Word → Searched
+unfoldable pub fault_judged : Rule → Word → Result (Option ℕ) JudgeFault
 fault_judged r w = searched_if (first_fault (upper_counts (used r)) w) (row_tested r w)
 
-unfoldable pub children_fault : Text → Text → Reply FirstFault
+unfoldable pub children_fault : Text → Text → Reply (Option ℕ)
 children_fault m c = reply row (λ t. first_fault (upper_counts (encode (model_of t))) (row_in t c)) m c
 
 -- as `search_children` hands it back
-abbrev pub searched_of : Reply FirstFault → ChildrenSearched
-searched_of (model_refused f) = ModelRefused f
-searched_of (children_refused f) = ChildrenRefused f
-searched_of (good a) = FoundIn a
+abbrev pub searched_of : Reply (Option ℕ) → Result (Option ℕ) TextFault
+searched_of = result_of

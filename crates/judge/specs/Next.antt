@@ -11,17 +11,16 @@ pub mod Ahead
 pub mod Longer
 pub mod Meaning
 use mathlib.Core.{Path.◌≡◌, Logic.◌⊎◌, Logic.◌↔◌, List.[], List.◌∷◌, List.◌++◌, Bool.Bool, Bool.true, Bool.false, Bool.cond}
-use Rattle.std.specs.Prelude.{ℕ, zero, suc, ◌<◌, ◌≤◌}
+use Rattle.std.specs.Prelude.{ℕ, zero, suc, ◌<◌, ◌≤◌, Result, Ok, Err}
 use lib.{Dec.leb, ListN.length, ListN.drop}
 use Rattle.fields.specs.{Bytes.Text, Limits.max_row}
 use Rattle.model.specs.{declared.rule.Rule.Rule, declared.verdict.Verdict.Verdict, Word.Word, Word.keep, Types.Ty, Verdict.Says, Verdict.verdict}
 use Rattle.model.specs.{Rule.Means, Rule.names, Rule.rule_type, Syntax.written_names, Model.model_of, Model.type_of}
 use Rattle.model.specs.declared.verdict.Verdict.TheVariants.{Complete, Open, Dead}
-use Rattle.judge.specs.{declared.fault.JudgeFault.JudgeFault, declared.fault.JudgeFault.TheVariants.ShortRow, declared.verdict.Judged.Judged}
-use Rattle.judge.specs.{declared.verdict.Next.Next, declared.verdict.ChildrenNext.ChildrenNext, Row.Upto, Row.Judges, Row.judged}
-use Rattle.judge.specs.declared.verdict.Judged.TheVariants.{Verdict as Said, Refused}
-use Rattle.judge.specs.declared.verdict.Next.TheVariants.{Names, Refused as NoNames}
-use Rattle.judge.specs.declared.verdict.ChildrenNext.TheVariants.{Next as Answered, ModelRefused, ChildrenRefused}
+use Rattle.judge.specs.{declared.fault.JudgeFault.JudgeFault, declared.fault.JudgeFault.TheVariants.ShortRow}
+use Rattle.judge.specs.{Row.Upto, Row.Judges, Row.judged}
+use Rattle.judge.specs.declared.fault.NextFault.{NextFault, TheVariants.Text as BadText, TheVariants.Row as BadRow}
+use Rattle.judge.specs.declared.fault.TextFault.TheVariants.{Model as BadModel, Children as BadChildren}
 use Rattle.judge.specs.Reply.{row, Reply, model_refused, children_refused, good, Replies, reply, row_in}
 
 -- x may come: with x behind it, the row is complete or open
@@ -72,7 +71,7 @@ pub data NextInto (A : Ty) (n : ℕ) (w : Word) (k : ℕ) : NextReply → Type 0
 
 -- by a rule: refused as judging is, or by the meaning (`Ends.next-names-exactly`: there is one reply, and only one)
 pub data JudgesNext (r : Rule) (w : Word) (k : ℕ) : NextReply → Type 0 where
-  not_judged : {f : JudgeFault} → Judges r w (Refused f) → JudgesNext r w k (next_refused f)
+  not_judged : {f : JudgeFault} → Judges r w (Err f) → JudgesNext r w k (next_refused f)
   next_by_meaning : {A : Ty} {a : NextReply} → Means r A → length w ≤ max_row → Upto (names r) w → NextInto A (names r) w k a → JudgesNext r w k a
 
 -- by texts, the names numbered as they are written
@@ -83,9 +82,9 @@ ChildrenNextStands m c k = Replies row (λ t a. NextInto (type_of (model_of t)) 
 abbrev pub fitted : ℕ → Word → NextReply
 fitted k l = cond (leb (length l) k) (next_listed l) (next_refused ShortRow)
 
-abbrev pub next_by : NextReply → Judged → NextReply
-next_by a (Said v) = a
-next_by a (Refused f) = next_refused f
+abbrev pub next_by : NextReply → Result Verdict JudgeFault → NextReply
+next_by a (Ok v) = a
+next_by a (Err f) = next_refused f
 
 unfoldable pub next_judged : Rule → Word → ℕ → NextReply
 next_judged r w k = next_by (fitted k (next_names (rule_type r) (names r) w)) (judged r w)
@@ -94,26 +93,30 @@ unfoldable pub children_next : Text → Text → ℕ → Reply NextReply
 children_next m c k = reply row (λ t. fitted k (next_names (type_of (model_of t)) (length (written_names t)) (row_in t c))) m c
 
 -- what is handed back: how many names are listed, or the refusal; and the lent row at exit: the list, then the places as they were
-abbrev pub next_answer : NextReply → Next
-next_answer (next_listed l) = Names (length l)
-next_answer (next_refused f) = NoNames f
+abbrev pub next_answer : NextReply → Result ℕ JudgeFault
+next_answer (next_listed l) = Ok (length l)
+next_answer (next_refused f) = Err f
 
 abbrev pub row_after : NextReply → Word → Word
 row_after (next_listed l) lent = l ++ drop (length l) lent
 row_after (next_refused f) lent = lent
 
-abbrev pub HandsNext : NextReply → Next → Word → Word → Type 0
+abbrev pub HandsNext : NextReply → Result ℕ JudgeFault → Word → Word → Type 0
 HandsNext a r lent lent' = (r ≡ next_answer a) × (lent' ≡ row_after a lent)
 
-abbrev pub children_answer : Reply NextReply → ChildrenNext
-children_answer (model_refused f) = ModelRefused f
-children_answer (children_refused f) = ChildrenRefused f
-children_answer (good a) = Answered (next_answer a)
+abbrev pub row_answer : Result ℕ JudgeFault → Result ℕ NextFault
+row_answer (Ok n) = Ok n
+row_answer (Err f) = Err (BadRow f)
+
+abbrev pub children_answer : Reply NextReply → Result ℕ NextFault
+children_answer (model_refused f) = Err (BadText (BadModel f))
+children_answer (children_refused f) = Err (BadText (BadChildren f))
+children_answer (good a) = row_answer (next_answer a)
 
 abbrev pub children_row_after : Reply NextReply → Word → Word
 children_row_after (model_refused f) lent = lent
 children_row_after (children_refused f) lent = lent
 children_row_after (good a) lent = row_after a lent
 
-abbrev pub HandsChildrenNext : Reply NextReply → ChildrenNext → Word → Word → Type 0
+abbrev pub HandsChildrenNext : Reply NextReply → Result ℕ NextFault → Word → Word → Type 0
 HandsChildrenNext a r lent lent' = (r ≡ children_answer a) × (lent' ≡ children_row_after a lent)

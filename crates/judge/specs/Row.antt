@@ -7,12 +7,10 @@ pub mod Stack
 pub mod Root
 pub mod Pass
 use mathlib.Core.{List.[], List.◌∷◌, Bool.Bool, Bool.true, Bool.cond, Bool.◌&&◌}
-use Rattle.std.specs.Prelude.{ℕ, ◌<◌, ◌≤◌}
+use Rattle.std.specs.Prelude.{ℕ, ◌<◌, ◌≤◌, Result, Ok, Err}
 use lib.{ListN.length, Dec.leb}
-use Rattle.judge.specs.{declared.fault.JudgeFault.JudgeFault, declared.verdict.Judged.Judged, declared.row.Tested.Tested}
+use Rattle.judge.specs.{declared.fault.JudgeFault.JudgeFault}
 use Rattle.judge.specs.declared.fault.JudgeFault.TheVariants.{Unreadable, LongRow, BadTrail, UnknownName, NoRoom, NothingToTakeBack, ShortRow}
-use Rattle.judge.specs.declared.verdict.Judged.TheVariants.{Verdict as Said, Refused}
-use Rattle.judge.specs.declared.row.Tested.TheVariants.{Passed, Refused as Failed}
 use Rattle.model.specs.{declared.rule.Rule.Rule, Word.Word, Types.Ty, Verdict.Says, Verdict.verdict, Rule.Readable, Rule.Means, Rule.names, Rule.rule_type}
 use Rattle.model.specs.{Check.readable, declared.verdict.Verdict.Verdict}
 use Rattle.fields.specs.Limits.{max_row}
@@ -33,14 +31,14 @@ Upto n [] = Unit {0}
 Upto n (x ∷ w) = (x ≤ n) × Upto n w
 
 -- the answer to the row w by the rule r (`Ends.judged-exactly`: there is one, and only one)
-pub data Judges (r : Rule) (w : Word) : Judged → Type 0 where
+pub data Judges (r : Rule) (w : Word) : Result Verdict JudgeFault → Type 0 where
   -- 40
-  unreadable : ¬ Readable r → Judges r w (Refused Unreadable)
+  unreadable : ¬ Readable r → Judges r w (Err Unreadable)
   -- 41
-  long_row : Readable r → max_row < length w → Judges r w (Refused LongRow)
+  long_row : Readable r → max_row < length w → Judges r w (Err LongRow)
   -- 43
-  unknown_name : Readable r → length w ≤ max_row → ¬ Upto (names r) w → Judges r w (Refused UnknownName)
-  by_meaning : {A : Ty} {v : Verdict} → Means r A → length w ≤ max_row → Upto (names r) w → Says A w v → Judges r w (Said v)
+  unknown_name : Readable r → length w ≤ max_row → ¬ Upto (names r) w → Judges r w (Err UnknownName)
+  by_meaning : {A : Ty} {v : Verdict} → Means r A → length w ≤ max_row → Upto (names r) w → Says A w v → Judges r w (Ok v)
 
 -- the same as a function
 abbrev pub upto : ℕ → Word → Bool
@@ -48,15 +46,15 @@ upto n [] = true
 upto n (x ∷ w) = leb x n && upto n w
 
 -- 40, 41 and 43, or how many names the rule has
-unfoldable pub row_tested : Rule → Word → Tested
+unfoldable pub row_tested : Rule → Word → Result ℕ JudgeFault
 row_tested r w =
     cond (readable r)
-    (cond (leb (length w) max_row) (cond (upto (names r) w) (Passed (names r)) (Failed UnknownName)) (Failed LongRow))
-    (Failed Unreadable)
+    (cond (leb (length w) max_row) (cond (upto (names r) w) (Ok (names r)) (Err UnknownName)) (Err LongRow))
+    (Err Unreadable)
 
-abbrev pub judged_if : Verdict → Tested → Judged
-judged_if v (Passed n) = Said v
-judged_if v (Failed f) = Refused f
+abbrev pub judged_if : Verdict → Result ℕ JudgeFault → Result Verdict JudgeFault
+judged_if v (Ok n) = Ok v
+judged_if v (Err f) = Err f
 
-unfoldable pub judged : Rule → Word → Judged
+unfoldable pub judged : Rule → Word → Result Verdict JudgeFault
 judged r w = judged_if (verdict (rule_type r) w) (row_tested r w)

@@ -7,7 +7,7 @@ ghost use Rattle.model.specs.{Membership.under, Model.operator, Model.is_atom};
 ghost use Rattle.judge.specs.Packed.{node_in};
 ghost use Rattle.judge.specs.Next.{Set.single, Ahead.first_open, Ahead.second_open, Ahead.pair_ahead, Ahead.part_ahead, Ahead.grown_ahead, Ahead.marked_ahead};
 
-use crate::attribute::{Attribute, begin, marked_in, only_if, pair};
+use crate::attribute::{Attribute, begin, marked_in, pair};
 use crate::tally::Seen;
 use model::rule::{Kind, Sign, Upper};
 
@@ -18,6 +18,7 @@ pub(crate) struct Ahead {
     pub(crate) next: u64,
 }
 
+#[tactic(auto, unfolding(crate::specs::Next::Set::single))]
 fn single(name: usize) -> u64
     requires { (1 ≤ name) × (name ≤ max_atoms) }
     ensures { result ≡ single name }
@@ -39,9 +40,7 @@ fn first_open(sign: Sign, second: bool, alive: bool) -> bool
     ensures { result ≡ first_open (operator sign) second alive }
 {
     match sign {
-        Sign::None => !second,
-        Sign::Sequence => !second,
-        Sign::Choice => !second,
+        Sign::None | Sign::Sequence | Sign::Choice => !second,
         Sign::Interleaving => alive,
     }
 }
@@ -52,8 +51,7 @@ fn second_open(sign: Sign, ordered: bool, first: bool, done: bool, alive: bool) 
     ensures { result ≡ second_open (operator sign) ordered first done alive }
 {
     match sign {
-        Sign::None => ordered & done,
-        Sign::Sequence => ordered & done,
+        Sign::None | Sign::Sequence => ordered & done,
         Sign::Choice => !first,
         Sign::Interleaving => alive,
     }
@@ -67,8 +65,8 @@ fn pair_ahead(sign: Sign, x: Ahead, y: Ahead) -> Ahead
     let first = first_open(sign, 0 < q.behind, q.alive);
     let ordered = p.behind <= q.first;
     let second = second_open(sign, ordered, 0 < p.behind, p.done, p.alive);
-    let left = only_if(first, x.next);
-    let right = only_if(second, y.next);
+    let left = if first { x.next } else { 0 };
+    let right = if second { y.next } else { 0 };
     Ahead {
         part: pair(sign, p, q),
         next: left | right,
@@ -76,36 +74,30 @@ fn pair_ahead(sign: Sign, x: Ahead, y: Ahead) -> Ahead
 }
 
 // A node with none of its members yet; an atom's name has this number.
+#[tactic(auto, unfolding(crate::specs::Next::Ahead::part_ahead, crate::specs::Row::Root::part_attribute))]
 pub(crate) fn begin_ahead(length: u16, kind: Kind, seen: Seen, name: usize) -> Ahead
     requires { (is_atom kind ≤ name) × (name ≤ max_atoms) }
     ensures { result ≡ part_ahead length kind name seen [] }
 {
-    let part = begin(length, kind, seen);
-    match kind {
-        Kind::Atom { min: _, max } => {
-            let more = one_more_fits(seen.count, max);
-            Ahead {
-                part: part,
-                next: only_if(more, single(name)),
-            }
-        }
-        Kind::Group {
-            sign: _,
-            members: _,
-        } => Ahead {
-            part: part,
-            next: 0,
-        },
+    let next = match kind {
+        Kind::Atom { max, .. } if one_more_fits(seen.count, max) => single(name),
+        _ => 0,
+    };
+    Ahead {
+        part: begin(length, kind, seen),
+        next,
     }
 }
 
 // With a member more: the first is taken as it is, each other is joined.
+#[tactic(auto, unfolding(crate::specs::Next::Ahead::grown_ahead))]
 pub(crate) fn grown_ahead(kind: Kind, first: bool, x: Ahead, y: Ahead) -> Ahead
     ensures { result ≡ grown_ahead kind first x y }
 {
     match kind {
-        Kind::Atom { min: _, max: _ } => x,
-        Kind::Group { sign, members: _ } => if first { y } else { pair_ahead(sign, x, y) },
+        Kind::Group { sign, .. } if !first => pair_ahead(sign, x, y),
+        Kind::Group { .. } => y,
+        Kind::Atom { .. } => x,
     }
 }
 
@@ -113,9 +105,8 @@ pub(crate) fn grown_ahead(kind: Kind, first: bool, x: Ahead, y: Ahead) -> Ahead
 pub(crate) fn marked_ahead(length: u16, word: u64, x: Ahead) -> Ahead
     ensures { result ≡ marked_ahead length (node_in word).mark x }
 {
-    let p = x.part;
     Ahead {
-        part: marked_in(length, word, p),
-        next: x.next,
+        part: marked_in(length, word, x.part),
+        ..x
     }
 }

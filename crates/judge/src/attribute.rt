@@ -21,18 +21,13 @@ pub(crate) struct Attribute {
     pub(crate) alive: bool,
 }
 
-pub(crate) fn only_if(test: bool, n: u64) -> u64
-    ensures { result ≡ cond test n 0 }
-{
-    if test { n } else { 0 }
-}
-
 // An attribute in one number, so that an array of nodes can hold it: 16 bits each for `first` and `behind`, and a bit for `done` and for `alive`, which
 // the compiler tests as such.
-const DONE: u64 = 4294967296;
+const DONE: u64 = 1 << 32;
 
-const ALIVE: u64 = 8589934592;
+const ALIVE: u64 = 1 << 33;
 
+#[tactic(auto, unfolding(crate::specs::Row::Attribute::attribute_in))]
 pub(crate) fn attribute_in(word: u64) -> Attribute
     ensures { result ≡ attribute_in word }
 {
@@ -47,21 +42,10 @@ pub(crate) fn attribute_in(word: u64) -> Attribute
 pub(crate) fn attribute_word(x: Attribute) -> u64
     ensures { attribute_in result ≡ x }
 {
-    let done = only_if(x.done, DONE);
-    let alive = only_if(x.alive, ALIVE);
-    (x.first as u64) + (x.behind as u64) * 65536 + done + alive
-}
-
-fn earlier(a: u16, b: u16) -> u16
-    ensures { result ≡ min a b }
-{
-    if a < b { a } else { b }
-}
-
-fn later(a: u16, b: u16) -> u16
-    ensures { result ≡ max a b }
-{
-    if a < b { b } else { a }
+    u64::from(x.first)
+        + u64::from(x.behind) * 65536
+        + u64::from(x.done) * DONE
+        + u64::from(x.alive) * ALIVE
 }
 
 // What nothing has: its part of every row is empty.
@@ -94,8 +78,7 @@ fn is_joined(sign: Sign, ordered: bool, first: bool, second: bool, x: bool, y: b
     ensures { result ≡ joined (operator sign) ordered first second x y }
 {
     match sign {
-        Sign::None => ordered & (x & y),
-        Sign::Sequence => ordered & (x & y),
+        Sign::None | Sign::Sequence => ordered & x & y,
         Sign::Choice => (!second & x) | (!first & y),
         Sign::Interleaving => x & y,
     }
@@ -114,10 +97,8 @@ fn is_begun(
     ensures { result ≡ begun (operator sign) ordered first second done x y }
 {
     match sign {
-        Sign::None => (!second & x) | (ordered & (done & y)),
-        Sign::Sequence => (!second & x) | (ordered & (done & y)),
-        Sign::Choice => (!second & x) | (!first & y),
-        Sign::Interleaving => x & y,
+        Sign::None | Sign::Sequence => (!second & x) | (ordered & done & y),
+        Sign::Choice | Sign::Interleaving => is_joined(sign, ordered, first, second, x, y),
     }
 }
 
@@ -128,8 +109,8 @@ pub(crate) fn pair(sign: Sign, x: Attribute, y: Attribute) -> Attribute
     let first = 0 < x.behind;
     let second = 0 < y.behind;
     Attribute {
-        first: earlier(x.first, y.first),
-        behind: later(x.behind, y.behind),
+        first: x.first.min(y.first),
+        behind: x.behind.max(y.behind),
         done: is_joined(sign, ordered, first, second, x.done, y.done),
         alive: is_begun(sign, ordered, first, second, x.done, x.alive, y.alive),
     }
@@ -151,10 +132,8 @@ fn nonempty(x: Attribute) -> Attribute
     ensures { result ≡ nonempty_attribute x }
 {
     Attribute {
-        first: x.first,
-        behind: x.behind,
         done: (0 < x.behind) & x.done,
-        alive: x.alive,
+        ..x
     }
 }
 
@@ -170,35 +149,35 @@ fn marked(length: u16, mark: Mark, x: Attribute) -> Attribute
 }
 
 // The same by the node in a number. A number below MARK_PLACE has no mark: most have none, and then none is decoded.
+#[tactic(auto, using(crate::specs::Packed::unmarked))]
 pub(crate) fn marked_in(length: u16, word: u64, x: Attribute) -> Attribute
     ensures { result ≡ marked_attribute length (node_in word).mark x }
 {
     if word < MARK_PLACE {
         return x;
     }
-    let mark = mark_in(word);
-    marked(length, mark, x)
+    marked(length, mark_in(word), x)
 }
 
 // A node with none of its members yet.
+#[tactic(auto, unfolding(crate::specs::Row::Root::part_attribute))]
 pub(crate) fn begin(length: u16, kind: Kind, seen: Seen) -> Attribute
     ensures { result ≡ part_attribute length kind seen [] }
 {
     match kind {
-        Kind::Atom { min, max: _ } => counted(length, min, seen),
-        Kind::Group {
-            sign: _,
-            members: _,
-        } => empty(length),
+        Kind::Atom { min, .. } => counted(length, min, seen),
+        Kind::Group { .. } => empty(length),
     }
 }
 
 // With a member more: the first is taken as it is, each other is joined.
+#[tactic(auto, unfolding(crate::specs::Row::Root::grown_attribute))]
 pub(crate) fn grown(kind: Kind, first: bool, x: Attribute, y: Attribute) -> Attribute
     ensures { result ≡ grown_attribute kind first x y }
 {
     match kind {
-        Kind::Atom { min: _, max: _ } => x,
-        Kind::Group { sign, members: _ } => if first { y } else { pair(sign, x, y) },
+        Kind::Group { sign, .. } if !first => pair(sign, x, y),
+        Kind::Group { .. } => y,
+        Kind::Atom { .. } => x,
     }
 }

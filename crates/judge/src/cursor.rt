@@ -1,11 +1,7 @@
-// Where the reader of a model text stands, and what it gives. Its two readers hand these to each other as numbers, which go through registers where a
-// struct goes through memory.
+// Where the reader of a model text stands.
 
-ghost use Rattle.std.specs.Prelude.{◌≡◌, ◌+◌, ◌<◌};
-ghost use Rattle.judge.specs.declared.cursor.Got.TheVariants.{Past};
-ghost use Rattle.judge.specs.Reading.Cursor.{cursor_in, fault_numbered, got_in, CursorFits, GotFits, one_on};
-
-use model::fault::{ModelFault, model_number};
+ghost use Rattle.std.specs.Prelude.{◌≡◌, ◌+◌, ◌^◌, ◌<◌};
+ghost use Rattle.fields.specs.Limits.{max_text, max_nodes};
 
 // The place, how many nodes and names were begun, and, behind a member, how many groups of two members or more are one inside the other in it.
 #[derive(Clone, Copy)]
@@ -16,95 +12,31 @@ pub(crate) struct Cursor {
     pub(crate) height: u8,
 }
 
-#[derive(Clone, Copy)]
-pub(crate) enum Got {
-    Past(Cursor),
-    Fault(ModelFault, usize),
-}
+impl Cursor {
+    ghost use Rattle.judge.specs.Reading.{Cursor.one_on, Group.inside_group};
 
-// A cursor has three times 16 bits, then its height. The number of a refusal stands above, where a cursor has nothing, and its place below.
-const WIDTH: u64 = 65536;
+    // Behind one byte more, by which no node begins.
+    pub(crate) fn on(self, height: u8) -> Cursor
+        requires { self.at + 1 < 2 ^ 64 }
+        ensures { result ≡ one_on self height }
+    {
+        Cursor {
+            at: self.at + 1,
+            height,
+            ..self
+        }
+    }
 
-const HEIGHT: u64 = 281474976710656;
-
-const FAULT: u64 = 72057594037927936;
-
-pub(crate) fn cursor_in(number: u64) -> Cursor
-    ensures { result ≡ cursor_in number }
-{
-    Cursor {
-        at: (number % WIDTH) as usize,
-        nodes: (number / WIDTH % WIDTH) as usize,
-        names: (number / WIDTH / WIDTH % WIDTH) as usize,
-        height: (number / WIDTH / WIDTH / WIDTH % 256) as u8,
-    }
-}
-
-pub(crate) fn cursor_number(c: Cursor) -> u64
-    requires { CursorFits c }
-    ensures { (cursor_in result ≡ c) × (got_in result ≡ Past c) }
-{
-    (c.at as u64)
-        + ((c.nodes as u64) + ((c.names as u64) + (c.height as u64) * WIDTH) * WIDTH) * WIDTH
-}
-
-// One byte on, where a member is to begin.
-pub(crate) fn number_on(number: u64) -> u64
-    requires { (cursor_in number).at + 1 < 65536 }
-    ensures { cursor_in result ≡ one_on (cursor_in number) 0 }
-{
-    number % HEIGHT + 1
-}
-
-fn numbered_fault(number: u64) -> ModelFault
-    ensures { result ≡ fault_numbered number }
-{
-    if number == 10 {
-        return ModelFault::Size;
-    }
-    if number == 11 {
-        return ModelFault::Spelling;
-    }
-    if number == 12 {
-        return ModelFault::LongName;
-    }
-    if number == 13 {
-        return ModelFault::WrongCount;
-    }
-    if number == 14 {
-        return ModelFault::TooDeep;
-    }
-    if number == 15 {
-        return ModelFault::ManyAtoms;
-    }
-    if number == 16 {
-        return ModelFault::ManyNodes;
-    }
-    if number == 17 {
-        return ModelFault::Repeated;
-    }
-    if number == 18 {
-        return ModelFault::NoAtom;
-    }
-    ModelFault::ManyBrackets
-}
-
-pub(crate) fn got_in(number: u64) -> Got
-    ensures { result ≡ got_in number }
-{
-    if number < FAULT {
-        Got::Past(cursor_in(number))
-    } else {
-        Got::Fault(numbered_fault(number / FAULT), (number % WIDTH) as usize)
-    }
-}
-
-pub(crate) fn got_number(got: Got) -> u64
-    requires { GotFits got }
-    ensures { got_in result ≡ got }
-{
-    match got {
-        Got::Past(c) => cursor_number(c),
-        Got::Fault(f, p) => (model_number(f) as u64) * FAULT + (p as u64),
+    // Behind the bracket of a group.
+    pub(crate) fn inside(self) -> Cursor
+        requires { (self.at < max_text) × (self.nodes < max_nodes) }
+        ensures { result ≡ inside_group self }
+    {
+        Cursor {
+            at: self.at + 1,
+            nodes: self.nodes + 1,
+            height: 0,
+            ..self
+        }
     }
 }

@@ -16,4 +16,3 @@ pub mod reply;
 pub mod row;
 mod table;
 mod tally;
-pub mod verdict;

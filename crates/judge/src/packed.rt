@@ -12,16 +12,25 @@ ghost use Rattle.judge.specs.Packed.{packed_word, node_in, rule_in, Fresh, plain
 use crate::tally::limited;
 use model::check::atoms_of;
 use model::mark::{MARK_PLACE, mark_number, numbered_mark};
-use model::rule::{Kind, MAX_ATOMS, MAX_NODES, Mark, Node, Rule, Sign, Upper};
+use model::rule::{Kind, MAX_ATOMS, MAX_NODES, Mark, Node, Rule, Sign, UNUSED, Upper};
 
 // The nodes of a rule, and behind them, from MAX_NODES on, what is seen of each name: one array, since each is cleared by a call of its own.
 pub(crate) const WORDS: usize = MAX_NODES + MAX_ATOMS + 1;
+
+// What was read: how many nodes and names a model has, and how many children there are. The two counts of the reader stand apart: side by side they
+// are copied as one, which waits until both have been stored.
+#[derive(Clone, Copy)]
+pub(crate) struct Sizes {
+    pub(crate) nodes: usize,
+    pub(crate) children: u16,
+    pub(crate) names: usize,
+}
 
 // The number of a node that has no mark: its shape is a sign's byte or 0, or 1 or 2 for an atom.
 fn packed(shape: u8, low: u16, high: u16) -> u64
     ensures { result ≡ packed_word shape low high }
 {
-    ((high as u64) * 65536 + (low as u64)) * 256 + (shape as u64)
+    (u64::from(high) * 65536 + u64::from(low)) * 256 + u64::from(shape)
 }
 
 pub(crate) fn packed_atom(min: u16, max: Upper) -> u64
@@ -48,53 +57,49 @@ pub(crate) fn packed_marked(word: u64, mark: Mark) -> u64
     word % MARK_PLACE + mark_number(mark) * MARK_PLACE
 }
 
-fn sign_by(byte: u64) -> Sign
+fn sign_by(byte: u8) -> Sign
     ensures { result ≡ sign_by byte }
 {
-    if byte == 44 {
-        return Sign::Sequence;
+    match byte {
+        b',' => Sign::Sequence,
+        b'|' => Sign::Choice,
+        b'&' => Sign::Interleaving,
+        _ => Sign::None,
     }
-    if byte == 124 {
-        return Sign::Choice;
-    }
-    if byte == 38 {
-        return Sign::Interleaving;
-    }
-    Sign::None
 }
 
-fn kind_of(shape: u64, low: u16, high: u16) -> Kind
+fn kind_of(shape: u8, low: u16, high: u16) -> Kind
     ensures { result ≡ kind_by shape low high }
 {
-    if shape == 1 {
-        return Kind::Atom {
+    match shape {
+        1 => Kind::Atom {
             min: low,
             max: Upper::Number(high),
-        };
-    }
-    if shape == 2 {
-        return Kind::Atom {
+        },
+        2 => Kind::Atom {
             min: low,
             max: Upper::Unbounded,
-        };
-    }
-    Kind::Group {
-        sign: sign_by(shape),
-        members: low,
+        },
+        _ => Kind::Group {
+            sign: sign_by(shape),
+            members: low,
+        },
     }
 }
 
 // Kind and mark of the node in a number.
+#[tactic(auto, unfolding(crate::specs::Packed::node_in))]
 pub(crate) fn kind_in(word: u64) -> Kind
     ensures { result ≡ (node_in word).kind }
 {
     kind_of(
-        word % 256,
+        (word % 256) as u8,
         (word / 256 % 65536) as u16,
         (word / 256 / 65536 % 65536) as u16,
     )
 }
 
+#[tactic(auto, unfolding(crate::specs::Packed::node_in))]
 pub(crate) fn mark_in(word: u64) -> Mark
     ensures { result ≡ (node_in word).mark }
 {
@@ -116,9 +121,9 @@ fn byte_of(sign: Sign) -> u8
 {
     match sign {
         Sign::None => 0,
-        Sign::Sequence => 44,
-        Sign::Choice => 124,
-        Sign::Interleaving => 38,
+        Sign::Sequence => b',',
+        Sign::Choice => b'|',
+        Sign::Interleaving => b'&',
     }
 }
 
@@ -134,9 +139,7 @@ fn packed_kind(kind: Kind) -> u64
 fn packed_node(node: Node) -> u64
     ensures { node_in result ≡ node }
 {
-    let kind = node.kind;
-    let mark = node.mark;
-    packed_marked(packed_kind(kind), mark)
+    packed_marked(packed_kind(node.kind), node.mark)
 }
 
 // The nodes of a rule, and behind them the upper count of each name, by its number. Zeros stand there at first, and the first of them stays: no foreign
@@ -145,16 +148,12 @@ pub(crate) fn pack(rule: Rule, words: &mut [u64; WORDS])
     requires { (rule.len ≤ max_nodes) × (names rule ≤ max_atoms) × Fresh words.old }
     ensures { Stores node_in max_nodes (limits_in (used rule)) words.new rule.len (used rule) }
 {
-    let len = rule.len;
-    let mut name: usize = 0;
-    let mut i: usize = 0;
-    while i < len {
+    let mut place = MAX_NODES;
+    for i in 0..rule.len {
         let node = rule.nodes[i];
-        let kind = node.kind;
         words[i] = packed_node(node);
-        name += atoms_of(kind);
-        words[MAX_NODES + name] = limited(kind, words[MAX_NODES + name]);
-        i += 1;
+        place += atoms_of(node.kind);
+        words[place] = limited(node.kind, words[place]);
     }
 }
 
@@ -162,15 +161,8 @@ pub(crate) fn pack(rule: Rule, words: &mut [u64; WORDS])
 pub(crate) fn no_rule() -> Rule
     ensures { result ≡ rule_with (unused ∷ []) }
 {
-    let node = Node {
-        kind: Kind::Group {
-            sign: Sign::None,
-            members: 0,
-        },
-        mark: Mark::Plain,
-    };
     Rule {
-        nodes: [node; MAX_NODES],
+        nodes: [UNUSED; MAX_NODES],
         len: 1,
     }
 }
@@ -181,10 +173,8 @@ pub(crate) fn unpack(words: &[u64; WORDS], len: usize) -> Rule
     ensures { result ≡ rule_in words.now len }
 {
     let mut rule = no_rule();
-    let mut i: usize = 0;
-    while i < len {
+    for i in 0..len {
         rule.nodes[i] = unpacked(words[i]);
-        i += 1;
     }
     rule.len = len;
     rule

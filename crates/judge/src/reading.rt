@@ -4,17 +4,15 @@ ghost use mathlib.Core.{Path.◌≡◌, List.[], List.map};
 ghost use Rattle.std.specs.Prelude.{◌≤◌, length, take};
 ghost use Rattle.model.specs.Syntax.{number_in};
 ghost use Rattle.judge.specs.Reading.{names_with, refusal, reading, parts_of};
-ghost use Rattle.judge.specs.Packed.{place_of};
+ghost use Rattle.fields.specs.Limits.{max_atoms};
+ghost use Rattle.judge.specs.Reading.Table.{entry_place};
 
-use crate::cursor::Got;
+use crate::fault::Misread;
 use crate::packed::{WORDS, no_rule, unpack};
 use crate::reader::read_whole;
-use crate::reply::{ChildrenRead, read_children};
-use crate::table::SLOTS;
-use fields::bytes::same_bytes;
-use fields::limits::lesser;
-use model::fault::ModelFault;
-use model::rule::{MAX_ATOMS, MAX_NODES, NameNumber, Rule};
+use crate::reply::{TextMisread, read_children};
+use crate::table::{Entry, Table};
+use model::rule::{MAX_ATOMS, NameNumber, Rule};
 
 // Where a name stands in the text.
 #[derive(Clone, Copy)]
@@ -30,16 +28,10 @@ pub struct Names {
     pub len: usize,
 }
 
-#[derive(Clone, Copy)]
-pub enum Outcome {
-    Read,
-    Refused(ModelFault, usize),
-}
-
 // A refused reading has the rule of `()` and no names.
 #[derive(Clone, Copy)]
 pub struct Reading {
-    pub outcome: Outcome,
+    pub outcome: Result<(), Misread>,
     pub rule: Rule,
     pub names: Names,
 }
@@ -54,28 +46,23 @@ fn no_names() -> Names
     }
 }
 
-fn refused(f: ModelFault, p: usize) -> Reading
-    ensures { result ≡ refusal f p }
+fn refused(misread: Misread) -> Reading
+    ensures { result ≡ refusal misread.fault misread.place }
 {
     Reading {
-        outcome: Outcome::Refused(f, p),
+        outcome: Err(misread),
         rule: no_rule(),
         names: no_names(),
     }
 }
 
-fn names_of(words: &[u64; MAX_NODES], len: usize) -> Names
-    requires { (len ≤ 64) × (length words.now ≡ 128) }
-    ensures { result ≡ names_with (map place_of (take len words.now)) }
+fn names_of(entries: &[Entry; MAX_ATOMS], len: usize) -> Names
+    requires { (len ≤ max_atoms) × (length entries.now ≡ max_atoms) }
+    ensures { result ≡ names_with (map entry_place (take len entries.now)) }
 {
     let mut names = no_names();
-    let mut i: usize = 0;
-    while i < len {
-        names.places[i] = NamePlace {
-            start: (words[i] / 65536 % 65536) as u16,
-            len: (words[i] / 256 % 256) as u16,
-        };
-        i += 1;
+    for (i, entry) in entries[..len].iter().enumerate() {
+        names.places[i] = entry.place;
     }
     names.len = len;
     names
@@ -85,28 +72,26 @@ pub fn read_model(text: &[u8]) -> Reading
     ensures { result ≡ reading text.now }
 {
     let mut work = [0u64; WORDS];
-    let mut names = [0u64; MAX_NODES];
-    let mut heads = [0u8; SLOTS];
-    match read_whole(text, &mut work, &mut names, &mut heads) {
-        Got::Past(past) => Reading {
-            outcome: Outcome::Read,
+    let mut table = Table::new();
+    match read_whole(text, &mut work, &mut table) {
+        Ok(past) => Reading {
+            outcome: Ok(()),
             rule: unpack(&work, past.nodes),
-            names: names_of(&names, past.names),
+            names: names_of(&table.names, past.names),
         },
-        Got::Fault(f, p) => refused(f, p),
+        Err(misread) => refused(misread),
     }
 }
 
 // The outcome alone, for a caller that needs no rule. The text is read as for a row of no children, so that the desk's library has one reader.
-pub fn model_outcome(text: &[u8]) -> Outcome
+pub fn model_outcome(text: &[u8]) -> Result<(), Misread>
     ensures { result ≡ (reading text.now).outcome }
 {
     let mut words = [0u64; WORDS];
     match read_children(text, b"", &mut words) {
-        ChildrenRead::Both(_) => Outcome::Read,
-        ChildrenRead::Faulty(_) => Outcome::Read,
-        ChildrenRead::ModelRefused(f, p) => Outcome::Refused(f, p),
-        ChildrenRead::ChildrenRefused(_) => Outcome::Read,
+        Ok(_) => Ok(()),
+        Err(TextMisread::Model(misread)) => Err(misread),
+        Err(TextMisread::Children(_)) => Ok(()),
     }
 }
 
@@ -114,16 +99,13 @@ pub fn model_outcome(text: &[u8]) -> Outcome
 pub fn number_of(text: &[u8], names: Names, name: &[u8]) -> NameNumber
     ensures { result.0 ≡ number_in (parts_of text.now names) name.now }
 {
-    let n = lesser(names.len, MAX_ATOMS);
-    let mut i: usize = 0;
-    while i < n {
-        let place = names.places[i];
-        let start = lesser(place.start as usize, text.len());
-        let end = lesser(place.start as usize + place.len as usize, text.len());
-        if same_bytes(&text[start..end], name) {
+    let n = names.len.min(MAX_ATOMS);
+    for (i, place) in names.places[..n].iter().enumerate() {
+        let start = (place.start as usize).min(text.len());
+        let end = (place.start as usize + place.len as usize).min(text.len());
+        if &text[start..end] == name {
             return NameNumber((i + 1) as u16);
         }
-        i += 1;
     }
     NameNumber(0)
 }

@@ -1,21 +1,22 @@
 -- The ends: when a listing is refused, by the table; what it says of each cue, by the meaning of the models; what its last line says of the others.
 -- Each proof is a citation.
 use mathlib.Core.{Path.◌≡◌, Logic.◌↔◌, List.[], List.◌∷◌, List.map}
-use Rattle.std.specs.Prelude.{ℕ, length}
+use Rattle.std.specs.Prelude.{Result, Ok, ℕ, length}
 use Rattle.fields.specs.{Bytes.Text, Bytes.bytes}
 use Rattle.fields.specs.Split.{tab, joined_by, but_last, last, lines, behind, unlines, fields, field}
-use Rattle.sheet.specs.{declared.sheet.SheetOutcome.TheVariants.Read, Sheet.sheet_outcome}
-use Rattle.lister.specs.{declared.said.Said.Said, declared.listing.Listed.Listed, Listing.said, Listed.listed, Listed.Lists, Listed.Laws.listed-is}
+use Rattle.sheet.specs.Sheet.{sheet_outcome}
+use Rattle.lister.specs.declared.listing.ListFault.{ListFault}
+use Rattle.lister.specs.{Listing.Said, Listing.said, Listed.listed, Listed.Lists, Listed.Laws.listed-is}
 use Rattle.lister.specs.{Said.CueSaid, Said.Laws.cue-is}
 use Rattle.lister.specs.Listing.{listing_fields, listing_line, listing_lines, listing, Totals}
 use Rattle.lister.specs.Listing.Lines.{lines_are, line-fields, totals-are, above-count, none-are}
 
 -- Demand 1, listing: the sheet's refusal, else the list's, else 50 where the listing is longer than the buffer, else its length.
-pub listed-exactly : (s c : Text) (size : ℕ) (r : Listed) → (listed s c size ≡ r) ↔ Lists s c size r
+pub listed-exactly : (s c : Text) (size : ℕ) (r : Result ℕ ListFault) → (listed s c size ≡ r) ↔ Lists s c size r
 listed-exactly = listed-is
 
 -- Demand 2, listing: of each cue line it says what the meaning of its kind's model says of its children, or that the sheet lacks the kind.
-pub cue-said : (s : Text) → sheet_outcome s ≡ Read → (l : Text) (a : Said) → (said (lines s) l ≡ a) ↔ CueSaid (lines s) l a
+pub cue-said : (s : Text) → sheet_outcome s ≡ Ok tt → (l : Text) (a : Said) → (said (lines s) l ≡ a) ↔ CueSaid (lines s) l a
 cue-said = cue-is
 
 -- W6. The lines are one for each cue line, in order, and the last; nothing stands behind its line feed.

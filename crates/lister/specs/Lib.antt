@@ -3,9 +3,9 @@
 --   Listing    the lines of a listing, the last one among them
 --   Said       what is said of a cue line, by the meaning
 --   Listed     the answer, its number, and the buffer after
--- Coded holds what the proofs of the writer need: verdicts kept as bytes.
+-- Making holds what the parts of a listing's making know of each other.
 pub mod Listing
 pub mod Listed
 pub mod Said
-pub mod Coded
+pub mod Making
 pub mod Ends

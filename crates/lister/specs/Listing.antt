@@ -3,22 +3,25 @@ pub mod Laws
 pub mod Total
 pub mod Lines
 use mathlib.Core.{Path.◌≡◌, Bool.cond, List.List, List.[], List.◌∷◌, List.◌++◌, List.map}
-use Rattle.std.specs.Prelude.{ℕ, zero, suc, ◌+◌, length, get_or}
+use Rattle.std.specs.Prelude.{Option, Some, None, ℕ, zero, suc, ◌+◌, length, get_or}
 use Rattle.model.specs.{declared.verdict.Verdict.Verdict, Syntax.written_names, Syntax.number_in, Fault.Answer, Fault.refused, Fault.accepted}
 use Rattle.judge.specs.Answer.{answer}
 use Rattle.model.specs.{Model.model_of, Model.type_of, Verdict.verdict}
-use Rattle.model.specs.declared.verdict.Verdict.TheVariants.{Complete as IsComplete, Open as IsOpen, Dead as IsDead}
+use Rattle.model.specs.declared.verdict.Verdict.TheVariants.{Complete, Open, Dead}
 use Rattle.fields.specs.{Bytes.Text, Bytes.bytes, Bytes.same_text, Bytes.digits}
 use Rattle.fields.specs.Split.{tab, joined_by, lines, unlines, fields, field}
 use Rattle.judge.specs.Named.{row_of}
 use Rattle.sheet.specs.{Cues.children, Sheet.kind, Sheet.model}
-use Rattle.lister.specs.declared.said.Said.{Said, TheVariants.Complete, TheVariants.Open, TheVariants.Dead, TheVariants.NoSheet}
+
+-- the verdict on the row of a cue's children, or none where the sheet lacks its kind
+abbrev pub Said : Type 0
+Said = Option Verdict
 
 abbrev pub word : Said → Text
-word Complete = bytes "complete"
-word Open = bytes "open"
-word Dead = bytes "dead"
-word NoSheet = bytes "nosheet"
+word (Some Complete) = bytes "complete"
+word (Some Open) = bytes "open"
+word (Some Dead) = bytes "dead"
+word None = bytes "nosheet"
 
 -- of a cue line and what is said of it: number, kind, verdict, how many children
 abbrev pub listing_fields : Text → Said → List Text
@@ -35,21 +38,21 @@ times_among x (y ∷ ys) = cond (same_text y x) (suc (times_among x ys)) (times_
 -- how many words there are, and how often each stands among them: document 02, W6
 abbrev pub totals : List Text → List ℕ
 totals ws =
-    length ws ∷ (times_among (word Complete) ws ∷ (times_among (word Open) ws ∷ (times_among (word Dead) ws ∷ (times_among (word NoSheet) ws ∷ []))))
+    length ws
+    ∷ (times_among (word (Some Complete)) ws
+    ∷ (times_among (word (Some Open)) ws ∷ (times_among (word (Some Dead)) ws ∷ (times_among (word None) ws ∷ []))))
 
 -- the last line, by the words above it
 abbrev pub total_line : List Text → Text
 total_line ws = joined_by tab (bytes "total" ∷ map digits (totals ws))
 
 abbrev pub word_of : Verdict → Said
-word_of IsComplete = Complete
-word_of IsOpen = Open
-word_of IsDead = Dead
+word_of v = Some v
 
 -- by the answer to a model text: the verdict on the row of the children, by the meaning of the tree that it spells (a sheet that was read has no
 -- refused model: `Ends.cue-said`)
 abbrev pub said_by : Answer → List Text → Said
-said_by (refused f p) cs = Dead
+said_by (refused f p) cs = Some Dead
 said_by (accepted t) cs = word_of (verdict (type_of (model_of t)) (row_of (written_names t) cs))
 
 -- what a model text says of children
@@ -58,7 +61,7 @@ said_of m cs = said_by (answer m) cs
 
 -- by the sheet's line with a number from 1, or 0 for none
 abbrev pub said_at : List Text → ℕ → List Text → Said
-said_at ls zero cs = NoSheet
+said_at ls zero cs = None
 said_at ls (suc k) cs = said_of (model (get_or ls k [])) cs
 
 -- what a sheet with these lines says of a cue line
@@ -75,4 +78,5 @@ listing s c = unlines (listing_lines (lines s) (lines c))
 -- what a last line says of words, which are those of the lines above it (`Ends.total-exactly`)
 pub record Totals (ws : List Text) (l : Text) : Type 0 where
   pub numbers_are : fields l ≡ bytes "total" ∷ map digits (totals ws)
-  pub adds_up : times_among (word Complete) ws + times_among (word Open) ws + times_among (word Dead) ws + times_among (word NoSheet) ws ≡ length ws
+  pub adds_up :
+      times_among (word (Some Complete)) ws + times_among (word (Some Open)) ws + times_among (word (Some Dead)) ws + times_among (word None) ws ≡ length ws

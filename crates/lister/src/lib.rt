@@ -4,5 +4,4 @@
 mod line;
 pub mod listing;
 pub mod refusal;
-mod said;
 mod total;

@@ -1,186 +1,157 @@
 // The listing.
 
-ghost use mathlib.Core.{Path.◌≡◌, Bool.cond};
-ghost use Rattle.std.specs.Prelude.{◌*◌, ◌-◌, ◌≤◌};
-ghost use lib.{Dec.eqb, ListN.length};
+ghost use mathlib.Core.{Path.◌≡◌};
+ghost use Rattle.std.specs.Prelude.{◌*◌, ◌≤◌, Some};
+ghost use lib.ListN.{length};
 ghost use Rattle.model.specs.Syntax.{number_in};
 ghost use Rattle.judge.specs.Reading.{part_at, parts_of};
 ghost use Rattle.fields.specs.{Limits.max_file, Split.lines, Split.unlines, Split.field, Put.PutWhole};
 ghost use Rattle.sheet.specs.{Cues.children, Cues.CueFits, Cues.Walk.GoodCues};
 ghost use Rattle.sheet.specs.Sheet.Line.{Loaded};
-ghost use Rattle.lister.specs.{Listing.said_of, Listing.listing, Listed.by_room, Listed.listed, Listed.buffer_after};
-ghost use Rattle.lister.specs.Coded.{code_of, lines_coded, listing_coded, max_line, CueReady, CuesCoded, CodedUpTo};
+ghost use Rattle.lister.specs.{Listing.said_of, Listing.said, Listing.listing, Listed.by_room, Listed.listed, Listed.buffer_after};
+ghost use Rattle.lister.specs.Making.{before, lines_said, listing_said, max_line, CueReady, CueGood, CuesSaid, SaidUpTo};
 
 use crate::line::{line_length, write_line};
-use crate::said::{Said, code_of, decode, said_from};
 use crate::total::{TOTAL_SIZE, write_total};
-use fields::fault::CueFault;
+use fields::fault::{AtLine, CueFault};
 use fields::limits::MAX_FILE;
+use fields::lines::lines_of;
 use fields::put::put;
-use fields::split::{LINE_FEED, first_fields, part_end};
+use fields::split::first_fields;
 use judge::reading::{NamePlace, Names, number_of};
 use judge::reply::judge_children;
-use sheet::cues::{CuesRead, read_cues};
-use sheet::sheet::{Sheet, SheetFault, SheetOutcome, read_sheet};
+use model::verdict::Verdict;
+use sheet::cues::read_cues;
+use sheet::sheet::{Sheet, SheetFault, read_sheet};
 
-// How long the listing is that was written; or what is wrong with the sheet or with the cue list, and on which line; or that the listing is longer
-// than the buffer (`listed_number` in specs/Listed.antt).
+// What is wrong with the sheet or with the cue list; or the listing is longer than the buffer (`listed_number` in specs/Listed.antt).
 #[derive(Clone, Copy)]
-pub enum Listed {
-    Written(usize),
-    SheetRefused(SheetFault, usize),
-    CueRefused(CueFault, usize),
+pub enum ListFault {
+    Sheet(AtLine<SheetFault>),
+    Cues(AtLine<CueFault>),
     TooLong,
 }
 
-// What the model at a place of the sheet's text says of a cue.
-fn say(sheet: &[u8], place: NamePlace, cue: &[u8]) -> Said
+impl From<AtLine<SheetFault>> for ListFault {
+    ghost use Rattle.lister.specs.declared.listing.ListFault.TheVariants.{Sheet};
+
+    ghost from_gives = { λ f e. e ≡ Sheet f };
+
+    fn from(refused: AtLine<SheetFault>) -> ListFault {
+        ListFault::Sheet(refused)
+    }
+}
+
+impl From<AtLine<CueFault>> for ListFault {
+    ghost use Rattle.lister.specs.declared.listing.ListFault.TheVariants.{Cues};
+
+    ghost from_gives = { λ f e. e ≡ Cues f };
+
+    fn from(refused: AtLine<CueFault>) -> ListFault {
+        ListFault::Cues(refused)
+    }
+}
+
+// The verdict on a cue's row by the model at a place of the sheet's text.
+fn judge_cue(sheet: &[u8], place: NamePlace, cue: &[u8]) -> Verdict
     requires { CueReady sheet.now place cue.now }
-    ensures { result ≡ said_of (part_at sheet.now place) (children cue.now) }
+    ensures { Some result ≡ said_of (part_at sheet.now place) (children cue.now) }
 {
-    let start = place.start as usize;
-    let model = &sheet[start..start + place.len as usize];
-    let ends = first_fields(cue);
-    let third = ends.third;
-    if third < cue.len() {
-        return said_from(judge_children(model, &cue[third + 1..cue.len()]));
-    }
-    said_from(judge_children(model, b""))
+    let start = usize::from(place.start);
+    let model = &sheet[start..start + usize::from(place.len)];
+    let third = first_fields(cue).third;
+    let row = if third < cue.len() {
+        &cue[third + 1..]
+    } else {
+        b""
+    };
+    judge_children(model, row).unwrap_or(Verdict::Dead)
 }
 
-// The same as a byte, by the number of the sheet's line: 0 where the sheet lacks the kind.
-fn code_for(sheet: &[u8], place: NamePlace, cue: &[u8], number: usize) -> u8
-    requires { (number ≡ 0 → ⊥) → CueReady sheet.now place cue.now }
-    ensures { result ≡ cond (eqb number 0) 3 (code_of (said_of (part_at sheet.now place) (children cue.now))) }
-{
-    if number == 0 {
-        return 3;
-    }
-    let said = say(sheet, place, cue);
-    code_of(said)
-}
-
-// The number from 1 of the sheet's line that has the kind of a cue, or 0.
-fn line_of(sheet: &[u8], kinds: Names, cue: &[u8]) -> usize
+// The sheet's line, from 0, that has the kind of a cue.
+fn line_of(sheet: &[u8], kinds: Names, cue: &[u8]) -> Option<usize>
     requires { CueFits cue.now }
-    ensures { result ≡ number_in (parts_of sheet.now kinds) (field 2 cue.now) }
+    ensures { result ≡ before (number_in (parts_of sheet.now kinds) (field 2 cue.now)) }
 {
     let ends = first_fields(cue);
-    let second = ends.second;
-    let third = ends.third;
-    let number = number_of(sheet, kinds, &cue[second + 1..third]);
-    number.0 as usize
+    let number = number_of(sheet, kinds, &cue[ends.second + 1..ends.third]);
+    usize::from(number.0).checked_sub(1)
 }
 
-fn one_less(n: usize) -> usize
-    ensures { result ≡ n - 1 }
+// The verdict on a cue's row by the sheet's model for its kind, if it has one.
+fn say(sheet: &[u8], rules: &Sheet, cue: &[u8]) -> Option<Verdict>
+    requires { Loaded sheet.now rules.now × CueGood cue.now }
+    ensures { result ≡ said (lines sheet.now) cue.now }
 {
-    if n == 0 { 0 } else { n - 1 }
+    let line = line_of(sheet, rules.kinds, cue)?;
+    Some(judge_cue(sheet, rules.entries[line].model, cue))
 }
 
 // What the sheet says of each cue.
-fn say_all(sheet: &[u8], rules: Sheet, cues: &[u8], codes: &mut [u8])
-    requires { Loaded sheet.now rules × GoodCues cues.now × (length codes.old ≡ 65535) }
-    ensures { CodedUpTo (length (lines cues.now)) sheet.now cues.now codes.new }
+fn say_all(sheet: &[u8], rules: &Sheet, cues: &[u8], said: &mut [Option<Verdict>])
+    requires { Loaded sheet.now rules.now × GoodCues cues.now × (length said.old ≡ 65535) }
+    ensures { SaidUpTo (length (lines cues.now)) sheet.now cues.now said.new }
 {
-    let kinds = rules.kinds;
-    let mut n: usize = 0;
-    let mut at: usize = 0;
-    while at < cues.len() {
-        let end = part_end(cues, at, LINE_FEED);
-        let cue = &cues[at..end];
-        let number = line_of(sheet, kinds, cue);
-        let i = one_less(number);
-        let place = NamePlace {
-            start: rules.entries[i].model.start,
-            len: rules.entries[i].model.len,
-        };
-        codes[n] = code_for(sheet, place, cue, number);
-        n += 1;
-        at = end + 1;
+    for (n, cue) in lines_of(cues).enumerate() {
+        said[n] = say(sheet, rules, cue);
     }
 }
 
 // How long the lines of all cues are.
-fn lines_length(cues: &[u8], codes: &[u8]) -> usize
-    requires { CuesCoded cues.now codes.now }
-    ensures value { result ≡ length (unlines (lines_coded codes.now (lines cues.now))) }
+fn lines_length(cues: &[u8], said: &[Option<Verdict>]) -> usize
+    requires { CuesSaid cues.now said.now }
+    ensures value { result ≡ length (unlines (lines_said said.now (lines cues.now))) }
     ensures upper_bound { result ≤ max_file * max_line }
 {
     let mut length: usize = 0;
-    let mut n: usize = 0;
-    let mut at: usize = 0;
-    while at < cues.len() {
-        let end = part_end(cues, at, LINE_FEED);
-        let said = decode(codes[n]);
-        length += line_length(&cues[at..end], said);
-        n += 1;
-        at = end + 1;
+    for (cue, one) in lines_of(cues).zip(said) {
+        length += line_length(cue, *one);
     }
     length
 }
 
 // Writes the lines of all cues: each goes into the part of the buffer that the earlier ones left free.
-fn write_lines(buffer: &mut [u8], cues: &[u8], codes: &[u8])
-    requires { CuesCoded cues.now codes.now × (length (unlines (lines_coded codes.now (lines cues.now))) ≤ length buffer.old) }
-    ensures { PutWhole buffer.old buffer.new (unlines (lines_coded codes.now (lines cues.now))) }
+fn write_lines(buffer: &mut [u8], cues: &[u8], said: &[Option<Verdict>])
+    requires { CuesSaid cues.now said.now × (length (unlines (lines_said said.now (lines cues.now))) ≤ length buffer.old) }
+    ensures { PutWhole buffer.old buffer.new (unlines (lines_said said.now (lines cues.now))) }
 {
     let mut written: usize = 0;
-    let mut n: usize = 0;
-    let mut at: usize = 0;
-    while at < cues.len() {
-        let end = part_end(cues, at, LINE_FEED);
-        let said = decode(codes[n]);
-        let more = write_line(&mut buffer[written..], &cues[at..end], said);
-        written += more;
-        n += 1;
-        at = end + 1;
+    for (cue, one) in lines_of(cues).zip(said) {
+        written += write_line(&mut buffer[written..], cue, *one);
     }
 }
 
 // Writes the listing by what is said of each cue, where the buffer has room for it.
-fn write_listing(buffer: &mut [u8], cues: &[u8], codes: &[u8]) -> Listed
-    requires { CuesCoded cues.now codes.now }
-    ensures value { result ≡ by_room (listing_coded codes.now cues.now) (length buffer.old) }
-    ensures buffer_after { buffer.new ≡ buffer_after result (listing_coded codes.now cues.now) buffer.old }
+fn write_listing(
+    buffer: &mut [u8],
+    cues: &[u8],
+    said: &[Option<Verdict>],
+) -> Result<usize, ListFault>
+    requires { CuesSaid cues.now said.now }
+    ensures value { result ≡ by_room (listing_said said.now cues.now) (length buffer.old) }
+    ensures buffer_after { buffer.new ≡ buffer_after result (listing_said said.now cues.now) buffer.old }
 {
     let mut last = [0u8; TOTAL_SIZE];
-    let below = write_total(&mut last, codes);
-    let above = lines_length(cues, codes);
+    let below = write_total(&mut last, said);
+    let above = lines_length(cues, said);
     let length = above + below;
     if buffer.len() < length {
-        return Listed::TooLong;
+        return Err(ListFault::TooLong);
     }
-    write_lines(buffer, cues, codes);
-    put(buffer, above, &last[0..below]);
-    Listed::Written(length)
-}
-
-fn no_codes() -> [u8; MAX_FILE] {
-    [0; MAX_FILE]
+    write_lines(buffer, cues, said);
+    put(buffer, above, &last[..below]);
+    Ok(length)
 }
 
 // Writes the listing of a cue list by a sheet into the buffer. A refusal changes no byte of it.
-pub fn list(sheet: &[u8], cues: &[u8], buffer: &mut [u8]) -> Listed
+pub fn list(sheet: &[u8], cues: &[u8], buffer: &mut [u8]) -> Result<usize, ListFault>
     ensures value { result ≡ listed sheet.now cues.now (length buffer.old) }
     ensures buffer_after { buffer.new ≡ buffer_after result (listing sheet.now cues.now) buffer.old }
 {
     let read = read_sheet(sheet);
-    let outcome = read.outcome;
-    match outcome {
-        SheetOutcome::Read => {}
-        SheetOutcome::Refused(f, n) => {
-            return Listed::SheetRefused(f, n);
-        }
-    }
-    let count = match read_cues(cues) {
-        CuesRead::Count(n) => n,
-        CuesRead::Refused(f, n) => {
-            return Listed::CueRefused(f, n);
-        }
-    };
-    let rules = read.sheet;
-    let mut codes = no_codes();
-    say_all(sheet, rules, cues, &mut codes);
-    write_listing(buffer, cues, &codes[0..count])
+    read.outcome?;
+    let count = read_cues(cues)?;
+    let mut said = [None; MAX_FILE];
+    say_all(sheet, &read.sheet, cues, &mut said);
+    write_listing(buffer, cues, &said[..count])
 }

@@ -3,32 +3,32 @@
 ghost use Rattle.std.specs.Prelude.{◌≡◌};
 ghost use Rattle.lister.specs.Listed.{listed_refusal};
 
-use crate::listing::Listed;
+use crate::listing::ListFault;
 use fields::fault::cue_number;
 use sheet::number::sheet_number;
 use sheet::refusal::{Refusal, Source, TOO_LONG};
 
 // Of a listing that was refused. Of one that was written, number and line are 0.
-pub fn listed_refusal(listed: Listed) -> Refusal
+pub fn listed_refusal(listed: Result<usize, ListFault>) -> Refusal
     ensures { result ≡ listed_refusal listed }
 {
     match listed {
-        Listed::Written(_) => Refusal {
+        Ok(_) => Refusal {
             source: Source::Listing,
             number: 0,
             line: 0,
         },
-        Listed::SheetRefused(f, line) => Refusal {
+        Err(ListFault::Sheet(refused)) => Refusal {
             source: Source::Sheet,
-            number: sheet_number(f),
-            line: line,
+            number: sheet_number(refused.fault),
+            line: refused.line,
         },
-        Listed::CueRefused(f, line) => Refusal {
+        Err(ListFault::Cues(refused)) => Refusal {
             source: Source::Cues,
-            number: cue_number(f),
-            line: line,
+            number: cue_number(refused.fault),
+            line: refused.line,
         },
-        Listed::TooLong => Refusal {
+        Err(ListFault::TooLong) => Refusal {
             source: Source::Listing,
             number: TOO_LONG,
             line: 0,

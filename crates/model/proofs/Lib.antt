@@ -6,6 +6,7 @@ pub mod AcceptRight
 pub mod AcceptScan
 pub mod AcceptStarts
 pub mod AcceptTest
+pub mod Chains
 pub mod CheckExact
 pub mod CheckLaws
 pub mod DepthLaws

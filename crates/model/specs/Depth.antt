@@ -1,14 +1,17 @@
 -- The depth of a rule, as one pass over its nodes finds it: of each flattened tree only a few facts are kept. `DepthLaws.depth_is` has that it is the
 -- depth of the model.
-use Rattle.std.specs.Prelude.{Bool, true, false, cond, not, ◌&&◌, ◌||◌, List, [], ◌∷◌, ℕ, ◌+◌, ◌-◌, ◌*◌, ◌/◌, ◌%◌, max, min}
-use lib.{Dec.ltb, Dec.eqb, ListN.get_or}
+use Rattle.std.specs.Prelude.{Bool, true, false, cond, not, ◌&&◌, ◌||◌, List, [], ◌∷◌, ℕ, ◌+◌, ◌-◌, max, min, refl}
+use lib.{Dec.ltb, ListN.get_or}
 use Rattle.model.specs.{declared.rule.Sign.Sign, declared.rule.Mark.Mark, declared.rule.Kind.Kind}
-use Rattle.model.specs.declared.rule.Sign.TheVariants.{None, Sequence, Choice, Interleaving}
-use Rattle.model.specs.{declared.rule.Rule.Rule, declared.depth.Flat.Flat, Rule.used, Model.Algebra, Model.eval}
-use Rattle.model.specs.Flatten.{sign_number, same_sign, dropped_mark}
+use Rattle.model.specs.declared.rule.Sign.TheVariants.{None}
+use Rattle.model.specs.{declared.rule.Rule.Rule, declared.depth.Flat.Flat, Rule.used, Model.Algebra, Model.eval, Pass.IsStep}
+use Rattle.model.specs.Flatten.{same_sign, dropped_mark}
 use Rattle.model.specs.declared.rule.Kind.TheVariants.{Atom, Group}
 use Rattle.model.specs.Tree.{is_plain}
-use Rattle.fields.specs.Limits.{max_nesting}
+use Rattle.std.specs.{Prelude.◌*◌, Prelude.◌^◌, Prelude.◌<◌, Mem.type_size}
+use Rattle.std.proofs.Common.{arith}
+use Rattle.model.specs.contracts.depth.Flat.{the_row}
+use Rattle.fields.specs.Limits.{max_nesting, max_nodes}
 
 -- one more, but no more than one over the limit
 abbrev pub deeper : ℕ → ℕ
@@ -71,12 +74,11 @@ flat_by = record { on_atom = λ k lo hi. atom_flat; on_group = λ k s l. group_b
 abbrev pub rule_depth : Rule → ℕ
 rule_depth r = (get_or (eval flat_by (used r) 0) 0 nil_flat).depth
 
--- what is kept of a tree, in one number, so that a stack of them can be lent
-abbrev pub sign_numbered : ℕ → Sign
-sign_numbered n = cond (eqb n 0) None (cond (eqb n 1) Sequence (cond (eqb n 2) Choice Interleaving))
+-- a node, as the pass takes it from the stack
+pub flat-step : IsStep flat_node flat_by
+flat-step (Atom lo hi) m k rest = refl
+flat-step (Group s n) m k rest = refl
 
-abbrev pub flat_number : Flat → ℕ
-flat_number x = x.depth * 16 + sign_number x.sign + cond x.marked 4 0 + cond x.empty 8 0
-
-unfoldable pub flat_in : ℕ → Flat
-flat_in n = record { sign = sign_numbered (n % 4); marked = eqb (n / 4 % 2) 1; empty = eqb (n / 8 % 2) 1; depth = n / 16 % 256 }
+-- so many are kept at once
+pub flat-small : max_nodes * type_size the_row < 2 ^ 63
+flat-small = omega arith

@@ -1,14 +1,14 @@
 // The depth of a rule: the most groups around an atom, after flattening. One pass over the nodes finds it.
 
-ghost use mathlib.Core.{Path.◌≡◌, Bool.cond, List.map};
+ghost use Rattle.std.specs.Prelude.{◌≡◌, reverse};
+ghost use Rattle.std.specs.List.{list_any, fold};
 ghost use Rattle.model.specs.Depth.{nil_flat, merges_by, brings_by, beside_by, over_by, closed_by, sign_in, flat_part, flat_node, rule_depth};
-ghost use Rattle.model.specs.Depth.{sign_numbered, flat_number, flat_in};
-ghost use Rattle.model.specs.Flatten.{sign_number, same_sign};
+ghost use Rattle.model.specs.Depth.{flat_by, flat-step, flat-small};
 
-use crate::check::{larger, members_of, one_deeper};
+use crate::check::one_deeper;
 use crate::mark::is_plain;
-use crate::rule::{Kind, MAX_NODES, Mark, Rule, Sign};
-use fields::limits::lesser;
+use crate::pass::{Kept, kept_of};
+use crate::rule::{Kind, Mark, Node, Rule, Sign};
 
 // What is kept of a flattened tree: the sign between its members, whether it has a mark, whether it is `()`, and the most groups around an atom of it,
 // itself among them.
@@ -20,39 +20,10 @@ pub struct Flat {
     pub depth: u8,
 }
 
-fn nil() -> Flat
-    ensures { result ≡ nil_flat }
-{
-    Flat {
-        sign: Sign::None,
-        marked: false,
-        empty: true,
-        depth: 0,
-    }
-}
-
-fn sign_number(sign: Sign) -> u8
-    ensures { result ≡ sign_number sign }
-{
-    match sign {
-        Sign::None => 0,
-        Sign::Sequence => 1,
-        Sign::Choice => 2,
-        Sign::Interleaving => 3,
-    }
-}
-
-fn same_sign(a: Sign, b: Sign) -> bool
-    ensures { result ≡ same_sign a b }
-{
-    sign_number(a) == sign_number(b)
-}
-
 fn merges(sign: Sign, x: Flat) -> bool
     ensures { result ≡ merges_by sign x }
 {
-    let own = x.sign;
-    same_sign(sign, own) & (!x.marked & (0 < x.depth))
+    sign == x.sign && !x.marked && 0 < x.depth
 }
 
 // How many groups the tree brings into a group of the sign.
@@ -77,23 +48,19 @@ fn beside(sign: Sign, x: Flat, y: Flat) -> Flat
         return x;
     }
     Flat {
-        sign: sign,
+        sign,
         marked: false,
         empty: false,
-        depth: one_deeper(larger(brings(sign, x), brings(sign, y))),
+        depth: one_deeper(brings(sign, x).max(brings(sign, y))),
     }
 }
 
 fn over(mark: Mark, x: Flat) -> Flat
     ensures { result ≡ over_by mark x }
 {
-    let plain = is_plain(mark);
-    let sign = x.sign;
     Flat {
-        sign: sign,
-        marked: if plain { x.marked } else { !x.empty },
-        empty: x.empty,
-        depth: x.depth,
+        marked: if is_plain(mark) { x.marked } else { !x.empty },
+        ..x
     }
 }
 
@@ -101,8 +68,8 @@ fn sign_of(kind: Kind) -> Sign
     ensures { result ≡ sign_in kind }
 {
     match kind {
-        Kind::Atom { min: _, max: _ } => Sign::None,
-        Kind::Group { sign, members: _ } => sign,
+        Kind::Atom { .. } => Sign::None,
+        Kind::Group { sign, .. } => sign,
     }
 }
 
@@ -110,7 +77,7 @@ fn sign_of(kind: Kind) -> Sign
 fn closed(sign: Sign, dropped: bool, x: Flat) -> Flat
     ensures { result ≡ closed_by sign dropped x }
 {
-    if same_sign(sign, Sign::Choice) & dropped {
+    if sign == Sign::Choice && dropped {
         return over(Mark::Optional, x);
     }
     x
@@ -120,104 +87,68 @@ fn part(kind: Kind, dropped: bool, x: Flat) -> Flat
     ensures { result ≡ flat_part kind dropped x }
 {
     match kind {
-        Kind::Atom { min: _, max: _ } => Flat {
+        Kind::Atom { .. } => Flat {
+            empty: false,
+            ..Flat::nothing()
+        },
+        Kind::Group { sign, .. } => closed(sign, dropped, x),
+    }
+}
+
+fn some_empty(members: &[Flat]) -> bool
+    ensures { result ≡ list_any (λ x. x.empty) members.now }
+{
+    members.iter().any(|member| member.empty)
+}
+
+fn gathered(sign: Sign, members: &[Flat]) -> Flat
+    ensures { result ≡ fold (λ y x. beside_by sign x y) nil_flat (reverse members.now) }
+{
+    members.iter().rev().fold(
+        Flat::nothing(),
+        |behind, member| beside(sign, *member, behind),
+    )
+}
+
+// What is kept of a node, by what is kept of its members.
+pub fn flat_node(kind: Kind, mark: Mark, members: &[Flat]) -> Flat
+    ensures { result ≡ flat_node kind mark members.now }
+{
+    over(
+        mark,
+        part(kind, some_empty(members), gathered(sign_of(kind), members)),
+    )
+}
+
+impl Kept for Flat {
+    ghost nothing = { nil_flat };
+
+    ghost of_node = { flat_node };
+
+    ghost algebra = { flat_by };
+
+    fn nothing() -> Flat {
+        Flat {
             sign: Sign::None,
             marked: false,
-            empty: false,
+            empty: true,
             depth: 0,
-        },
-        Kind::Group { sign, members: _ } => closed(sign, dropped, x),
+        }
     }
-}
 
-fn numbered_sign(number: u16) -> Sign
-    ensures { result ≡ sign_numbered number }
-{
-    if number == 0 {
-        return Sign::None;
+    fn of_node(node: Node, members: &[Flat]) -> Flat {
+        flat_node(node.kind, node.mark, members)
     }
-    if number == 1 {
-        return Sign::Sequence;
-    }
-    if number == 2 {
-        return Sign::Choice;
-    }
-    Sign::Interleaving
+
+    ghost is_step = { flat-step };
+
+    ghost small = { flat-small };
 }
 
-// The same in one number, so that a stack of them can be lent in parts: two bits for the sign, one for each test, and the depth above them.
-fn flat_in(number: u16) -> Flat
-    ensures { result ≡ flat_in number }
-{
-    Flat {
-        sign: numbered_sign(number % 4),
-        marked: number / 4 % 2 == 1,
-        empty: number / 8 % 2 == 1,
-        depth: (number / 16 % 256) as u8,
-    }
-}
-
-fn only_if(test: bool, n: u16) -> u16
-    ensures { result ≡ cond test n 0 }
-{
-    if test { n } else { 0 }
-}
-
-fn flat_number(x: Flat) -> u16
-    ensures { result ≡ flat_number x }
-{
-    let sign = x.sign;
-    let number = sign_number(sign);
-    let marked = only_if(x.marked, 4);
-    let empty = only_if(x.empty, 8);
-    (x.depth as u16) * 16 + (number as u16) + marked + empty
-}
-
-// What is kept of a node, by what is kept of its members, each in one number. For a rule and for the nodes of a text alike.
-pub fn flat_node(kind: Kind, mark: Mark, members: &[u16]) -> u16
-    ensures { result ≡ flat_number (flat_node kind mark (map flat_in members.now)) }
-{
-    let sign = sign_of(kind);
-    let mut x = nil();
-    let mut dropped = false;
-    let mut at = members.len();
-    while 0 < at {
-        at -= 1;
-        let y = flat_in(members[at]);
-        dropped = y.empty | dropped;
-        x = beside(sign, y, x);
-    }
-    flat_number(over(mark, part(kind, dropped, x)))
-}
-
-// The depth that such a number has.
-pub fn flat_depth(number: u16) -> u8
-    ensures { result ≡ (flat_in number).depth }
-{
-    let x = flat_in(number);
-    x.depth
-}
-
-// The depth, no more than one over the limit of brackets. Nodes from the last to the first: what is kept of the trees that are read stands on a stack that
-// grows down, and a group takes its members from it.
+// The depth, no more than one over the limit of brackets.
 pub fn depth(rule: Rule) -> u8
     ensures { result ≡ rule_depth rule }
 {
-    let mut stack = [0u16; MAX_NODES];
-    let mut top = MAX_NODES;
-    let mut i = lesser(rule.len, MAX_NODES);
-    while 0 < i {
-        i -= 1;
-        let node = rule.nodes[i];
-        let kind = node.kind;
-        let mark = node.mark;
-        let end = lesser(members_of(kind), MAX_NODES - top) + top;
-        let flat = flat_node(kind, mark, &stack[top..end]);
-        top = end - 1;
-        stack[top] = flat;
-    }
-    if top < MAX_NODES {
-        return flat_depth(stack[top]);
-    }
-    0
+    let flat: Flat = kept_of(rule);
+    flat.depth
 }

@@ -6,39 +6,30 @@ ghost use Rattle.model.specs.{Tree.is_plain, Mark.mark_of, Mark.mark_at, Mark.ma
 use crate::rule::Mark;
 
 // A number of 40 bits has its mark above them.
-pub const MARK_PLACE: u64 = 1099511627776;
+pub const MARK_PLACE: u64 = 1 << 40;
 
 pub fn is_plain(mark: Mark) -> bool
     ensures { result ≡ is_plain mark }
 {
-    match mark {
-        Mark::Plain => true,
-        Mark::Optional => false,
-        Mark::Nonempty => false,
-    }
+    mark == Mark::Plain
 }
 
 // The mark that a byte writes; `Plain` if it writes none.
 fn mark_of(byte: u8) -> Mark
     ensures { result ≡ mark_of byte }
 {
-    if byte == b'?' {
-        return Mark::Optional;
+    match byte {
+        b'?' => Mark::Optional,
+        b'!' => Mark::Nonempty,
+        _ => Mark::Plain,
     }
-    if byte == b'!' {
-        return Mark::Nonempty;
-    }
-    Mark::Plain
 }
 
 // The mark that stands at a place of a text.
 pub fn mark_at(text: &[u8], at: usize) -> Mark
     ensures { result ≡ mark_at text.now at }
 {
-    if at < text.len() {
-        return mark_of(text[at]);
-    }
-    Mark::Plain
+    text.get(at).map_or(Mark::Plain, |byte| mark_of(*byte))
 }
 
 pub fn mark_number(mark: Mark) -> u64
@@ -54,11 +45,9 @@ pub fn mark_number(mark: Mark) -> u64
 pub fn numbered_mark(number: u64) -> Mark
     ensures { result ≡ mark_numbered number }
 {
-    if number == 0 {
-        return Mark::Plain;
+    match number {
+        0 => Mark::Plain,
+        1 => Mark::Optional,
+        _ => Mark::Nonempty,
     }
-    if number == 1 {
-        return Mark::Optional;
-    }
-    Mark::Nonempty
 }

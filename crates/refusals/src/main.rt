@@ -4,23 +4,27 @@
 
 use desk::child::{child, child_refusal};
 use fields::limits::MAX_FILE;
-use lister::listing::{Listed, list};
+use lister::listing::list;
 use lister::refusal::listed_refusal;
-use sheet::refusal::{REFUSAL_SIZE, Source, refusal_line};
+use sheet::refusal::{REFUSAL_SIZE, Refusal, Source, refusal_line};
 use std::io;
 
 const BUFFER: usize = 64;
 
 const CHILDREN: usize = 4097;
 
-fn write(rt: &impl Print, text: &[u8]) -> io::Result<()> {
-    rt.write_all(text)
+fn refusal(source: Source, number: u32, line: usize) -> Refusal {
+    Refusal {
+        source,
+        number,
+        line,
+    }
 }
 
-fn write_refusal(rt: &impl Print, source: Source, number: u32, line: usize) -> io::Result<()> {
+fn write_refusal(rt: &impl Print, refusal: Refusal) -> io::Result<()> {
     let mut buffer = [0u8; REFUSAL_SIZE];
-    let n = refusal_line(source, number, line, &mut buffer);
-    write(rt, &buffer[0..n])
+    let n = refusal_line(refusal, &mut buffer);
+    rt.write_all(&buffer[..n])
 }
 
 fn answer(
@@ -30,15 +34,13 @@ fn answer(
     cues: &[u8],
     buffer: &mut [u8],
 ) -> io::Result<()> {
-    write(rt, what)?;
-    write(rt, b"\t")?;
+    rt.write_all(what)?;
+    rt.write_all(b"\t")?;
     let listed = list(sheet, cues, buffer);
-    if let Listed::Written(n) = listed {
-        return println!(rt; "written\t{n}");
+    match listed {
+        Ok(n) => println!(rt; "written\t{n}"),
+        Err(_) => write_refusal(rt, listed_refusal(listed)),
     }
-    let refusal = listed_refusal(listed);
-    let source = refusal.source;
-    write_refusal(rt, source, refusal.number, refusal.line)
 }
 
 fn tell(rt: &impl Print, what: &[u8], sheet: &[u8], cues: &[u8]) -> io::Result<()> {
@@ -70,12 +72,12 @@ fn tell_short(rt: &impl Print) -> io::Result<()> {
 
 // The program's own, and the longest line that there can be.
 fn tell_others(rt: &impl Print) -> io::Result<()> {
-    write(rt, b"60 sheet\t")?;
-    write_refusal(rt, Source::Sheet, 60, 0)?;
-    write(rt, b"60 cues\t")?;
-    write_refusal(rt, Source::Cues, 60, 0)?;
-    write(rt, b"longest\t")?;
-    write_refusal(rt, Source::Listing, 4294967295, 18446744073709551615)
+    rt.write_all(b"60 sheet\t")?;
+    write_refusal(rt, refusal(Source::Sheet, 60, 0))?;
+    rt.write_all(b"60 cues\t")?;
+    write_refusal(rt, refusal(Source::Cues, 60, 0))?;
+    rt.write_all(b"longest\t")?;
+    write_refusal(rt, refusal(Source::Listing, u32::MAX, usize::MAX))
 }
 
 fn tell_child<'a>(
@@ -85,10 +87,10 @@ fn tell_child<'a>(
     children: &'a [u8],
     k: usize,
 ) -> io::Result<()> {
-    write(rt, b"child\t")?;
-    write(rt, what)?;
-    write(rt, b"\t")?;
-    write(rt, child(model, children, k))?;
+    rt.write_all(b"child\t")?;
+    rt.write_all(what)?;
+    rt.write_all(b"\t")?;
+    rt.write_all(child(model, children, k))?;
     let number = child_refusal(model, children, k);
     println!(rt; "\t{number}")
 }
@@ -104,16 +106,9 @@ fn tell_long(rt: &impl Print) -> io::Result<()> {
 // A cue with more children than it may have.
 fn many() -> [u8; 2 * CHILDREN + 8] {
     let mut cues = [b'b'; 2 * CHILDREN + 8];
-    cues[0] = b'c';
-    cues[1] = b'u';
-    cues[2] = b'e';
-    cues[3] = b'\t';
-    cues[4] = b'1';
-    cues[5] = b'\t';
-    let mut i: usize = 7;
-    while i < 2 * CHILDREN + 7 {
-        cues[i] = b'\t';
-        i += 2;
+    cues[..6].copy_from_slice(b"cue\t1\t");
+    for child in cues[6..].chunks_exact_mut(2) {
+        child[1] = b'\t';
     }
     cues[2 * CHILDREN + 7] = b'\n';
     cues
@@ -122,7 +117,7 @@ fn many() -> [u8; 2 * CHILDREN + 8] {
 // The cue as a list, and its children by themselves.
 fn tell_cue(rt: &impl Print, what: &[u8], cues: &[u8]) -> io::Result<()> {
     tell(rt, what, b"", cues)?;
-    if 8 < cues.len() {
+    if cues.len() > 8 {
         tell_child(rt, what, b"b", &cues[8..cues.len() - 1], 1)?;
     }
     Ok(())
@@ -164,25 +159,16 @@ fn tell_sheets(rt: &impl Print) -> io::Result<()> {
 
 // Each of these bytes behind `a`, as the kind of a rule and as the kind and the child of a cue.
 fn tell_bytes(rt: &impl Print, bytes: &[u8]) -> io::Result<()> {
-    for b in bytes {
-        let b = *b;
-        tell_sheet(
-            rt,
-            &[b],
-            &[b'r', b'u', b'l', b'e', b'\t', b'a', b, b'\t', b'b', b'\n'],
-        )?;
-        tell_list(
-            rt,
-            &[b],
-            &[b'c', b'u', b'e', b'\t', b'1', b'\t', b'a', b, b'\n'],
-        )?;
-        tell_list(
-            rt,
-            &[b],
-            &[
-                b'c', b'u', b'e', b'\t', b'1', b'\t', b'a', b'\t', b'a', b, b'\n',
-            ],
-        )?;
+    let mut sheet = *b"rule\ta_\tb\n";
+    let mut kind = *b"cue\t1\ta_\n";
+    let mut child = *b"cue\t1\ta\ta_\n";
+    for &b in bytes {
+        sheet[6] = b;
+        kind[7] = b;
+        child[9] = b;
+        tell_sheet(rt, &[b], &sheet)?;
+        tell_list(rt, &[b], &kind)?;
+        tell_list(rt, &[b], &child)?;
     }
     Ok(())
 }
@@ -190,7 +176,7 @@ fn tell_bytes(rt: &impl Print, bytes: &[u8]) -> io::Result<()> {
 // A sheet of one line with the kind `a`, and its model by itself.
 fn tell_model(rt: &impl Print, what: &[u8], sheet: &[u8]) -> io::Result<()> {
     tell_sheet(rt, what, sheet)?;
-    if 7 < sheet.len() {
+    if sheet.len() > 7 {
         tell_child(rt, what, &sheet[7..sheet.len() - 1], b"b", 1)?;
     }
     Ok(())

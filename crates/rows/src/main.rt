@@ -2,119 +2,87 @@
 // text or the model and the row, and the answer.
 #![tactic(auto)]
 
-ghost use Rattle.std.specs.Prelude.{◌≤◌, length};
+ghost use Rattle.std.specs.Prelude.{◌≤◌};
 
-use fields::limits::lesser;
+use judge::fault::{JudgeFault, Misread};
 use judge::first_fault::first_fault;
-use judge::reading::{Names, Outcome, number_of, read_model};
+use judge::reading::{number_of, read_model};
 use judge::row::judge_row;
-use judge::verdict::{FirstFault, Judged, Searched};
 use model::fault::model_number;
+use model::rule::Rule;
 use model::verdict::Verdict;
 use std::io;
 
-// No row here is longer.
-const MOST: usize = 12;
-
-// No text that is put together is longer.
-const ROOM: usize = 512;
-
-fn write(rt: &impl Print, text: &[u8]) -> io::Result<()> {
-    rt.write_all(text)
-}
-
-fn write_answer(rt: &impl Print, answer: Judged) -> io::Result<()> {
+fn write_answer(rt: &impl Print, answer: Result<Verdict, JudgeFault>) -> io::Result<()> {
     match answer {
-        Judged::Verdict(verdict) => match verdict {
-            Verdict::Complete => write(rt, b"complete\n"),
-            Verdict::Open => write(rt, b"open\n"),
-            Verdict::Dead => write(rt, b"dead\n"),
-        },
-        Judged::Refused(_) => write(rt, b"refused\n"),
+        Ok(Verdict::Complete) => println!(rt; "complete"),
+        Ok(Verdict::Open) => println!(rt; "open"),
+        Ok(Verdict::Dead) => println!(rt; "dead"),
+        Err(_) => println!(rt; "refused"),
     }
 }
 
-fn write_fault(rt: &impl Print, answer: Searched) -> io::Result<()> {
+fn write_fault(rt: &impl Print, answer: Result<Option<usize>, JudgeFault>) -> io::Result<()> {
     match answer {
-        Searched::Found(fault) => match fault {
-            FirstFault::At(place) => println!(rt; "fault at {place}"),
-            FirstFault::Nothing => write(rt, b"no fault\n"),
-        },
-        Searched::Refused(_) => write(rt, b"refused\n"),
+        Ok(Some(place)) => println!(rt; "fault at {place}"),
+        Ok(None) => println!(rt; "no fault"),
+        Err(_) => println!(rt; "refused"),
     }
 }
 
 fn write_row(rt: &impl Print, model: &[u8], row: &[u8]) -> io::Result<()> {
-    write(rt, model)?;
-    write(rt, b"\t")?;
-    if row.len() == 0 {
-        write(rt, b"none")?;
+    rt.write_all(model)?;
+    print!(rt; "\t")?;
+    if row.is_empty() {
+        print!(rt; "none")?;
     } else {
-        write(rt, row)?;
+        rt.write_all(row)?;
     }
-    write(rt, b"\t")
+    print!(rt; "\t")
 }
 
-// The numbers of the first children of a row of letters, each the name of a child, and how many they are.
-fn number_row(model: &[u8], names: Names, row: &[u8], numbers: &mut [u16]) -> usize
-    ensures { result ≤ length numbers.new }
+// Writes the model and a row of letters, each the name of a child, and gives the rule and the row's numbers.
+fn number_row<const N: usize>(
+    rt: &impl Print,
+    model: &[u8],
+    row: &[u8; N],
+) -> io::Result<(Rule, [u16; N])>
+    requires { N ≤ 12 }
 {
-    let mut len: usize = 0;
-    while len < numbers.len() {
-        if row.len() <= len {
-            return len;
-        }
-        let end = len + 1;
-        let number = number_of(model, names, &row[len..end]);
-        numbers[len] = number.0;
-        len = end;
-    }
-    len
+    write_row(rt, model, row)?;
+    let reading = read_model(model);
+    let numbers = row.map(|letter| number_of(model, reading.names, &[letter]).0);
+    Ok((reading.rule, numbers))
 }
 
-fn run(rt: &impl Print, model: &[u8], row: &[u8]) -> io::Result<()> {
-    let reading = read_model(model);
-    let names = reading.names;
-    let mut numbers = [0u16; MOST];
-    let len = number_row(model, names, row, &mut numbers);
-    write_row(rt, model, row)?;
-    write_answer(rt, judge_row(reading.rule, &numbers[0..len]))
+fn run<const N: usize>(rt: &impl Print, model: &[u8], row: &[u8; N]) -> io::Result<()>
+    requires { N ≤ 12 }
+{
+    let (rule, numbers) = number_row(rt, model, row)?;
+    write_answer(rt, judge_row(rule, &numbers))
 }
 
-fn search(rt: &impl Print, model: &[u8], row: &[u8]) -> io::Result<()> {
-    let reading = read_model(model);
-    let names = reading.names;
-    let mut numbers = [0u16; MOST];
-    let len = number_row(model, names, row, &mut numbers);
-    write_row(rt, model, row)?;
-    write_fault(rt, first_fault(reading.rule, &numbers[0..len]))
+fn search<const N: usize>(rt: &impl Print, model: &[u8], row: &[u8; N]) -> io::Result<()>
+    requires { N ≤ 12 }
+{
+    let (rule, numbers) = number_row(rt, model, row)?;
+    write_fault(rt, first_fault(rule, &numbers))
 }
 
 // The longest row there is, of one name.
 fn run_longest(rt: &impl Print, model: &[u8]) -> io::Result<()> {
-    let reading = read_model(model);
-    let row = [1u16; 4096];
     write_row(rt, model, b"4096 of a")?;
-    write_answer(rt, judge_row(reading.rule, &row))
-}
-
-fn write_outcome(rt: &impl Print, outcome: Outcome) -> io::Result<()> {
-    match outcome {
-        Outcome::Read => write(rt, b"read\n"),
-        Outcome::Refused(fault, place) => {
-            let number = model_number(fault);
-            println!(rt; "{number}\t{place}")
-        }
-    }
+    write_answer(rt, judge_row(read_model(model).rule, &[1; 4096]))
 }
 
 // A text under the name `shown`.
 fn read_as(rt: &impl Print, shown: &[u8], text: &[u8]) -> io::Result<()> {
-    write(rt, shown)?;
-    write(rt, b"\t")?;
-    let reading = read_model(text);
-    let outcome = reading.outcome;
-    write_outcome(rt, outcome)
+    rt.write_all(shown)?;
+    print!(rt; "\t")?;
+    match read_model(text).outcome {
+        Ok(()) => println!(rt; "read"),
+        Err(Misread { fault, place }) => println!(rt; "{}\t{place}", model_number(fault)),
+    }
 }
 
 fn read(rt: &impl Print, text: &[u8]) -> io::Result<()> {
@@ -241,10 +209,8 @@ fn at_least_one(rt: &impl Print) -> io::Result<()> {
 
 // Writes the byte if the text is read.
 fn tell_read(rt: &impl Print, text: &[u8], b: u8) -> io::Result<()> {
-    let reading = read_model(text);
-    let outcome = reading.outcome;
-    if let Outcome::Read = outcome {
-        write(rt, &[b])?;
+    if read_model(text).outcome.is_ok() {
+        rt.write_all(&[b])?;
     }
     Ok(())
 }
@@ -254,19 +220,18 @@ fn tell_bytes(rt: &impl Print, from: usize) -> io::Result<()>
     requires { from ≤ 1 }
 {
     for b in 0..=u8::MAX {
-        let text = [b'a', b, b'a'];
-        tell_read(rt, &text[from..3], b)?;
+        tell_read(rt, &[b'a', b, b'a'][from..], b)?;
     }
     Ok(())
 }
 
 // Document 02, W5: bytes of names, those beside them, and names that differ in case.
 fn bytes_of_names(rt: &impl Print) -> io::Result<()> {
-    write(rt, b"begins a name\t")?;
+    print!(rt; "begins a name\t")?;
     tell_bytes(rt, 1)?;
-    write(rt, b"\ngoes on in it\t")?;
+    print!(rt; "\ngoes on in it\t")?;
     tell_bytes(rt, 0)?;
-    write(rt, b"\n")?;
+    println!(rt; "")?;
     read(rt, b"9a")?;
     read(rt, b"(_,.a)")?;
     read(rt, b"a/b")?;
@@ -283,47 +248,62 @@ fn bytes_of_names(rt: &impl Print) -> io::Result<()> {
     search(rt, b"(A,b)", b"AB")
 }
 
-// Puts bytes at `at`, as far as there is room, and gives the place behind them.
-fn put(text: &mut [u8], at: usize, bytes: &[u8]) -> usize
-    ensures { result ≤ length text.new }
-{
-    let mut end = lesser(at, text.len());
-    let mut i: usize = 0;
-    while i < bytes.len() {
-        if end == text.len() {
-            return end;
-        }
-        text[end] = bytes[i];
-        end += 1;
-        i += 1;
-    }
-    end
+// No text that is put together is longer.
+const ROOM: usize = 512;
+
+// A text that is put together.
+#[derive(Drop)]
+struct Text {
+    bytes: [u8; ROOM],
+    len: usize,
+    ghost in_room: { len ≤ 512 },
 }
 
-// Puts bytes so many times.
-fn put_times(text: &mut [u8], at: usize, bytes: &[u8], count: usize) -> usize
-    ensures { result ≤ length text.new }
-{
-    let mut end = lesser(at, text.len());
-    let mut i: usize = 0;
-    while i < count {
-        end = put(text, end, bytes);
-        i += 1;
+impl Text {
+    fn new() -> Text {
+        Text {
+            bytes: [0; ROOM],
+            len: 0,
+        }
     }
-    end
+
+    fn as_bytes(&self) -> &[u8] {
+        &self.bytes[..self.len]
+    }
+
+    // Puts bytes at the end, as far as there is room.
+    fn put(&mut self, bytes: &[u8]) {
+        let count = bytes.len().min(ROOM - self.len);
+        let end = self.len + count;
+        self.bytes[self.len..end].copy_from_slice(&bytes[..count]);
+        self.len = end;
+    }
+
+    fn put_times(&mut self, bytes: &[u8], count: usize) {
+        for _ in 0..count {
+            self.put(bytes);
+        }
+    }
+
+    // Opens so many groups inside each other, with a name each, a to z, and two signs by turns.
+    fn open_groups(&mut self, count: u8, signs: &[u8; 2])
+        requires { count ≤ 26 }
+    {
+        for i in 0..count {
+            self.put(&[b'(', b'a' + i, signs[usize::from(i % 2)]]);
+        }
+    }
 }
 
 // A group of 64 names, aa to ah, ba to hh, and these bytes behind it.
 fn read_names(rt: &impl Print, shown: &[u8], behind: &[u8]) -> io::Result<()> {
-    let mut text = [0u8; ROOM];
-    let mut at = put(&mut text, 0, b"(aa");
-    let mut i: u8 = 1;
-    while i < 64 {
-        at = put(&mut text, at, &[b',', b'a' + i / 8, b'a' + i % 8]);
-        i += 1;
+    let mut text = Text::new();
+    text.put(b"(aa");
+    for i in 1..64u8 {
+        text.put(&[b',', b'a' + i / 8, b'a' + i % 8]);
     }
-    let end = put(&mut text, at, behind);
-    read_as(rt, shown, &text[0..end])
+    text.put(behind);
+    read_as(rt, shown, text.as_bytes())
 }
 
 // A group of so many empty ones, each with a comma, so many brackets more, and these bytes.
@@ -334,12 +314,12 @@ fn read_groups(
     brackets: usize,
     behind: &[u8],
 ) -> io::Result<()> {
-    let mut text = [0u8; ROOM];
-    let mut at = put(&mut text, 0, b"(");
-    at = put_times(&mut text, at, b"(),", count);
-    at = put_times(&mut text, at, b"(", brackets);
-    let end = put(&mut text, at, behind);
-    read_as(rt, shown, &text[0..end])
+    let mut text = Text::new();
+    text.put(b"(");
+    text.put_times(b"(),", count);
+    text.put_times(b"(", brackets);
+    text.put(behind);
+    read_as(rt, shown, text.as_bytes())
 }
 
 // Both sides of the limits on atoms and nodes, and which refusal comes first.
@@ -357,70 +337,57 @@ fn atoms_and_nodes(rt: &impl Print) -> io::Result<()> {
     read_groups(rt, b"129 nodes, the last a 65th open bracket", 64, 64, b"")
 }
 
-// So many brackets, what opens further groups, what is inside them, and so many times what closes one.
-fn read_nested(
-    rt: &impl Print,
-    shown: &[u8],
-    brackets: usize,
-    open: &[u8],
-    inside: &[u8],
-    close: &[u8],
-    count: usize,
-) -> io::Result<()> {
-    let mut text = [0u8; ROOM];
-    let mut at = put_times(&mut text, 0, b"(", brackets);
-    at = put(&mut text, at, open);
-    at = put(&mut text, at, inside);
-    let end = put_times(&mut text, at, close, count);
-    read_as(rt, shown, &text[0..end])
+// So many brackets round the letter, each closed by these bytes.
+fn read_brackets(rt: &impl Print, shown: &[u8], brackets: usize, close: &[u8]) -> io::Result<()> {
+    let mut text = Text::new();
+    text.put_times(b"(", brackets);
+    text.put(b"a");
+    text.put_times(close, brackets);
+    read_as(rt, shown, text.as_bytes())
 }
 
 // Document 02, W3: brackets open at once.
 fn brackets(rt: &impl Print) -> io::Result<()> {
     read(rt, b"((((a))))")?;
-    read_nested(rt, b"64 brackets", 64, b"", b"a", b")", 64)?;
-    read_nested(rt, b"65 brackets", 65, b"", b"a", b")", 65)?;
-    read_nested(rt, b"65 brackets, marked", 65, b"", b"a", b")?", 65)
+    read_brackets(rt, b"64 brackets", 64, b")")?;
+    read_brackets(rt, b"65 brackets", 65, b")")?;
+    read_brackets(rt, b"65 brackets, marked", 65, b")?")
 }
 
-// The first groups of a chain, of three bytes each, in so many brackets more.
-fn read_chain(
-    rt: &impl Print,
-    shown: &[u8],
-    brackets: usize,
-    chain: &[u8],
-    groups: usize,
-    inside: &[u8],
-    close: &[u8],
-) -> io::Result<()> {
-    let n = lesser(groups, 64);
-    let around = lesser(brackets, 64);
-    let end = lesser(3 * n, chain.len());
-    read_nested(rt, shown, around, &chain[0..end], inside, close, around + n)
-}
-
-// Groups inside each other, with a name each and two signs by turns.
+// Groups inside each other, with a name each and two signs by turns, in so many brackets more.
 fn read_turns(
     rt: &impl Print,
     shown: &[u8],
-    groups: usize,
+    groups: u8,
     inside: &[u8],
     brackets: usize,
-) -> io::Result<()> {
-    let chain = b"(a,(b|(c,(d|(e,(f|(g,(h|(i,(j|(k,(l|(m,(n|(o,(p|(q,";
-    read_chain(rt, shown, brackets, chain, groups, inside, b")")
+) -> io::Result<()>
+    requires { groups ≤ 26 }
+{
+    let mut text = Text::new();
+    text.put_times(b"(", brackets);
+    text.open_groups(groups, b",|");
+    text.put(inside);
+    text.put_times(b")", usize::from(groups));
+    text.put_times(b")", brackets);
+    read_as(rt, shown, text.as_bytes())
 }
 
 // The same with one sign, and what closes each.
 fn read_joined(
     rt: &impl Print,
     shown: &[u8],
-    groups: usize,
+    groups: u8,
     inside: &[u8],
     close: &[u8],
-) -> io::Result<()> {
-    let chain = b"(a&(b&(c&(d&(e&(f&(g&(h&(i&(j&(k&(l&(m&(n&(o&(p&(q&(r&(s&(t&(u&(v&(w&(x&(y&(z&";
-    read_chain(rt, shown, 0, chain, groups, inside, close)
+) -> io::Result<()>
+    requires { groups ≤ 26 }
+{
+    let mut text = Text::new();
+    text.open_groups(groups, b"&&");
+    text.put(inside);
+    text.put_times(close, usize::from(groups));
+    read_as(rt, shown, text.as_bytes())
 }
 
 // Document 02, W3: depth. Signs by turns keep each group, brackets around them change nothing; one sign joins its groups, but for those with a mark, of

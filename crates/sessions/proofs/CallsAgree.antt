@@ -1,18 +1,18 @@
 -- Each call does what the book does.
 use mathlib.Core.{Path.◌≡◌, Path.refl, Path.sym, Path.ap, Path.◌∙◌, Logic.◌↔◌, Bool.true, List.[], List.◌∷◌, List.◌++◌, List.append_assoc}
-use Rattle.std.specs.Prelude.{ℕ, zero, suc, ◌+◌, ◌-◌, ◌≤◌, ◌<◌, drop, set, replicate}
+use Rattle.std.specs.Prelude.{ℕ, zero, suc, ◌+◌, ◌-◌, ◌≤◌, ◌<◌, drop, set, replicate, Result, Ok}
 use native.Mathlib.{Nat.sub-zero, Omega.arith}
 use lib.{Dec.leb, Dec.ltb, Seq.take_at, Seq.drop_at, Seq.set_at}
 use Rattle.std.proofs.Math.ListN.{length}
 use Rattle.std.proofs.Common.{length-append}
-use Rattle.std.proofs.lemmas.List.{length-replicate}
+use Rattle.std.proofs.lemmas.List.{length-replicate, length_push, nil_from_length}
 use borrow.Author.Tests.{leb-true, leb-false, ltb-true, ltb-false}
-use Rattle.judge.specs.{declared.verdict.Judged.TheVariants.Verdict as Said, declared.verdict.Next.Next, Row.Upto, Next.NextNames, Next.HandsNext}
+use Rattle.judge.specs.{declared.fault.JudgeFault.JudgeFault, Row.Upto, Next.NextNames, Next.HandsNext}
 use Rattle.model.specs.{declared.rule.Rule.Rule, declared.verdict.Verdict.Verdict, Word.Word, Types.Ty, Verdict.Says, Verdict.verdict}
 use Rattle.model.specs.{Rule.Readable, Rule.Means, Rule.names, Rule.rule_type, Check.readable}
 use Rattle.model.proofs.VerdictLaws.{verdict-says, verdict-is}
 use Rattle.model.proofs.CheckExact.{readable-is, type-means, means-type, means-conflict-free}
-use Rattle.sessions.specs.{declared.session.Outcome.TheVariants.Done, declared.session.Step.Step, Book.Laws.takes-last, Refusal.AllFree}
+use Rattle.sessions.specs.{declared.session.Step.Step, Book.Laws.takes-last, Refusal.AllFree}
 use Rattle.sessions.specs.{Session.Laws.intact-tells, Session.Laws.next-by-asked, Book.Laws.rule-lists}
 use Rattle.sessions.specs.Calls.{World, world, of_outcome, of_judged, of_next, Plays, by_open, by_add, by_take_back, by_verdict, by_next, shown}
 use Rattle.sessions.specs.Book.{Call, opening, adding, taking_back, asking, looking_ahead, CallReply, nothing, refuses, Book, book, room, Enters}
@@ -24,20 +24,17 @@ replicate-free : (n : ℕ) → AllFree (replicate n free)
 replicate-free zero = tt
 replicate-free (suc n) = (refl, replicate-free n)
 
--- a word with a symbol more, and the trail that shows it
-length-longer : (w : Word) (x : ℕ) → length (w ++ (x ∷ [])) ≡ length w + 1
-length-longer w x = length-append w (x ∷ [])
-
+-- the trail that shows a word with a symbol more
 filled : (n : ℕ) (w : Word) (x : ℕ) → length w < n →
     set (w ++ replicate (n - length w) free) (length w) x ≡ (w ++ (x ∷ [])) ++ replicate (n - length (w ++ (x ∷ []))) free
 filled n w x h =
     let e : n - length w ≡ suc (n - (length w + 1)) = omega arith in
-    rw (e, length-longer w x, set_at w free (replicate (n - (length w + 1)) free) x (length w) refl, append_assoc)
+    rw (e, length_push w x, set_at w free (replicate (n - (length w + 1)) free) x (length w) refl, append_assoc)
 
 freed : (n : ℕ) (u w : Word) (x : ℕ) → u ≡ w ++ (x ∷ []) → length u ≤ n →
     set (u ++ replicate (n - length u) free) (length u - 1) free ≡ w ++ replicate (n - length w) free
 freed n u w x i h =
-    let l : length u ≡ length w + 1 = ap length i ∙ length-longer w x in
+    let l : length u ≡ length w + 1 = ap length i ∙ length_push w x in
     let e : n - length w ≡ suc (n - (length w + 1)) = omega arith in
     rw (l, i, append_assoc, set_at w x (replicate (n - (length w + 1)) free) free (length w + 1 - 1) (omega arith), e)
 
@@ -45,13 +42,6 @@ upto-append : (m : ℕ) (v w : Word) → Upto m (v ++ w) ↔ (Upto m v × Upto m
 upto-append m [] w = (λ h. (tt, h), λ h. h.1)
 upto-append m (x ∷ v) w =
     (λ h. let i = (upto-append m v w).0 h.1 in ((h.0, i.0), i.1), λ h. (h.0.0, (upto-append m v w).1 (h.0.1, h.1)))
-
-pub below_apart : (m n : ℕ) → m < n → ¬ m ≡ n
-below_apart m n h e = omega arith
-
-empty : (w : Word) → length w ≤ 0 → w ≡ []
-empty [] h = refl
-empty (x ∷ w) h = absurd (omega arith)
 
 -- a word with symbols has a last one
 last : (w : Word) → 0 < length w → (v : Word) × (x : ℕ) × (w ≡ v ++ (x ∷ []))
@@ -86,7 +76,7 @@ pub done-opened : {u₀ u : World} {r : Rule} {a : CallReply} → Plays u₀ (op
 unfolding outcome
 done-opened {u₀} {r = r} (by_open (d, f)) i = by-test (readable r)
     (λ e. record { kept = kept_fresh (length u₀.trail) r ((readable-is r).0 e); shows = rw (d, f) (opened u₀ r e) })
-    (λ e. let z : refuses 40 ≡ nothing = rw (d, e) at i in let y : ◌≡◌ {A = ℕ} 0 1 = cc in absurd (omega arith))
+    (λ e. let z : refuses 40 ≡ nothing = rw (d, e) at i in absurd (cc))
 
 -- opening a rule that some text reads into is not refused
 pub readable-opened : {u₀ u : World} {r : Rule} {a : CallReply} → Readable r → Plays u₀ (opening r) a u → a ≡ nothing
@@ -114,7 +104,7 @@ module _ (n : ℕ) (b : Book) (k : Matches n b) where
         rw (drop_at b.row (replicate (n - length b.row) free) (length b.row) refl) (replicate-free (n - length b.row)),
       )
 
-  checked-shown : checked (shown n b).session (shown n b).trail ≡ Done
+  checked-shown : checked (shown n b).session (shown n b).trail ≡ Ok tt
   unfolding checked
   checked-shown = rw (readable-shown, intact-shown)
 
@@ -137,11 +127,11 @@ module _ (n : ℕ) (b : Book) (k : Matches n b) where
       (λ e. let h : x ≤ names b.rule = leb-true _ _ e in
       by-test (ltb (length b.row) (room n))
       (λ l. let g : length b.row < room n = ltb-true _ _ l in
-      let i = length-longer b.row x in
+      let i = length_push b.row x in
       let j = filled n b.row x (omega arith) in
       rw (checked-shown, e, length-shown, l) (
         record { rule = b.rule; row = b.row ++ (x ∷ []) },
-        adds h (below_apart (length b.row) (room n) g),
+        adds h (λ (k : length b.row ≡ room n). omega arith),
         cc,
         record { known = k.known; named = (upto-append _ b.row (x ∷ [])).1 (k.named, (h, tt)); fits = omega arith },
       ))
@@ -154,7 +144,7 @@ module _ (n : ℕ) (b : Book) (k : Matches n b) where
   agrees-taking = by-test (ltb 0 (length b.row))
       (λ e. let f = k.fits in
       let (w, x, i) = last b.row (ltb-true _ _ e) in
-      let l : length b.row ≡ length w + 1 = ap length i ∙ length-longer w x in
+      let l : length b.row ≡ length w + 1 = ap length i ∙ length_push w x in
       let m : length b.row - 1 ≡ length w = omega arith in
       let j = freed n b.row w x i (omega arith) in
       rw (checked-shown, e) (
@@ -163,10 +153,10 @@ module _ (n : ℕ) (b : Book) (k : Matches n b) where
         cc,
         record { known = k.known; named = ((upto-append _ w (x ∷ [])).0 (rw i at k.named)).0; fits = omega arith },
       ))
-      (λ e. let h : length b.row ≤ 0 = ltb-false _ _ e in rw (checked-shown, e) (b, rw (empty b.row h) none_to_take, refl, k))
+      (λ e. let h : length b.row ≤ 0 = ltb-false _ _ e in rw (checked-shown, e) (b, rw (nil_from_length b.row (omega arith)) none_to_take, refl, k))
 
   -- what asking promises
-  asked-shown : asked (shown n b).session (shown n b).trail ≡ Said (verdict (rule_type b.rule) b.row)
+  asked-shown : asked (shown n b).session (shown n b).trail ≡ Ok (verdict (rule_type b.rule) b.row)
   unfolding outcome
   asked-shown = rw (checked-shown, take_at b.row (replicate (n - length b.row) free) (length b.row) refl)
 
@@ -175,19 +165,20 @@ module _ (n : ℕ) (b : Book) (k : Matches n b) where
       let m = type-means k.known in
       rw asked-shown (b, asks m (verdict-says (rule_type b.rule) (means-conflict-free m) b.row), refl, k)
 
-  pub asked-says : {A : Ty} → Means b.rule A → (v : Verdict) → Gives (shown n b).session (shown n b).trail (Said v) ↔ Says A b.row v
+  pub asked-says : {A : Ty} → Means b.rule A → (v : Verdict) → Gives (shown n b).session (shown n b).trail (Ok v) ↔ Says A b.row v
   asked-says m v =
       let t = verdict-is (rule_type b.rule) (rw (means-type m) at (means-conflict-free m)) b.row v in
-      (λ e. rw (means-type m) (t.0 (said (sym asked-shown ∙ sym e))), λ h. ap Said (sym (t.1 (rw (means-type m) at h))) ∙ sym asked-shown)
+      (λ e. rw (means-type m) (t.0 (said (sym asked-shown ∙ sym e))), λ h. ap Ok (sym (t.1 (rw (means-type m) at h))) ∙ sym asked-shown)
     where
-      said : {u v : Verdict} → Said u ≡ Said v → u ≡ v
+      said : {u v : Verdict} → ◌≡◌ {A = Result Verdict JudgeFault} (Ok u) (Ok v) → u ≡ v
       said e = cc
 
   -- what looking ahead promises
   ahead-shown : NextNames (rule_type b.rule) (names b.rule) b.row (names_ahead (shown n b).session (shown n b).trail)
   ahead-shown = rw (take_at b.row (replicate (n - length b.row) free) (length b.row) refl) ((rule-lists (type-means k.known)).0 refl)
 
-  agrees-ahead : {a : Next} {lent' : Word} (lent : Word) → HandsNext (next_asked (shown n b).session (shown n b).trail (length lent)) a lent lent'
+  agrees-ahead : {a : Result ℕ JudgeFault} {lent' : Word} (lent : Word)
+      → HandsNext (next_asked (shown n b).session (shown n b).trail (length lent)) a lent lent'
       → Agrees n b (looking_ahead (length lent)) (of_next a lent') (shown n b)
   agrees-ahead lent (d, f) =
       let l = names_ahead (shown n b).session (shown n b).trail in

@@ -1,14 +1,14 @@
 -- Demand 3: every list of calls that follows an opening not refused agrees with the book.
 use mathlib.Core.{Path.◌≡◌, Path.refl, Logic.◌↔◌, List.List, List.[], List.◌∷◌, List.◌++◌, List.map, List.append-nil, List.append_assoc}
-use Rattle.std.specs.Prelude.{ℕ, suc, ◌≤◌, ◌<◌, length, replicate}
+use Rattle.std.specs.Prelude.{ℕ, suc, ◌≤◌, ◌<◌, length, replicate, Ok}
 use Rattle.std.proofs.Common.{arith, length-append}
 use Rattle.std.proofs.lemmas.List.{length-replicate}
 use Rattle.model.specs.{declared.rule.Rule.Rule, declared.verdict.Verdict.Verdict, Word.Word, Types.Ty, Verdict.Says, Rule.Means, Rule.names}
-use Rattle.judge.specs.{declared.verdict.Judged.TheVariants.Verdict as Said, Row.Upto}
+use Rattle.judge.specs.{Row.Upto}
 use Rattle.sessions.specs.Book.{Call, opening, adding, taking_back, asking, looking_ahead, CallReply, nothing, Book, book, room, Keeps, done, next}
 use Rattle.sessions.specs.{Book.adds, Book.Laws.keeps-once, Session.free, Session.Gives}
 use Rattle.sessions.specs.Calls.{World, Plays, by_open, by_add, by_take_back, by_verdict, by_next, PlaysAll, no_more, and_then, shown}
-use Rattle.sessions.proofs.CallsAgree.{Matches, below_apart, done-opened, readable-opened, asked-says, agrees}
+use Rattle.sessions.proofs.CallsAgree.{Matches, done-opened, readable-opened, asked-says, agrees}
 
 -- the promises of a call can be met, in every world and with any row lent, and so can those of a list
 plays-ahead : (u : World) (lent : Word) → (a : CallReply) × (v : World) × Plays u (looking_ahead (length lent)) a v
@@ -51,12 +51,12 @@ adds-all n r v [] h l = rw append-nil done
 adds-all n r v (x ∷ w) (h, hs) l =
     let e = append_assoc v (x ∷ []) w in
     let m : length v < room n = omega (arith, length-append v (x ∷ w)) in
-    next (adds h (below_apart (length v) (room n) m)) (rw e at (adds-all n r (v ++ (x ∷ [])) w hs (rw e l)))
+    next (adds h (λ (k : length v ≡ room n). omega arith)) (rw e at (adds-all n r (v ++ (x ∷ [])) w hs (rw e l)))
 
 -- A row that is added to a fresh session: no number is refused, and the verdict is that of the meaning.
 pub judges-row : {r : Rule} {A : Ty} {u₀ u : World} {rs : List CallReply} → Means r A → (w : Word) → Upto (names r) w
     → length w ≤ room (length u₀.trail) → PlaysAll u₀ (opening r ∷ map adding w) rs u
-    → (rs ≡ replicate (suc (length w)) nothing) × ((v : Verdict) → Gives u.session u.trail (Said v) ↔ Says A w v)
+    → (rs ≡ replicate (suc (length w)) nothing) × ((v : Verdict) → Gives u.session u.trail (Ok v) ↔ Says A w v)
 judges-row {r} {u₀ = u₀} m w h l (and_then p ps) =
     let n = length u₀.trail in
     let k : Matches n (book r w) = record { known = (m.text, m.reads); named = h; fits = l } in

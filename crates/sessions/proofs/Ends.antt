@@ -1,17 +1,17 @@
 -- The ends: what is proved of every session, trail and list of calls. Each proof is a citation.
 use mathlib.Core.{Path.◌≡◌, Logic.◌↔◌, List.List, List.[], List.◌∷◌, List.map}
-use Rattle.std.specs.Prelude.{ℕ, suc, ◌≤◌, length, replicate}
+use Rattle.std.specs.Prelude.{ℕ, suc, ◌≤◌, length, replicate, Result, Ok}
 use Rattle.std.proofs.lemmas.List.{length-map}
 use Rattle.model.specs.{declared.rule.Rule.Rule, declared.verdict.Verdict.Verdict, Word.Word, Types.Ty, Verdict.Says, Rule.Means, Rule.names, Syntax.Syntax}
 use Rattle.model.specs.{Syntax.written_names, Syntax.number_in, Fault.Answers, Fault.accepted, Model.model_of, Model.type_of}
-use Rattle.judge.specs.{declared.verdict.Judged.Judged, declared.verdict.Judged.TheVariants.Verdict as Said, Row.Upto, Reading.reading, Reading.parts_of}
+use Rattle.judge.specs.{declared.fault.JudgeFault.JudgeFault, Row.Upto, Reading.reading, Reading.parts_of}
 use Rattle.judge.specs.{Named.row_of, Next.NextReply}
 use Rattle.judge.specs.Named.Laws.{rule-means, row_named, row_written}
-use Rattle.sessions.specs.{declared.session.Outcome.Outcome, declared.session.Session.Session, Book.Laws.keeps-once, Refusal.Tried, Refusal.Asks}
+use Rattle.sessions.specs.{declared.session.Session.Session, Book.Laws.keeps-once, Refusal.Tried, Refusal.Asks}
 use Rattle.sessions.specs.{Refusal.AsksNext, Calls.World, Calls.Plays}
 use Rattle.sessions.proofs.RefusalLaws.{outcome-is, asked_is, next_is}
 use Rattle.sessions.specs.{Calls.PlaysAll, Calls.shown}
-use Rattle.sessions.specs.Session.{Trail, outcome, asked, Gives, next_asked}
+use Rattle.sessions.specs.Session.{Outcome, Trail, outcome, asked, Gives, next_asked}
 use Rattle.sessions.proofs.CallsTheorem.{plays-all, agrees-with-book, judges-row}
 use Rattle.sessions.specs.Book.{Call, opening, adding, CallReply, nothing, Book, book, room, Keeps}
 use Rattle.fields.specs.Bytes.{Text}
@@ -20,7 +20,7 @@ use Rattle.fields.specs.Bytes.{Text}
 pub refused-exactly : (s : Session) (t : Trail) (q : Call) (o : Outcome) → (outcome q s t ≡ o) ↔ Tried s t q o
 refused-exactly = outcome-is
 
-pub asked-exactly : (s : Session) (t : Trail) (a : Judged) → (asked s t ≡ a) ↔ Asks s t a
+pub asked-exactly : (s : Session) (t : Trail) (a : Result Verdict JudgeFault) → (asked s t ≡ a) ↔ Asks s t a
 asked-exactly = asked_is
 
 -- Document 02, W1: looking ahead, of any session with any trail and k places lent, is refused just as the table says, and else answered with the names
@@ -49,7 +49,7 @@ book-once = keeps-once
 -- meaning.
 pub session-judges : {r : Rule} {A : Ty} {u₀ u : World} {rs : List CallReply} → Means r A → (w : Word) → Upto (names r) w
     → length w ≤ room (length u₀.trail) → PlaysAll u₀ (opening r ∷ map adding w) rs u
-    → (rs ≡ replicate (suc (length w)) nothing) × ((v : Verdict) → Gives u.session u.trail (Said v) ↔ Says A w v)
+    → (rs ≡ replicate (suc (length w)) nothing) × ((v : Verdict) → Gives u.session u.trail (Ok v) ↔ Says A w v)
 session-judges = judges-row
 
 -- From text to verdict, as `text-judged` (judge/Ends) has it for `judge_row`: of every accepted text and every list of children as bytes, a session
@@ -57,7 +57,7 @@ session-judges = judges-row
 pub text-judged-by-session : {x : Text} {t : Syntax} {w₀ u : World} {rs : List CallReply} → Answers x (accepted t) → (cs : List Text)
     → length cs ≤ room (length w₀.trail) → PlaysAll w₀ (opening (reading x).rule ∷ map adding (row_of (parts_of x (reading x).names) cs)) rs u
     → (rs ≡ replicate (suc (length cs)) nothing)
-    × ((v : Verdict) → Gives u.session u.trail (Said v) ↔ Says (type_of (model_of t)) (row_of (written_names t) cs) v)
+    × ((v : Verdict) → Gives u.session u.trail (Ok v) ↔ Says (type_of (model_of t)) (row_of (written_names t) cs) v)
 text-judged-by-session {x} a cs l ps =
     let w = row_of (parts_of x (reading x).names) cs in
     let n : length w ≡ length cs = length-map cs (number_in (parts_of x (reading x).names)) in

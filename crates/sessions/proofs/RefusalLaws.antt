@@ -1,29 +1,27 @@
 -- A call is refused exactly as the table says.
 use mathlib.Core.{Path.◌≡◌, Path.refl, Path.sym, Path.ap, Path.◌∙◌, Logic.◌↔◌, Bool.cond}
-use Rattle.std.specs.Prelude.{ℕ, ◌≤◌, ◌<◌}
+use Rattle.std.specs.Prelude.{ℕ, ◌≤◌, ◌<◌, Result, Ok, Err}
 use Rattle.std.proofs.Common.{arith}
 use lib.{Dec.leb, Dec.ltb, Dec.eqb, ListN.length, ListN.take}
 use borrow.Author.Tests.{leb-true, leb-false, ltb-true, ltb-false}
-use Rattle.judge.specs.{declared.fault.JudgeFault.JudgeFault, declared.verdict.Judged.Judged, Row.judge_number, Next.NextReply, Next.next_listed}
+use Rattle.judge.specs.{declared.fault.JudgeFault.JudgeFault, Row.judge_number, Next.NextReply, Next.next_listed}
 use Rattle.judge.specs.Next.{next_refused}
 use Rattle.judge.specs.declared.fault.JudgeFault.TheVariants.{Unreadable, LongRow, BadTrail, UnknownName, NoRoom, NothingToTakeBack, ShortRow}
-use Rattle.judge.specs.declared.verdict.Judged.TheVariants.{Verdict, Refused as RefusedRow}
-use Rattle.model.specs.{declared.rule.Rule.Rule, Rule.Laws.means-once, Rule.Readable, Rule.names}
+use Rattle.model.specs.{declared.rule.Rule.Rule, declared.verdict.Verdict.Verdict, Rule.Laws.means-once, Rule.Readable, Rule.names}
 use Rattle.model.proofs.VerdictLaws.{says-once, verdict-says}
 use Rattle.model.specs.{Rule.rule_type, Check.readable}
 use Rattle.model.proofs.CheckExact.{readable-is, type-means, means-conflict-free}
-use Rattle.sessions.specs.{declared.session.Outcome.Outcome, declared.session.Session.Session, Session.Laws.intact-tells, Session.Laws.then-done}
+use Rattle.sessions.specs.{declared.session.Session.Session, Session.Laws.intact-tells, Session.Laws.then-done}
 use Rattle.sessions.specs.{Session.Laws.checked-done, Book.Laws.rule-lists}
-use Rattle.sessions.specs.declared.session.Outcome.TheVariants.{Done, Refused}
 use Rattle.sessions.specs.Book.{Call, opening, adding, taking_back, asking, looking_ahead, room}
-use Rattle.sessions.specs.Session.{Trail, intact, ◌then◌, checked, names_ahead, outcome, judged_by, asked, listed_by, next_asked}
+use Rattle.sessions.specs.Session.{Outcome, Trail, intact, ◌then◌, checked, names_ahead, outcome, judged_by, asked, listed_by, next_asked}
 use Rattle.sessions.specs.Refusal.{Intact, Later, CallStands, no_rule, bad_rule, bad_trail, high_number, full_room, none_added, few_places, Tried}
 use Rattle.sessions.specs.Refusal.{Asks, AsksNext}
 use Rattle.fields.specs.{Tests.by-test, Tests.untold, Least.NoneStands, Least.Laws.least-once, Least.Laws.exactly}
 
-then-no-more : (o : Outcome) → (o then Done) ≡ o
-then-no-more Done = refl
-then-no-more (Refused f) = refl
+then-no-more : (o : Outcome) → (o then Ok tt) ≡ o
+then-no-more (Ok u) = refl
+then-no-more (Err f) = refl
 
 -- a fault is known by its number
 numbered : ℕ → JudgeFault
@@ -46,10 +44,10 @@ judge-injective f g e = sym (numbered_is f) ∙ ap numbered e ∙ numbered_is g
 
 module _ (s : Session) (t : Trail) where
   pub tried-once : (q : Call) (o p : Outcome) → Tried s t q o → Tried s t q p → o ≡ p
-  tried-once q Done Done h k = refl
-  tried-once q Done (Refused g) h k = absurd (h g k.0)
-  tried-once q (Refused f) Done h k = absurd (k f h.0)
-  tried-once q (Refused f) (Refused g) h k = ap Refused (least-once judge_number judge-injective f g h k)
+  tried-once q (Ok u) (Ok v) h k = refl
+  tried-once q (Ok u) (Err g) h k = absurd (h g k.0)
+  tried-once q (Err f) (Ok v) h k = absurd (k f h.0)
+  tried-once q (Err f) (Err g) h k = ap Err (least-once judge_number judge-injective f g h k)
 
   -- test by test, what still stands has a number from n on
   abbrev Above : Call → ℕ → Type 0
@@ -57,12 +55,7 @@ module _ (s : Session) (t : Trail) where
 
   above-model : {q : Call} → Above q 40
   above-model g (no_rule h) = omega arith
-  above-model g (bad_rule l h) = omega arith
-  above-model g (bad_trail l h) = omega arith
-  above-model g (high_number h) = omega arith
-  above-model g (full_room h) = omega arith
-  above-model g (none_added h) = omega arith
-  above-model g (few_places m h i) = omega arith
+  above-model g _ = omega arith
 
   openable : (r : Rule) → Readable r → NoneStands (CallStands s t (opening r))
   openable r k g (no_rule h) = h k
@@ -73,18 +66,13 @@ module _ (s : Session) (t : Trail) where
     above-trail : {q : Call} → Later q → Above q 42
     above-trail l g (no_rule h) = absurd l
     above-trail l g (bad_rule m h) = absurd (h r)
-    above-trail l g (bad_trail m h) = omega arith
-    above-trail l g (high_number h) = omega arith
-    above-trail l g (full_room h) = omega arith
-    above-trail l g (none_added h) = omega arith
-    above-trail l g (few_places m h i) = omega arith
+    above-trail l g _ = omega arith
 
     module _ (i : Intact s.children (names s.rule) t) where
       above-name : (x : ℕ) → Above (adding x) 43
       above-name x g (bad_rule l h) = absurd (h r)
       above-name x g (bad_trail l h) = absurd (h i)
-      above-name x g (high_number h) = omega arith
-      above-name x g (full_room h) = omega arith
+      above-name x g _ = omega arith
 
       above-room : (x : ℕ) → x ≤ names s.rule → Above (adding x) 44
       above-room x n g (bad_rule l h) = absurd (h r)
@@ -154,7 +142,7 @@ module _ (s : Session) (t : Trail) where
       by-test (ltb 0 s.children)
       (λ e. rw e (takeable r i (ltb-true _ _ e)))
       (λ e. let h : s.children ≤ 0 = ltb-false _ _ e in rw e (none_added (omega arith), above-children r i)))
-  outcome-answers asking = rw (then-no-more (checked s t)) at (checked-answers asking tt Done (λ r i. askable r i))
+  outcome-answers asking = rw (then-no-more (checked s t)) at (checked-answers asking tt (Ok tt) (λ r i. askable r i))
   outcome-answers (looking_ahead k) = checked-answers (looking_ahead k) tt _ (λ r i.
       by-test (leb (length (names_ahead s t)) k)
       (λ e. rw e (listable r i k (leb-true _ _ e)))
@@ -165,22 +153,22 @@ module _ (s : Session) (t : Trail) where
   outcome-is q = exactly (Tried s t q) (tried-once q) (outcome q s t) (outcome-answers q)
 
 module _ (s : Session) (t : Trail) where
-  asks-once : (a b : Judged) → Asks s t a → Asks s t b → a ≡ b
-  asks-once (Verdict u) (Verdict v) (h, (A, m, i)) (k, (B, n, j)) =
+  asks-once : (a b : Result Verdict JudgeFault) → Asks s t a → Asks s t b → a ≡ b
+  asks-once (Ok u) (Ok v) (h, (A, m, i)) (k, (B, n, j)) =
       let e = means-once n m in
-      ap Verdict (says-once A (take s.children t) u v i (rw e at j))
-  asks-once (Verdict u) (RefusedRow g) h k = absurd (h.0 g k.0)
-  asks-once (RefusedRow f) (Verdict v) h k = absurd (k.0 f h.0)
-  asks-once (RefusedRow f) (RefusedRow g) h k = ap RefusedRow (least-once judge_number judge-injective f g h k)
+      ap Ok (says-once A (take s.children t) u v i (rw e at j))
+  asks-once (Ok u) (Err g) h k = absurd (h.0 g k.0)
+  asks-once (Err f) (Ok v) h k = absurd (k.0 f h.0)
+  asks-once (Err f) (Err g) h k = ap Err (least-once judge_number judge-injective f g h k)
 
   asked-asks : (o : Outcome) → o ≡ outcome asking s t → Asks s t (judged_by o s t)
   unfolding outcome
-  asked-asks Done e =
+  asked-asks (Ok u) e =
       let m = type-means ((readable-is s.rule).0 (checked-done s t (sym e)).0) in
       (rw (sym e) at (outcome-answers s t asking), (rule_type s.rule, m, verdict-says (rule_type s.rule) (means-conflict-free m) (take s.children t)))
-  asked-asks (Refused f) e = rw (sym e) at (outcome-answers s t asking)
+  asked-asks (Err f) e = rw (sym e) at (outcome-answers s t asking)
 
-  pub asked_is : (a : Judged) → (asked s t ≡ a) ↔ Asks s t a
+  pub asked_is : (a : Result Verdict JudgeFault) → (asked s t ≡ a) ↔ Asks s t a
   asked_is = exactly (Asks s t) asks-once (asked s t) (asked-asks (outcome asking s t) refl)
 
 module _ (s : Session) (t : Trail) (k : ℕ) where
@@ -192,10 +180,10 @@ module _ (s : Session) (t : Trail) (k : ℕ) where
 
   next-lists : (o : Outcome) → o ≡ outcome (looking_ahead k) s t → AsksNext s t k (listed_by o s t)
   unfolding outcome
-  next-lists Done e =
+  next-lists (Ok u) e =
       let m = type-means ((readable-is s.rule).0 (checked-done s t (then-done (checked s t) _ (sym e)).0).0) in
       (rw (sym e) at (outcome-answers s t (looking_ahead k)), (rule_type s.rule, m, (rule-lists m).0 refl))
-  next-lists (Refused f) e = rw (sym e) at (outcome-answers s t (looking_ahead k))
+  next-lists (Err f) e = rw (sym e) at (outcome-answers s t (looking_ahead k))
 
   pub next_is : (a : NextReply) → (next_asked s t k ≡ a) ↔ AsksNext s t k a
   next_is = exactly (AsksNext s t k) lists-once (next_asked s t k) (next-lists (outcome (looking_ahead k) s t) refl)

@@ -1,13 +1,11 @@
 -- The table of document 01, with 46 of document 02, for the calls of a session: when each refusal stands, and which one a call is answered.
 use mathlib.Core.{Path.◌≡◌, List.[], List.◌∷◌}
-use Rattle.std.specs.Prelude.{ℕ, ◌≤◌, ◌<◌, length, take, drop}
-use Rattle.model.specs.{declared.rule.Rule.Rule, Word.Word, Types.Ty, Verdict.Says, Rule.Readable, Rule.Means, Rule.names}
-use Rattle.judge.specs.{declared.fault.JudgeFault.JudgeFault, declared.verdict.Judged.Judged, Row.Upto, Row.judge_number, Next.NextNames, Next.NextReply}
+use Rattle.std.specs.Prelude.{ℕ, ◌≤◌, ◌<◌, length, take, drop, Result, Ok, Err}
+use Rattle.model.specs.{declared.rule.Rule.Rule, declared.verdict.Verdict.Verdict, Word.Word, Types.Ty, Verdict.Says, Rule.Readable, Rule.Means, Rule.names}
+use Rattle.judge.specs.{declared.fault.JudgeFault.JudgeFault, Row.Upto, Row.judge_number, Next.NextNames, Next.NextReply}
 use Rattle.judge.specs.Next.{next_listed, next_refused}
 use Rattle.judge.specs.declared.fault.JudgeFault.TheVariants.{Unreadable, BadTrail, UnknownName, NoRoom, NothingToTakeBack, ShortRow}
-use Rattle.judge.specs.declared.verdict.Judged.TheVariants.{Verdict, Refused as RefusedRow}
-use Rattle.sessions.specs.{declared.session.Outcome.Outcome, declared.session.Session.Session, Session.Trail, Session.free}
-use Rattle.sessions.specs.declared.session.Outcome.TheVariants.{Done, Refused}
+use Rattle.sessions.specs.{declared.session.Session.Session, Session.Outcome, Session.Trail, Session.free}
 use Rattle.sessions.specs.Book.{Call, opening, adding, taking_back, asking, looking_ahead, room}
 use Rattle.fields.specs.Least.{NoneStands, Least}
 
@@ -41,13 +39,13 @@ pub data CallStands (s : Session) (t : Trail) : Call → JudgeFault → Type 0 w
 
 -- what a call is answered: the refusal of the smallest number that stands, if one does
 abbrev pub Tried : Session → Trail → Call → Outcome → Type 0
-Tried s t q Done = NoneStands (CallStands s t q)
-Tried s t q (Refused f) = Least judge_number (CallStands s t q) f
+Tried s t q (Ok u) = NoneStands (CallStands s t q)
+Tried s t q (Err f) = Least judge_number (CallStands s t q) f
 
 -- what asking is answered: else the verdict by the meaning
-abbrev pub Asks : Session → Trail → Judged → Type 0
-Asks s t (Verdict v) = NoneStands (CallStands s t asking) × ((A : Ty) × Means s.rule A × Says A (take s.children t) v)
-Asks s t (RefusedRow f) = Least judge_number (CallStands s t asking) f
+abbrev pub Asks : Session → Trail → Result Verdict JudgeFault → Type 0
+Asks s t (Ok v) = NoneStands (CallStands s t asking) × ((A : Ty) × Means s.rule A × Says A (take s.children t) v)
+Asks s t (Err f) = Least judge_number (CallStands s t asking) f
 
 -- what looking ahead with a row of k places lent is answered: else the names that may come next by the meaning
 abbrev pub AsksNext : Session → Trail → ℕ → NextReply → Type 0

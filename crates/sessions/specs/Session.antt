@@ -2,19 +2,21 @@
 -- tried. The methods of src/session.rt promise just this, of any session and any trail.
 pub mod Laws
 use mathlib.Core.{Path.◌≡◌, Bool.Bool, Bool.true, Bool.cond, Bool.◌&&◌, List.List, List.[], List.◌∷◌}
-use Rattle.std.specs.Prelude.{ℕ, ◌+◌, ◌-◌, leb, ltb, eqb, length, take, drop, set, replicate}
-use Rattle.judge.specs.{declared.fault.JudgeFault.JudgeFault, declared.verdict.Judged.Judged, Row.upto, Next.next_names, Next.NextReply, Next.next_listed}
+use Rattle.std.specs.Prelude.{ℕ, ◌+◌, ◌-◌, leb, ltb, eqb, length, take, drop, set, replicate, Result, Ok, Err}
+use Rattle.judge.specs.{declared.fault.JudgeFault.JudgeFault, Row.upto, Next.next_names, Next.NextReply, Next.next_listed}
 use Rattle.judge.specs.Next.{next_refused}
 use Rattle.judge.specs.declared.fault.JudgeFault.TheVariants.{Unreadable, BadTrail, UnknownName, NoRoom, NothingToTakeBack, ShortRow}
-use Rattle.judge.specs.declared.verdict.Judged.TheVariants.{Verdict, Refused as RefusedRow}
-use Rattle.sessions.specs.{declared.session.Outcome.Outcome, declared.session.Session.Session, declared.session.Step.Step}
-use Rattle.sessions.specs.declared.session.Outcome.TheVariants.{Done, Refused}
+use Rattle.sessions.specs.{declared.session.Session.Session, declared.session.Step.Step}
 use Rattle.sessions.specs.Book.{Call, opening, adding, taking_back, asking, looking_ahead, room}
-use Rattle.model.specs.{Word.Word, Verdict.verdict, Rule.names, Rule.rule_type, Check.readable}
+use Rattle.model.specs.{declared.verdict.Verdict.Verdict, Word.Word, Verdict.verdict, Rule.names, Rule.rule_type, Check.readable}
 
 -- the places of a trail
 abbrev pub Trail : Type 0
 Trail = List ℕ
+
+-- what a call is answered: nothing more, or the refusal
+abbrev pub Outcome : Type 0
+Outcome = Result (Unit {0}) JudgeFault
 
 -- what a free place holds
 abbrev pub free : ℕ
@@ -31,11 +33,11 @@ intact children named t = leb children (room (length t)) && (upto named (take ch
 
 -- a condition, and the refusal where it does not hold
 abbrev pub check : Bool → JudgeFault → Outcome
-check b f = cond b Done (Refused f)
+check b f = cond b (Ok tt) (Err f)
 
 abbrev pub ◌then◌ : Outcome → Outcome → Outcome
-◌then◌ Done o = o
-◌then◌ (Refused f) o = Refused f
+◌then◌ (Ok u) o = o
+◌then◌ (Err f) o = Err f
 
 infixr 20 ◌then◌
 -- 40 and 42
@@ -56,8 +58,8 @@ outcome (looking_ahead k) s t = checked s t then check (leb (length (names_ahead
 
 -- what is new where the call was done, and what was where it was refused
 abbrev pub when_done : {A : Type 0} → Outcome → A → A → A
-when_done Done new old = new
-when_done (Refused f) new old = old
+when_done (Ok u) new old = new
+when_done (Err f) new old = old
 
 abbrev pub new_session : Call → Session → Session
 new_session (opening r) s = record { rule = r; children = 0 }
@@ -85,21 +87,21 @@ abbrev pub Does : Call → Session → Trail → Step → Trail → Type 0
 Does q s t r t' = (r ≡ call_step q s t) × (t' ≡ trail_after q s t)
 
 -- the answer of asking
-abbrev pub judged_by : Outcome → Session → Trail → Judged
-judged_by Done s t = Verdict (verdict (rule_type s.rule) (take s.children t))
-judged_by (Refused f) s t = RefusedRow f
+abbrev pub judged_by : Outcome → Session → Trail → Result Verdict JudgeFault
+judged_by (Ok u) s t = Ok (verdict (rule_type s.rule) (take s.children t))
+judged_by (Err f) s t = Err f
 
-abbrev pub asked : Session → Trail → Judged
+abbrev pub asked : Session → Trail → Result Verdict JudgeFault
 asked s t = judged_by (outcome asking s t) s t
 
 -- what asking promises of the answer a; it hands back no session and writes nothing lent
-abbrev pub Gives : Session → Trail → Judged → Type 0
+abbrev pub Gives : Session → Trail → Result Verdict JudgeFault → Type 0
 Gives s t a = a ≡ asked s t
 
 -- the reply of looking ahead with a row of k places lent; what is handed back of it, and what is written into that row, is `HandsNext` (judge/Next)
 abbrev pub listed_by : Outcome → Session → Trail → NextReply
-listed_by Done s t = next_listed (names_ahead s t)
-listed_by (Refused f) s t = next_refused f
+listed_by (Ok u) s t = next_listed (names_ahead s t)
+listed_by (Err f) s t = next_refused f
 
 abbrev pub next_asked : Session → Trail → ℕ → NextReply
 next_asked s t k = listed_by (outcome (looking_ahead k) s t) s t

@@ -4,3 +4,7 @@ pub mod SheetGood
 pub mod SheetLaws
 pub mod SheetPlaces
 pub mod SheetWalk
+pub mod Left
+pub mod Numbered
+pub mod WholeLaws
+pub mod Words

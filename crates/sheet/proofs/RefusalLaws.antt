@@ -1,5 +1,6 @@
 -- A sheet and a cue list are refused exactly as the table says.
 use mathlib.Core.{Logic.◌↔◌, Logic.◌⊎◌, Logic.inl, Logic.inr, Logic.by_cases, Option.Option}
+use Rattle.std.specs.Prelude.{Result, Ok, Err}
 use Rattle.std.specs.Prelude.{◌≡◌, refl, true, cond, not, ◌&&◌, ◌||◌, List, [], ◌∷◌, ◌++◌, map, ℕ, zero, suc, ◌+◌, ◌-◌, ◌≤◌, ◌<◌, leb, eqb, length}
 use Rattle.std.specs.Prelude.{take, drop, get_or}
 use Rattle.std.proofs.Common.{sym, ap, ap₂, subst, ◌∙◌, take-suc, drop-cons, length-take-le, get_or-take, leb-true, le-leb, eqb-true, eq-eqb}
@@ -22,11 +23,9 @@ use Rattle.judge.specs.Answer.{answer, answered}
 use Rattle.model.specs.{Fault.Answer, Fault.Answers, Fault.refused, Fault.accepted}
 use Rattle.model.proofs.FaultAnswered.{answers-once}
 use Rattle.judge.specs.Reply.Laws.{cue-injective}
-use Rattle.sheet.specs.{declared.sheet.SheetFault.SheetFault, declared.sheet.SheetOutcome.SheetOutcome, declared.cues.CueLine.CueLine}
-use Rattle.sheet.specs.declared.cues.CuesRead.{CuesRead}
+use Rattle.fields.specs.declared.fault.AtLine.{AtLine}
+use Rattle.sheet.specs.{declared.sheet.SheetFault.SheetFault, AtLine.at_line}
 use Rattle.sheet.specs.declared.sheet.SheetFault.TheVariants.{LongFile, Unended, ManyRules, BadFields, NoKind, Repeated, Model}
-use Rattle.sheet.specs.declared.sheet.SheetOutcome.TheVariants.{Read, Refused}
-use Rattle.sheet.specs.declared.cues.CuesRead.TheVariants.{Count, Refused as RefusedList}
 use Rattle.sheet.specs.Cues.{is_cue_number, children, by_line, cue_lines, cues_read}
 use Rattle.sheet.specs.Sheet.{max_rules, kind, model, among, model_fault, by_fault, sheet_lines, sheet_outcome}
 use Rattle.sheet.specs.Refusal.{Line, line, Earlier, SheetStands, sheet_rank, SheetAnswers, number_of, CueStands, CuesAnswers}
@@ -150,8 +149,9 @@ module _ (x : Text) where
         back (zero, i, o, e) = absurd (omega arith)
         back (suc j, i, o, e) = (j, omega (arith, size), is j (omega arith) ∙ e)
 
-    model-answers : (o : SheetOutcome) → (Cleared (of_sheet x).faults (suc (suc n)) 22 → SheetAnswers x o) → Cleared (of_sheet x).faults (suc n) 26
-        → (a : Answer) → Answers (model this) a → SheetAnswers x (by_fault (model_fault a) o (λ f. Refused f (suc n)))
+    model-answers : (o : Result Unit (AtLine SheetFault))
+        → (Cleared (of_sheet x).faults (suc (suc n)) 22 → SheetAnswers x o) → Cleared (of_sheet x).faults (suc n) 26
+        → (a : Answer) → Answers (model this) a → SheetAnswers x (by_fault (model_fault a) o (λ f. Err (at_line f (suc n))))
     model-answers o next t (refused f p) a = ((here x n h, (p, a)), t)
     model-answers o next t (accepted u) a = next (next-line (of_sheet x) (suc n) 26 no_more t)
       where
@@ -162,7 +162,7 @@ module _ (x : Text) where
             omega arith
 
   -- what is said behind n lines
-  abbrev sheet_from : ℕ → SheetOutcome
+  abbrev sheet_from : ℕ → Result Unit (AtLine SheetFault)
   sheet_from n = sheet_lines n (kinds n) (drop n (lines x))
 
   sheet-step : (n : ℕ) → n < length (lines x) → (Cleared (of_sheet x).faults (suc (suc n)) 22 → SheetAnswers x (sheet_from (suc n)))
@@ -171,7 +171,7 @@ module _ (x : Text) where
       let T = (of_sheet x).faults in
       let l = line x (suc n) in
       let o = sheet_lines (suc n) (kinds n ++ (kind l ∷ [])) (drop (suc n) (lines x)) in
-      let P : Option SheetFault → Type 0 = λ m. SheetAnswers x (by_fault m o (λ f. Refused f (suc n))) in
+      let P : Option SheetFault → Type 0 = λ m. SheetAnswers x (by_fault m o (λ f. Err (at_line f (suc n)))) in
       let more : kinds (suc n) ≡ kinds n ++ (kind l ∷ []) = ap (map kind) (take-suc (lines x) n [] h) ∙ map-append kind (take n (lines x)) (l ∷ []) in
       rw (drop-cons (lines x) n [] h) (
       try T (SheetAnswers x) ManyRules (suc n) (leb max_rules n) _ _ (own ManyRules (omega arith)) (many-tells n h t) (λ k. k)
@@ -186,13 +186,14 @@ module _ (x : Text) where
       (long-tells x) (feed-tells x) (λ k. k) (λ k. k)
       (walk (of_sheet x) (SheetAnswers x) sheet_from sheet-step (λ k. rw (drop-length (lines x)) k))
 
-  sheet-once : (a b : SheetOutcome) → SheetAnswers x a → SheetAnswers x b → a ≡ b
-  sheet-once Read Read h k = refl
-  sheet-once Read (Refused g m) h k = absurd (h g m k.0)
-  sheet-once (Refused f n) Read h k = absurd (k f n h.0)
-  sheet-once (Refused f n) (Refused g m) h k = let (e, d) = first_alone sheet_rank (λ f g n. one_rank x n f g) f g n m h k in ap₂ Refused e d
+  sheet-once : (a b : Result Unit (AtLine SheetFault)) → SheetAnswers x a → SheetAnswers x b → a ≡ b
+  sheet-once (Ok _) (Ok _) h k = refl
+  sheet-once (Ok _) (Err e) h k = absurd (h e.fault e.line k.0)
+  sheet-once (Err e) (Ok _) h k = absurd (k e.fault e.line h.0)
+  sheet-once (Err d) (Err e) h k =
+      let (f, n) = first_alone sheet_rank (λ f g n. one_rank x n f g) d.fault e.fault d.line e.line h k in ap₂ (λ f n. Err (at_line f n)) f n
 
-  pub sheet-is : (o : SheetOutcome) → (sheet_outcome x ≡ o) ↔ SheetAnswers x o
+  pub sheet-is : (o : Result Unit (AtLine SheetFault)) → (sheet_outcome x ≡ o) ↔ SheetAnswers x o
   sheet-is = exactly (SheetAnswers x) sheet-once (sheet_outcome x) sheet-answers
 
 -- where a fault of a cue list stands, and none is 37
@@ -230,7 +231,7 @@ module _ (x : Text) where
       rw e (λ t. (omega arith, leb-true _ _ t), λ k. le-leb _ _ k.1)
 
   -- what is said behind n lines
-  abbrev cues_from : ℕ → CuesRead
+  abbrev cues_from : ℕ → Result ℕ (AtLine CueFault)
   cues_from n = cue_lines n (number_of (line x n)) (drop n (lines x))
 
   cues-step : (n : ℕ) → n < length (lines x) → (Cleared (of_cues x).faults (suc (suc n)) 32 → CuesAnswers x (cues_from (suc n)))
@@ -240,7 +241,7 @@ module _ (x : Text) where
       let l = line x (suc n) in
       let at = here x n h in
       let word = tells-or _ _ (tells-lt (length (fields l)) 3) (tells-other (field 0 l) (bytes "cue")) in
-      let P : CueLine → Type 0 = λ c. CuesAnswers x (by_line c (λ q. cue_lines (suc n) q (drop (suc n) (lines x))) (λ f. RefusedList f (suc n))) in
+      let P : Result ℕ CueFault → Type 0 = λ c. CuesAnswers x (by_line c (λ q. cue_lines (suc n) q (drop (suc n) (lines x))) (λ f. Err (at_line f (suc n)))) in
       rw (drop-cons (lines x) n [] h) (
       try T P BadCue (suc n) _ _ _ (cue-injective BadCue) (beside _ at word) (λ k. k)
       (λ _. try T P BadNumber (suc n) _ _ _ (cue-injective BadNumber) (beside _ at (tells-not (is_cue_number (field 1 l)))) (λ k. k)
@@ -255,11 +256,12 @@ module _ (x : Text) where
       (long-tells x) (feed-tells x) (λ k. k) (λ k. k)
       (walk (of_cues x) (CuesAnswers x) cues_from cues-step (λ k. rw (drop-length (lines x)) (k, refl)))
 
-  cues-once : (a b : CuesRead) → CuesAnswers x a → CuesAnswers x b → a ≡ b
-  cues-once (Count n) (Count m) h k = ap Count (h.1 ∙ sym k.1)
-  cues-once (Count n) (RefusedList g m) h k = absurd (h.0 g m k.0)
-  cues-once (RefusedList f n) (Count m) h k = absurd (k.0 f n h.0)
-  cues-once (RefusedList f n) (RefusedList g m) h k = let (e, d) = first-once cue_number cue-injective f g n m h k in ap₂ RefusedList e d
+  cues-once : (a b : Result ℕ (AtLine CueFault)) → CuesAnswers x a → CuesAnswers x b → a ≡ b
+  cues-once (Ok n) (Ok m) h k = ap Ok (h.1 ∙ sym k.1)
+  cues-once (Ok n) (Err e) h k = absurd (h.0 e.fault e.line k.0)
+  cues-once (Err e) (Ok m) h k = absurd (k.0 e.fault e.line h.0)
+  cues-once (Err d) (Err e) h k =
+      let (f, n) = first-once cue_number cue-injective d.fault e.fault d.line e.line h k in ap₂ (λ f n. Err (at_line f n)) f n
 
-  pub cues-is : (r : CuesRead) → (cues_read x ≡ r) ↔ CuesAnswers x r
+  pub cues-is : (r : Result ℕ (AtLine CueFault)) → (cues_read x ≡ r) ↔ CuesAnswers x r
   cues-is = exactly (CuesAnswers x) cues-once (cues_read x) cues-answers

@@ -1,40 +1,24 @@
 -- How the lines of a sheet are read.
 use mathlib.Core.{Path.◌≡◌, Path.refl, Path.ap, Path.sym, Path.◌∙◌, Bool.true, Bool.false, Bool.not, Bool.◌||◌, Option.Option, Option.none}
 use mathlib.Core.{Option.some, List.List, List.[], List.◌∷◌}
-use Rattle.std.specs.Prelude.{ℕ, zero, suc, ◌+◌, ◌-◌, ◌≤◌, ◌<◌, length, take, drop, replicate}
-use Rattle.std.proofs.Common.{arith, length-take, length-drop, ltb-true, ltb-false, lt-ltb, le-ltb, eqb-true, eq-eqb, ne_eqb}
+use Rattle.std.specs.Prelude.{Result, Ok, Err, ℕ, zero, suc, ◌+◌, ◌-◌, ◌≤◌, ◌<◌, length, take, drop}
+use Rattle.std.proofs.Common.{arith, length-take, length-drop, ltb-true, ltb-false, lt-ltb, eqb-true, eq-eqb, ne_eqb}
 use lib.{Dec.ltb, Dec.eqb, Dec.eqb-suc-zero, Seq.take-nil, Seq.drop-nil, Seq.take-take, Seq.drop-drop}
 use Rattle.std.proofs.lemmas.Bool.{not-true, not-false}
 use Rattle.fields.specs.{Limits.max_file, Tests.by-test, Bytes.Text, Bytes.bytes, Bytes.same_text, Bytes.Laws.same_text-is, declared.split.Heads.Heads}
 use Rattle.fields.specs.{Split.Laws.split-count, Heads.heads_of, Children.short_name}
-use Rattle.fields.specs.Split.{tab, split, lines, behind, fields, field, part}
+use Rattle.fields.specs.Split.{tab, split, fields, field, part}
 use Rattle.fields.specs.Heads.Laws.{fields-few, fields-enough, Three, more-none}
 use Rattle.judge.specs.{declared.reading.NamePlace.NamePlace, declared.reading.Names.Names, declared.reading.Reading.Reading}
-use Rattle.judge.specs.declared.reading.Outcome.TheVariants.{Read as ModelRead, Refused as ModelRefused}
-use Rattle.judge.specs.Reading.{no_place, names_with, reading_by, reading, part_at, parts_of}
-use Rattle.model.specs.{declared.fault.ModelFault.ModelFault, Syntax.number_from, Syntax.number_in, Fault.Answer, Fault.refused, Fault.accepted}
+use Rattle.judge.specs.declared.fault.Misread.{Misread}
+use Rattle.judge.specs.Reading.{reading_by, reading, part_at, parts_of}
+use Rattle.model.specs.{Syntax.number_from, Syntax.number_in, Fault.Answer, Fault.refused, Fault.accepted}
 use Rattle.judge.specs.Answer.{answer}
-use Rattle.sheet.specs.{declared.sheet.SheetFault.SheetFault, declared.sheet.Checked.Checked, declared.sheet.LineRead.LineRead}
-use Rattle.sheet.specs.{declared.sheet.SheetOutcome.TheVariants.Refused, declared.sheet.Entry.Entry, declared.sheet.Sheet.Sheet}
-use Rattle.sheet.specs.declared.sheet.SheetRead.{SheetRead}
-use Rattle.sheet.specs.declared.sheet.SheetFault.TheVariants.{LongFile, Unended, BadFields, NoKind, Repeated, Model}
-use Rattle.sheet.specs.declared.sheet.Checked.TheVariants.{Good, Bad}
-use Rattle.sheet.specs.Sheet.{max_rules, kind, model, among, model_fault, line_fault, kind_place, model_place, entry_of, no_entry, sheet_lines, sheet_with}
-use Rattle.sheet.specs.Sheet.{sheet_by, sheet_read}
-use Rattle.sheet.specs.Sheet.Line.{line_checked, checked_by, LineIs}
-
--- what is made where nothing is read
-pub entry-made : {m : NamePlace} {r : Reading} → m ≡ no_place → r ≡ reading []
-    → ◌≡◌ {A = Entry} (record { model = m; rule = r.rule; names = r.names }) no_entry
-entry-made e f = rw (e, f)
-
-pub rules-made : {k : Names} {e : Entry} → k ≡ names_with [] → e ≡ no_entry
-    → ◌≡◌ {A = Sheet} (record { kinds = k; entries = replicate max_rules e }) (sheet_with [])
-rules-made f g = rw (f, g)
-
-pub refused-made : {s : Sheet} {f : SheetFault} {n : ℕ} → s ≡ sheet_with []
-    → ◌≡◌ {A = SheetRead} (record { outcome = Refused f n; sheet = s }) (sheet_by [] (Refused f n))
-refused-made e = rw e
+use Rattle.sheet.specs.{declared.sheet.SheetFault.SheetFault, declared.sheet.LineRead.LineRead}
+use Rattle.sheet.specs.{declared.sheet.Entry.Entry}
+use Rattle.sheet.specs.declared.sheet.SheetFault.TheVariants.{BadFields, NoKind, Repeated, Model}
+use Rattle.sheet.specs.Sheet.{kind, model, among, model_fault, line_fault, kind_place, model_place, entry_of}
+use Rattle.sheet.specs.Sheet.Line.{line_checked, line_read}
 
 -- a kind has a number among the earlier ones if it is one of them
 among-from : (ks : List Text) (x : Text) (k : ℕ) → eqb (number_from (suc k) ks x) 0 ≡ not (among ks x)
@@ -74,14 +58,14 @@ pub record RuleLine (l : Text) (h : Heads) : Type 0 where
 
 -- what is said of a line, test by test
 module _ (ks : List Text) where
-  pub checked-few : (l : Text) {h : Heads} → h ≡ heads_of l → length l ≤ h.second → Bad BadFields ≡ line_checked ks l
+  pub checked-few : (l : Text) {h : Heads} → h ≡ heads_of l → length l ≤ h.second → Err BadFields ≡ line_checked ks l
   checked-few l {h} e k = rw (under-three l (fields-few l h e k))
 
   module _ {l : Text} {h : Heads} where
-    pub checked-many : Three l h → (h.third ≡ length l → ⊥) → Bad BadFields ≡ line_checked ks l
+    pub checked-many : Three l h → (h.third ≡ length l → ⊥) → Err BadFields ≡ line_checked ks l
     checked-many t n = rw (over-three l h t n)
 
-    pub checked-word : Three l h → h.third ≡ length l → same_text (part l 0 h.first) (bytes "rule") ≡ false → Bad BadFields ≡ line_checked ks l
+    pub checked-word : Three l h → h.third ≡ length l → same_text (part l 0 h.first) (bytes "rule") ≡ false → Err BadFields ≡ line_checked ks l
     checked-word t e w = rw (just-three l h t e, t.first_is, w)
 
     module _ (r : RuleLine l h) where
@@ -94,19 +78,24 @@ module _ (ks : List Text) where
       three : eqb (length (fields l)) 3 ≡ true
       three = just-three l h t r.last
 
-      pub checked-name : short_name k ≡ false → Bad NoKind ≡ line_checked ks l
+      pub checked-name : short_name k ≡ false → Err NoKind ≡ line_checked ks l
       checked-name n = rw (three, t.first_is, r.word, t.second_is, n)
 
       module _ (n : short_name k ≡ true) {m : ℕ} (e : m ≡ number_in ks k) where
-        pub checked-again : (m ≡ 0 → ⊥) → Bad Repeated ≡ line_checked ks l
+        pub checked-again : (m ≡ 0 → ⊥) → Err Repeated ≡ line_checked ks l
         checked-again z = rw (three, t.first_is, r.word, t.second_is, n, among-some ks k m e z)
 
-        pub checked-good : m ≡ 0 → Good ≡ line_checked ks l
+        pub checked-good : m ≡ 0 → Ok tt ≡ line_checked ks l
         checked-good z = rw (three, t.first_is, r.word, t.second_is, n, among_none ks k m e z)
 
-abbrev by_checked : Checked → Option SheetFault → Option SheetFault
-by_checked Good m = m
-by_checked (Bad f) m = some f
+abbrev by_checked : Result Unit SheetFault → Option SheetFault → Option SheetFault
+by_checked (Ok _) m = m
+by_checked (Err f) m = some f
+
+-- what a reading's outcome is to a sheet
+abbrev misread_fault : Result Unit Misread → Option SheetFault
+misread_fault (Ok _) = none
+misread_fault (Err m) = some (Model m.fault)
 
 -- a line is at fault by its check, and behind that by its model
 module _ (ks : List Text) (l : Text) where
@@ -116,23 +105,19 @@ module _ (ks : List Text) (l : Text) where
       (λ e. rw e)
       (λ e. by-test (short_name (kind l)) (λ f. by-test (among ks (kind l)) (λ g. rw (e, f, g)) (λ g. rw (e, f, g))) (λ f. rw (e, f)))
 
-  line-bad : (f : SheetFault) → line_checked ks l ≡ Bad f → checked_by (line_fault ks l) ≡ Bad f
+  line-bad : (f : SheetFault) → line_checked ks l ≡ Err f → line_fault ks l ≡ some f
   line-bad f e = rw (fault-by, e)
 
-  outcome-read : (a : Answer) → (reading_by (model l) a).outcome ≡ ModelRead → model_fault a ≡ none
-  outcome-read (refused f p) e = let z : ◌≡◌ {A = ℕ} 0 1 = cc e in absurd (omega arith)
-  outcome-read (accepted t) e = refl
+  outcome-fault : (a : Answer) → model_fault a ≡ misread_fault (reading_by (model l) a).outcome
+  outcome-fault (refused f p) = refl
+  outcome-fault (accepted t) = refl
 
-  outcome-bad : (a : Answer) (f : ModelFault) (p : ℕ) → (reading_by (model l) a).outcome ≡ ModelRefused f p → model_fault a ≡ some (Model f)
-  outcome-bad (refused g q) f p e = let z : g ≡ f = cc e in ap (λ h. some (Model h)) z
-  outcome-bad (accepted t) f p e = let z : ◌≡◌ {A = ℕ} 0 1 = cc e in absurd (omega arith)
+  module _ (g : line_checked ks l ≡ Ok tt) where
+    line-none : (reading (model l)).outcome ≡ Ok tt → line_fault ks l ≡ none
+    line-none e = rw (fault-by, g, outcome-fault (answer (model l)), e)
 
-  module _ (g : line_checked ks l ≡ Good) where
-    line_read : (reading (model l)).outcome ≡ ModelRead → checked_by (line_fault ks l) ≡ Good
-    line_read e = rw (fault-by, g, outcome-read (answer (model l)) e)
-
-    line-model : (f : ModelFault) (p : ℕ) → (reading (model l)).outcome ≡ ModelRefused f p → checked_by (line_fault ks l) ≡ Bad (Model f)
-    line-model f p e = rw (fault-by, g, outcome-bad (answer (model l)) f p e)
+    line-model : (m : Misread) → (reading (model l)).outcome ≡ Err m → line_fault ks l ≡ some (Model m.fault)
+    line-model m e = rw (fault-by, g, outcome-fault (answer (model l)), e)
 
     good-word : (eqb (length (fields l)) 3 ≡ true) × (same_text (field 0 l) (bytes "rule") ≡ true)
     good-word =
@@ -140,14 +125,14 @@ module _ (ks : List Text) (l : Text) where
         (λ e. by-test (same_text (field 0 l) (bytes "rule")) (λ w. (e, w)) (λ w. bad (rw (e, w))))
         (λ e. bad (rw e))
       where
-        bad : {C : Type 0} → Bad BadFields ≡ line_checked ks l → C
-        bad e = let z : ◌≡◌ {A = ℕ} 0 1 = cc (e, g) in absurd (omega arith)
+        bad : {C : Type 0} → Err BadFields ≡ line_checked ks l → C
+        bad e = cc (e, g)
 
 pub part-size : (x : Text) (at end : ℕ) → end ≤ length x → length (part x at end) ≡ end - at
 part-size x at end h = rw (length-take, length-drop) (omega arith)
 
 -- where the fields of a good line stand
-module _ (ks : List Text) (l : Text) (h : Heads) (e : h ≡ heads_of l) (g : line_checked ks l ≡ Good) where
+module _ (ks : List Text) (l : Text) (h : Heads) (e : h ≡ heads_of l) (g : line_checked ks l ≡ Ok tt) where
   good-three : Three l h
   good-three = fields-enough l h e (omega (arith, eqb-true (length (fields l)) 3 (good-word ks l g).0))
 
@@ -189,7 +174,7 @@ module _ (ks : List Text) (l : Text) (h : Heads) (e : h ≡ heads_of l) (g : lin
 
 -- and that they fit
 pub heads-fit : (x : Text) (kinds : Names) {at end : ℕ} → (at ≤ end) × (end ≤ length x) × (length x ≤ max_file)
-    → {h : Heads} → h ≡ heads_of (part x at end) → line_checked (parts_of x kinds) (part x at end) ≡ Good
+    → {h : Heads} → h ≡ heads_of (part x at end) → line_checked (parts_of x kinds) (part x at end) ≡ Ok tt
     → (h.first + 1 ≤ h.second) × (h.second + 1 ≤ h.third) × (h.third ≤ length (part x at end)) × (at + h.third ≤ max_file)
 heads-fit x kinds {at} {end} p {h} e g =
     let s = line-sizes (parts_of x kinds) (part x at end) h e g in
@@ -197,46 +182,34 @@ heads-fit x kinds {at} {end} p {h} e g =
     (omega (arith, s.1), omega (arith, s.2), s.3, omega (arith, n, s.3, p))
 
 -- what a line is read into: its check is bad, its model is bad, or it is good
-module _ {x : Text} {kinds : Names} {at end : ℕ} where
-  fault_read : {r : LineRead} {f : SheetFault} → r.checked ≡ Bad f → checked_by (line_fault (parts_of x kinds) (part x at end)) ≡ Bad f
-      → LineIs x kinds at end r
-  fault_read e k =
-      record {
-        checked_is = e ∙ sym k;
-        kind_is = λ g. let z : ◌≡◌ {A = ℕ} 0 1 = cc (e, g) in absurd (omega arith);
-        entry_is = λ g. let z : ◌≡◌ {A = ℕ} 0 1 = cc (e, g) in absurd (omega arith);
-      }
+module _ (x : Text) (kinds : Names) (at end : ℕ) where
+  pub check-refused : {f : SheetFault} → line_checked (parts_of x kinds) (part x at end) ≡ Err f → Err f ≡ line_read x kinds at end
+  check-refused {f} e = rw (line-bad (parts_of x kinds) (part x at end) f e)
 
-  pub check-refused : {r : LineRead} {f : SheetFault} → r.checked ≡ Bad f → line_checked (parts_of x kinds) (part x at end) ≡ Bad f → LineIs x kinds at end r
-  check-refused {r} {f} e k = fault_read e (line-bad (parts_of x kinds) (part x at end) f k)
-
-  module _ {h : Heads} (i : h ≡ heads_of (part x at end)) (g : line_checked (parts_of x kinds) (part x at end) ≡ Good)
+  module _ {h : Heads} (i : h ≡ heads_of (part x at end)) (g : line_checked (parts_of x kinds) (part x at end) ≡ Ok tt)
       {m : Reading} (e : m ≡ reading (part (part x at end) (h.second + 1) h.third)) where
-    pub refused_model : {r : LineRead} {f : ModelFault} {p : ℕ} → m.outcome ≡ ModelRefused f p → r.checked ≡ Bad (Model f) → LineIs x kinds at end r
-    refused_model {r} {f} {p} o b =
+    pub refused_model : {r : Misread} → m.outcome ≡ Err r → Err (Model r.fault) ≡ line_read x kinds at end
+    refused_model {r} o =
         let ks = parts_of x kinds in
         let l = part x at end in
-        fault_read b (line-model ks l g f p (outcome-is ks l h i g m e ∙ o))
+        rw (line-model ks l g r (outcome-is ks l h i g m e ∙ o))
 
     pub model-read : {k p : NamePlace} → k ≡ record { start = at + (h.first + 1); len = h.second - (h.first + 1) }
-        → p ≡ record { start = at + (h.second + 1); len = h.third - (h.second + 1) } → m.outcome ≡ ModelRead
-        → LineIs x kinds at end (record { checked = Good; kind = k; entry = record { model = p; rule = m.rule; names = m.names } })
+        → p ≡ record { start = at + (h.second + 1); len = h.third - (h.second + 1) } → m.outcome ≡ Ok tt
+        → ◌≡◌ {A = Result LineRead SheetFault} (Ok (record { kind = k; entry = record { model = p; rule = m.rule; names = m.names } }))
+        (line_read x kinds at end)
     model-read {k} {p} a b o =
         let ks = parts_of x kinds in
         let l = part x at end in
-        record {
-          checked_is = sym (line_read ks l g (outcome-is ks l h i g m e ∙ o));
-          kind_is = λ _. a ∙ line-kind ks l h i g at;
-          entry_is = λ _. line-entry ks l h i g at m p e b;
-        }
+        rw (line-none ks l g (outcome-is ks l h i g m e ∙ o), a ∙ line-kind ks l h i g at, line-entry ks l h i g at m p e b)
 
 -- a line in which nothing is wrong passed its check
-pub checked-line : (ks : List Text) (l : Text) → checked_by (line_fault ks l) ≡ Good → line_checked ks l ≡ Good
+pub checked-line : (ks : List Text) (l : Text) → line_fault ks l ≡ none → line_checked ks l ≡ Ok tt
 checked-line ks l e = go (line_checked ks l) refl
   where
-    go : (c : Checked) → line_checked ks l ≡ c → c ≡ Good
-    go Good q = refl
-    go (Bad f) q = let z = sym (line-bad ks l f q) ∙ e in let y : ◌≡◌ {A = ℕ} 0 1 = cc z in absurd (omega arith)
+    go : (c : Result Unit SheetFault) → line_checked ks l ≡ c → c ≡ Ok tt
+    go (Ok _) q = refl
+    go (Err f) q = let z = sym (line-bad ks l f q) ∙ e in cc z
 
 drop-taken : (a m : ℕ) (y : Text) → drop a (take m y) ≡ take (m - a) (drop a y)
 drop-taken zero m y = let e : m ≡ m - 0 = omega arith in ap (λ k. take k y) e
@@ -252,7 +225,7 @@ part-part x at end a b h =
     ∙ ap (take (b - a)) (drop-drop a at x)
 
 -- the kind stands at its place
-pub line-kind-is : (x : Text) (at end : ℕ) → at ≤ end → end ≤ length x → (ks : List Text) → checked_by (line_fault ks (part x at end)) ≡ Good
+pub line-kind-is : (x : Text) (at end : ℕ) → at ≤ end → end ≤ length x → (ks : List Text) → line_fault ks (part x at end) ≡ none
     → part_at x (kind_place (record { start = at; line = part x at end })) ≡ kind (part x at end)
 line-kind-is x at end o h ks e =
     let l = part x at end in
@@ -265,7 +238,7 @@ line-kind-is x at end o h ks e =
     rw (k, a) (sym (t.second_is ∙ part-part x at end ((heads_of l).first + 1) (heads_of l).second (omega arith)))
 
 -- the model stands at its place
-pub line-model-is : (x : Text) (at end : ℕ) → at ≤ end → end ≤ length x → (ks : List Text) → checked_by (line_fault ks (part x at end)) ≡ Good
+pub line-model-is : (x : Text) (at end : ℕ) → at ≤ end → end ≤ length x → (ks : List Text) → line_fault ks (part x at end) ≡ none
     → (part_at x (model_place (record { start = at; line = part x at end })) ≡ model (part x at end))
     × ((model_place (record { start = at; line = part x at end })).start + (model_place (record { start = at; line = part x at end })).len ≤ length x)
 line-model-is x at end o h ks e =
@@ -279,20 +252,10 @@ line-model-is x at end o h ks e =
     let a : at + (6 + length (kind l)) ≡ at + ((heads_of l).second + 1) = omega arith in
     (rw (j, a) (sym (t.third_is ∙ part-part x at end ((heads_of l).second + 1) (heads_of l).third (omega arith))), omega arith)
 
-module _ (x : Text) where
-  pub sheet-long : max_file < length x → sheet_by [] (Refused LongFile 0) ≡ sheet_read x
-  sheet-long h = rw (lt-ltb max_file (length x) h)
-
-  pub sheet-unended : length x ≤ max_file → same_text (behind x) [] ≡ false → sheet_by [] (Refused Unended 0) ≡ sheet_read x
-  sheet-unended h e = rw (le-ltb max_file (length x) h, e)
-
-  pub sheet-begin : length x ≤ max_file → same_text (behind x) [] ≡ true → sheet_by x (sheet_lines 0 [] (lines x)) ≡ sheet_read x
-  sheet-begin h e = rw (le-ltb max_file (length x) h, e)
-
 -- a line in which nothing is wrong has a model in which nothing is wrong
 pub fault-none : (ks : List Text) (l : Text) → line_fault ks l ≡ none → model_fault (answer (model l)) ≡ none
 fault-none ks l e = go (line_checked ks l) (sym (fault-by ks l) ∙ e)
   where
-    go : (c : Checked) → by_checked c (model_fault (answer (model l))) ≡ none → model_fault (answer (model l)) ≡ none
-    go Good q = q
-    go (Bad f) q = let z : ◌≡◌ {A = ℕ} 0 1 = cc q in absurd (omega arith)
+    go : (c : Result Unit SheetFault) → by_checked c (model_fault (answer (model l))) ≡ none → model_fault (answer (model l)) ≡ none
+    go (Ok _) q = q
+    go (Err f) q = cc q

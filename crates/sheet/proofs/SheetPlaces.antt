@@ -1,51 +1,44 @@
 -- Kinds and models of a sheet that is read stand at the places that are handed back: the walk over its lines, done without a text in memory.
 use mathlib.Core.{Logic.by_cases, List.List, List.[], List.◌∷◌, List.◌++◌, List.map}
-use Rattle.std.specs.Prelude.{◌≡◌, refl, ℕ, zero, suc, ◌+◌, ◌-◌, ◌≤◌, ◌<◌, length, take, get_or, replicate}
+use Rattle.std.specs.Prelude.{Result, Ok, Err, ◌≡◌, refl, ℕ, zero, suc, ◌+◌, ◌-◌, ◌≤◌, ◌<◌, length, take, get_or, replicate}
 use Rattle.std.proofs.Common.{ap, sym, subst, ◌∙◌, get_or-take}
 use native.Mathlib.{Decide.dec_lt, Omega.arith}
 use Rattle.std.proofs.lemmas.List.{length-map}
 use Rattle.std.proofs.Math.ListN.{get_or-map}
-use Rattle.fields.specs.{Limits.max_atoms, Bytes.Text, Split.line_feed, Split.lines, Split.part, Split.part_end, Split.Laws.end-bounds}
+use Rattle.fields.specs.{Limits.max_atoms, Bytes.Text, Split.line_feed, Split.lines, Split.part_end, Split.Laws.end-bounds}
 use Rattle.judge.specs.declared.reading.Names.{Names}
-use Rattle.judge.specs.Reading.{no_place, part_at, parts_of, reading}
-use Rattle.sheet.specs.{declared.sheet.LineRead.LineRead, declared.sheet.Checked.Checked, declared.sheet.Entry.Entry, declared.sheet.Sheet.Sheet}
+use Rattle.judge.specs.Reading.{no_place, part_at, reading}
+use Rattle.fields.specs.declared.fault.AtLine.{AtLine}
+use Rattle.sheet.specs.{AtLine.at_line, AtLine.numbered, declared.sheet.LineRead.LineRead, declared.sheet.Entry.Entry, declared.sheet.Sheet.Sheet}
 use Rattle.sheet.specs.{declared.sheet.SheetFault.TheVariants.ManyRules}
 use Rattle.sheet.proofs.SheetGood.{not-read}
-use Rattle.sheet.specs.Sheet.Line.{Loaded, checked_by, LineIs}
+use Rattle.sheet.specs.Sheet.Line.{Loaded, line_read}
 use Rattle.sheet.specs.{declared.sheet.SheetFault.SheetFault}
 use Rattle.sheet.proofs.SheetGood.{lines-read}
-use Rattle.sheet.specs.declared.sheet.SheetOutcome.TheVariants.{Read, Refused}
-use Rattle.sheet.specs.declared.sheet.Checked.TheVariants.{Good, Bad}
-use Rattle.sheet.specs.Sheet.{max_rules, kind, model, line_fault, sheet_lines, sheet_outcome, Placed, placed_from, kind_place, entry_of, no_entry, sheet_with}
+use Rattle.sheet.specs.Sheet.{max_rules, kind, model, sheet_lines, sheet_outcome, Placed, placed_from, kind_place, entry_of, no_entry, sheet_with}
 use Rattle.sheet.specs.Sheet.{sheet_by, sheet_read, HoldsLine, HoldsSheet}
 use Rattle.sheet.proofs.SheetWalk.{Gone, nowhere, placed-length, gone-start, gone-many, gone-bad, gone-next, gone-loaded, gone-end}
 
-module _ (x : Text) (read : sheet_lines 0 [] (lines x) ≡ Read) where
+module _ (x : Text) (read : sheet_lines 0 [] (lines x) ≡ Ok tt) where
   -- where a line is left, the walk goes on behind it
   next : {C : Type 0} (kinds : Names) (entries : List Entry) (n at : ℕ) → Gone x kinds entries n at → at < length x
       → ((kinds' : Names) (entries' : List Entry) (end : ℕ) → at ≤ end → Gone x kinds' entries' (n + 1) (end + 1) → C) → C
-  next {C} kinds entries n at w h go = by_cases (dec_lt n max_rules) (λ o. found o line.checked refl) (λ o. not-read ManyRules (n + 1) (refused (many o)))
+  next {C} kinds entries n at w h go =
+      by_cases (dec_lt n max_rules) (λ o. found o (line_read x kinds at end) refl) (λ o. not-read ManyRules (n + 1) (refused (many o)))
     where
-      refused : {f : SheetFault} {m : ℕ} → sheet_by [] (Refused f m) ≡ sheet_by x (sheet_lines 0 [] (lines x)) → Refused f m ≡ Read
+      refused : {f : SheetFault} {m : ℕ} → sheet_by [] (Err (at_line f m)) ≡ sheet_by x (sheet_lines 0 [] (lines x))
+          → ◌≡◌ {A = Result Unit (AtLine SheetFault)} (Err (at_line f m)) (Ok tt)
       refused e = ap (λ r. r.outcome) e ∙ ap (λ o. (sheet_by x o).outcome) read
 
       end : ℕ
       end = part_end x line_feed at
 
-      line : LineRead
-      line =
-          let p : Placed = record { start = at; line = part x at end } in
-          record { checked = checked_by (line_fault (parts_of x kinds) (part x at end)); kind = kind_place p; entry = entry_of p }
-
-      is : LineIs x kinds at end line
-      is = record { checked_is = refl; kind_is = λ _. refl; entry_is = λ _. refl }
-
-      many : ¬ (n < max_rules) → sheet_by [] (Refused ManyRules (n + 1)) ≡ sheet_by x (sheet_lines 0 [] (lines x))
+      many : ¬ (n < max_rules) → sheet_by [] (Err (at_line ManyRules (n + 1))) ≡ sheet_by x (sheet_lines 0 [] (lines x))
       many o = gone-many w (omega (arith, w.few)) h
 
-      found : n < max_rules → (c : Checked) → line.checked ≡ c → C
-      found o Good e = go _ _ end (end-bounds x line_feed at end (omega arith) refl).0 (gone-next w o h refl is e)
-      found o (Bad f) e = not-read f (n + 1) (refused (gone-bad w o h refl is e))
+      found : n < max_rules → (r : Result LineRead SheetFault) → r ≡ line_read x kinds at end → C
+      found o (Ok r) e = go _ _ end (end-bounds x line_feed at end (omega arith) refl).0 (gone-next w o h refl (ap (numbered (n + 1)) (sym e)))
+      found o (Err f) e = not-read f (n + 1) (refused (gone-bad w o h refl (ap (numbered (n + 1)) (sym e))))
 
   ended : (kinds : Names) (entries : List Entry) (n at : ℕ) → Gone x kinds entries n at → length x ≤ at
       → Loaded x (sheet_by x (sheet_lines 0 [] (lines x))).sheet
@@ -59,12 +52,12 @@ module _ (x : Text) (read : sheet_lines 0 [] (lines x) ≡ Read) where
       (λ o. next kinds entries n at w o (λ kinds' entries' end i v. walked k kinds' entries' (n + 1) (end + 1) v (omega arith)))
       (λ o. ended kinds entries n at w (omega arith))
 
-read-loaded : (x : Text) → sheet_outcome x ≡ Read → Loaded x (sheet_with (placed_from 0 (lines x)))
+read-loaded : (x : Text) → sheet_outcome x ≡ Ok tt → Loaded x (sheet_with (placed_from 0 (lines x)))
 read-loaded x e =
     let (ends, read) = lines-read x e in
     rw read at (walked x read (length x) _ _ 0 0 (gone-start {s = sheet_with []} refl ends) (omega arith))
 
-pub sheet-loaded : (x : Text) → sheet_outcome x ≡ Read → Loaded x (sheet_read x).sheet
+pub sheet-loaded : (x : Text) → sheet_outcome x ≡ Ok tt → Loaded x (sheet_read x).sheet
 sheet-loaded x e = rw e (read-loaded x e)
 
 -- in front of what fills an array up, and in it
@@ -85,7 +78,7 @@ placed-line p [] k = refl
 placed-line p (l ∷ ls) zero = refl
 placed-line p (l ∷ ls) (suc k) = placed-line (p + suc (length l)) ls k
 
-module _ (x : Text) (e : sheet_outcome x ≡ Read) where
+module _ (x : Text) (e : sheet_outcome x ≡ Ok tt) where
   abbrev places : List Placed
   places = placed_from 0 (lines x)
 

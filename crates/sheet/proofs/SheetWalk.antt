@@ -1,12 +1,13 @@
 -- A walk over the lines of a sheet: what is read so far.
 use mathlib.Core.{Path.◌≡◌, Path.refl, Path.ap, Path.ap₂, Path.sym, Path.◌∙◌, Logic.by_cases, Option.Option, Option.none, Option.some}
+use Rattle.std.specs.Prelude.{Ok, Err}
 use mathlib.Core.List.{List, [], ◌∷◌, ◌++◌, map, map-append, head-eq_of_cons-eq, tail-eq_of_cons-eq}
 use Prim.Native.Nat.{ℕ, suc, ◌+◌, ◌-◌, ◌≤◌, ◌<◌}
 use native.Mathlib.{Decide.dec_lt, Omega.arith, Numerals.add-one}
 use Rattle.std.proofs.Math.ListN.{length, take, set, replicate, length-append, length-map}
 use Rattle.std.specs.Prelude.{drop, get_or}
 use Rattle.std.proofs.lemmas.List.{length-replicate}
-use Rattle.std.proofs.Common.{take-suc, drop-cons, get_or-set_other}
+use Rattle.std.proofs.Common.{take-suc, drop-cons, length-drop, get_or-set_other}
 use Rattle.std.proofs.Math.Seq.{take_all, take_at, drop-length, get_or-set_same}
 use borrow.Author.Tests.{le-leb, lt-leb}
 use Rattle.judge.specs.declared.reading.Names.{Names}
@@ -17,11 +18,13 @@ use Rattle.fields.specs.Split.{line_feed, lines, behind, part, part_end}
 use Rattle.fields.specs.Split.Laws.{Stand, Next, stand-start, stand-stop, stand-next, end-bounds}
 use Rattle.sheet.specs.{declared.sheet.SheetFault.SheetFault, declared.sheet.SheetFault.TheVariants.ManyRules, declared.sheet.LineRead.LineRead}
 use Rattle.sheet.specs.{declared.sheet.Entry.Entry, declared.sheet.Sheet.Sheet, declared.sheet.SheetRead.SheetRead}
-use Rattle.sheet.specs.declared.sheet.SheetOutcome.TheVariants.{Read, Refused}
-use Rattle.sheet.specs.declared.sheet.Checked.TheVariants.{Good, Bad}
+use Rattle.fields.specs.declared.fault.AtLine.{AtLine}
+use Rattle.sheet.specs.AtLine.{at_line, numbered}
+use Rattle.sheet.proofs.Left.{left_at}
+use Rattle.sheet.proofs.Numbered.{numbered-ok, numbered-err}
 use Rattle.sheet.specs.Sheet.{max_rules, kind, line_fault, sheet_lines, Placed, placed_from, kind_place, entry_of, no_entry, sheet_with, sheet_by}
 use Rattle.sheet.proofs.SheetLaws.{line-kind-is, line-model-is, part-size}
-use Rattle.sheet.specs.Sheet.Line.{checked_by, LineIs, EntryGood, Loaded}
+use Rattle.sheet.specs.Sheet.Line.{unless, placed_read, line_read, EntryGood, Loaded}
 
 -- what the loop holds before line n, which begins at `at`
 pub record Gone (x : Text) (kinds : Names) (entries : List Entry) (n at : ℕ) : Type 0 where
@@ -59,8 +62,17 @@ gone-start {x} e b =
       answer = refl;
     }
 
+-- what a line is read into tells what is wrong with it
+unless-ok : {A : Type 0} (f : Option SheetFault) (a : A) {b : A} → Ok b ≡ unless f a → (f ≡ none) × (b ≡ a)
+unless-ok none a e = (refl, cc e)
+unless-ok (some f) a e = cc e
+
+unless-err : {A : Type 0} (f : Option SheetFault) (a : A) {g : SheetFault} → Err g ≡ unless f a → f ≡ some g
+unless-err none a e = cc e
+unless-err (some f) a {g} e = let z : g ≡ f = cc e in ap some (sym z)
+
 -- the entry of a good line
-entry-good : (x : Text) (at end : ℕ) → at ≤ end → end ≤ length x → (ks : List Text) → checked_by (line_fault ks (part x at end)) ≡ Good
+entry-good : (x : Text) (at end : ℕ) → at ≤ end → end ≤ length x → (ks : List Text) → line_fault ks (part x at end) ≡ none
     → EntryGood x (entry_of (record { start = at; line = part x at end })) (part x at end)
 entry-good x at end o h ks e = let m = line-model-is x at end o h ks e in record { inside = m.1; model_is = m.0 }
 
@@ -76,37 +88,54 @@ module _ {x : Text} {kinds : Names} {entries : List Entry} {n at : ℕ} (w : Gon
       ap₂ take w.count_is w.places_are ∙ take_at (map kind_place (take n ps)) (replicate (64 - n) no_place) n (fill-length kind_place no_place ps n k) in
       ap (map (part_at x)) t ∙ w.kinds_are
 
+  -- the next line is the part up to the next line feed
+  pub gone-line : {left ks : List Text} {l : Text} → left ≡ drop n (lines x) → left ≡ l ∷ ks
+      → (at < length x) × (at + length l ≡ part_end x line_feed at) × (ks ≡ drop (n + 1) (lines x))
+  gone-line {left} {ks} {l} e d =
+      let (k, q, r) = left_at (lines x) n (sym e ∙ d) in
+      by_cases (dec_lt at (length x))
+      (λ h.
+      let v = stand-next x n at w.stand (part_end x line_feed at) h refl in
+      let b = end-bounds x line_feed at (part_end x line_feed at) (omega arith) refl in
+      (h, omega (arith, b, part-size x at (part_end x line_feed at) b.1, ap length (sym v.line_is ∙ q)), sym r))
+      (λ h. absurd (omega (arith, k, stand-stop x n at w.stand (omega arith))))
+
+  pub gone-stop : {left : List Text} → left ≡ drop n (lines x) → left ≡ [] → length x ≤ at
+  gone-stop e d =
+      by_cases (dec_lt at (length x))
+      (λ h. let v = stand-next x n at w.stand (part_end x line_feed at) h refl in
+      absurd (omega (arith, v.counted, length-drop n (lines x), ap length (sym e ∙ d))))
+      (λ h. omega arith)
+
   -- a 65th line
-  pub gone-many : n ≡ 64 → at < length x → sheet_by [] (Refused ManyRules (n + 1)) ≡ sheet_by x (sheet_lines 0 [] (lines x))
+  pub gone-many : n ≡ 64 → at < length x → sheet_by [] (Err (at_line ManyRules (n + 1))) ≡ sheet_by x (sheet_lines 0 [] (lines x))
   gone-many e h =
       let v = stand-next x n at w.stand (part_end x line_feed at) h refl in
-      let a : sheet_lines 0 [] (lines x) ≡ Refused ManyRules (n + 1) =
+      let a : sheet_lines 0 [] (lines x) ≡ Err (at_line ManyRules (n + 1)) =
       w.answer ∙ rw (drop-cons (lines x) n [] v.counted, le-leb max_rules n (omega arith), add-one) in
       ap (sheet_by x) (sym a)
 
-  module _ (o : n < 64) (h : at < length x) {end : ℕ} (e : end ≡ part_end x line_feed at) {r : LineRead} (i : LineIs x kinds at end r) where
+  module _ (o : n < 64) (h : at < length x) {end : ℕ} (e : end ≡ part_end x line_feed at) where
     v : Next x n at end
     v = stand-next x n at w.stand end h e
 
-    fault_is : r.checked ≡ checked_by (line_fault (map kind (take n (lines x))) (part x at end))
-    fault_is = i.checked_is ∙ ap (λ ks. checked_by (line_fault ks (part x at end))) parts_are
+    read_is : line_read x kinds at end
+        ≡ unless (line_fault (map kind (take n (lines x))) (part x at end)) (placed_read (record { start = at; line = part x at end }))
+    read_is = ap (λ ks. unless (line_fault ks (part x at end)) (placed_read (record { start = at; line = part x at end }))) parts_are
 
-    none_of : (f : Option SheetFault) → Good ≡ checked_by f → f ≡ none
-    none_of none e = refl
-    none_of (some f) e = let z : ◌≡◌ {A = ℕ} 0 1 = cc e in absurd (omega arith)
-
-    some_of : (f : Option SheetFault) (g : SheetFault) → Bad g ≡ checked_by f → f ≡ some g
-    some_of none g e = let z : ◌≡◌ {A = ℕ} 0 1 = cc e in absurd (omega arith)
-    some_of (some f) g e = let z : g ≡ f = cc e in ap some (sym z)
-
-    pub gone-bad : {f : SheetFault} → r.checked ≡ Bad f → sheet_by [] (Refused f (n + 1)) ≡ sheet_by x (sheet_lines 0 [] (lines x))
+    pub gone-bad : {f : AtLine SheetFault} → numbered (n + 1) (line_read x kinds at end) ≡ Err f → sheet_by [] (Err f) ≡ sheet_by x (sheet_lines 0 [] (lines x))
     gone-bad {f} b =
-        let z = some_of (line_fault (map kind (take n (lines x))) (part x at end)) f (sym b ∙ fault_is) in
-        let a : sheet_lines 0 [] (lines x) ≡ Refused f (n + 1) =
+        let (q, m) = numbered-err (n + 1) (line_read x kinds at end) b in
+        let z = unless-err (line_fault (map kind (take n (lines x))) (part x at end)) _ (sym q ∙ read_is) in
+        let k : sheet_lines 0 [] (lines x) ≡ Err (at_line f.fault (n + 1)) =
         w.answer ∙ rw (drop-cons (lines x) n [] v.counted, lt-leb max_rules n o, v.line_is, z, add-one) in
+        let a : sheet_lines 0 [] (lines x) ≡ Err f = k ∙ ap (λ j. Err (at_line f.fault j)) m in
         ap (sheet_by x) (sym a)
 
-    module _ (g : r.checked ≡ Good) where
+    module _ {r : LineRead} (g : numbered (n + 1) (line_read x kinds at end) ≡ Ok r) where
+      good : (line_fault (map kind (take n (lines x))) (part x at end) ≡ none) × (r ≡ placed_read (record { start = at; line = part x at end }))
+      good = unless-ok (line_fault (map kind (take n (lines x))) (part x at end)) _ (sym (numbered-ok (n + 1) (line_read x kinds at end) g) ∙ read_is)
+
       here : drop n ps ≡ record { start = at; line = part x at end } ∷ placed_from (end + 1) (drop (suc n) (lines x))
       unfolding ps
       here =
@@ -134,22 +163,24 @@ module _ {x : Text} {kinds : Names} {entries : List Entry} {n at : ℕ} (w : Gon
       pub gone-next : Gone x (record { places = set kinds.places n r.kind; len = n + 1 }) (set entries n r.entry) (n + 1) (end + 1)
       unfolding ps
       gone-next =
-          let z = none_of (line_fault (map kind (take n (lines x))) (part x at end)) (sym g ∙ fault_is) in
+          let z = good.0 in
           let b = end-bounds x line_feed at end (omega arith) e in
-          let c = sym i.checked_is ∙ g in
+          let c = ap (λ ks. line_fault ks (part x at end)) parts_are ∙ z in
           let q = line-kind-is x at end b.0 b.1 (parts_of x kinds) c in
+          let k = ap (λ r. r.kind) good.1 in
+          let m = ap (λ r. r.entry) good.1 in
           record {
             stand = v.stand;
             few = omega arith;
             below = omega (arith, w.below, b);
-            places_are = ap₂ (λ l k. set l n k) w.places_are (i.kind_is g ∙ ap kind_place (sym at_n)) ∙ fill-turn kind_place no_place ps 64 n nowhere o inside;
+            places_are = ap₂ (λ l k. set l n k) w.places_are (k ∙ ap kind_place (sym at_n)) ∙ fill-turn kind_place no_place ps 64 n nowhere o inside;
             count_is = refl;
-            entries_are = ap₂ (λ l k. set l n k) w.entries_are (i.entry_is g ∙ ap entry_of (sym at_n)) ∙ fill-turn entry_of no_entry ps 64 n nowhere o inside;
+            entries_are = ap₂ (λ l k. set l n k) w.entries_are (m ∙ ap entry_of (sym at_n)) ∙ fill-turn entry_of no_entry ps 64 n nowhere o inside;
             ahead = rw (add-one n) (tail-eq_of_cons-eq (sym (drop-cons ps n nowhere inside) ∙ here));
             entries_good = λ k d h. by_cases (dec_lt k n)
                 (λ o'. rw (get_or-set_other entries n k r.entry d (λ q. omega (arith, q))) (w.entries_good k d o'))
                 (λ o'. let q : k ≡ n = omega arith in
-                rw (q, get_or-set_same entries n r.entry d long, v.line_is, i.entry_is g) (entry-good x at end b.0 b.1 (parts_of x kinds) c));
+                rw (q, get_or-set_same entries n r.entry d long, v.line_is, m) (entry-good x at end b.0 b.1 (parts_of x kinds) c));
             kinds_are = rw (one_more, map-append, map-append, line-more, w.kinds_are, q);
             answer = w.answer ∙ rw (drop-cons (lines x) n [] v.counted, lt-leb max_rules n o, v.line_is, z, line-more, add-one);
           }
@@ -164,7 +195,7 @@ module _ {x : Text} {kinds : Names} {entries : List Entry} {n at : ℕ} (w : Gon
       }
 
   abbrev read : SheetRead
-  read = record { outcome = Read; sheet = record { kinds = kinds; entries = entries } }
+  read = record { outcome = Ok tt; sheet = record { kinds = kinds; entries = entries } }
 
   pub gone-end : length x ≤ at → read ≡ sheet_by x (sheet_lines 0 [] (lines x))
   unfolding ps
@@ -172,7 +203,7 @@ module _ {x : Text} {kinds : Names} {entries : List Entry} {n at : ℕ} (w : Gon
       let c = stand-stop x n at w.stand h in
       let m : n ≡ length ps = c ∙ sym (placed-length 0 (lines x)) in
       let t : take n ps ≡ ps = take_all n ps (omega arith) in
-      let a : sheet_lines 0 [] (lines x) ≡ Read = w.answer ∙ rw (c, drop-length (lines x)) in
+      let a : sheet_lines 0 [] (lines x) ≡ Ok tt = w.answer ∙ rw (c, drop-length (lines x)) in
       let l : length (map kind_place ps) ≡ n = length-map ps kind_place ∙ sym m in
       let p : kinds.places ≡ map kind_place ps ++ replicate (64 - n) no_place =
       w.places_are ∙ ap (λ q. map kind_place q ++ replicate (64 - n) no_place) t in

@@ -9,9 +9,9 @@ use Rattle.fields.specs.{Limits.max_row, Limits.max_file, declared.fault.CueFaul
 use Rattle.fields.specs.{Children.all_names}
 use Rattle.fields.specs.Bytes.{Text, bytes, is_digit, all, value, same_text}
 use Rattle.fields.specs.declared.fault.CueFault.TheVariants.{LongFile, Unended, BadFields, BadNumber, NotAbove, NoName, ManyChildren}
-use Rattle.sheet.specs.{declared.cues.CueLine.CueLine, declared.cues.CuesRead.CuesRead}
-use Rattle.sheet.specs.declared.cues.CueLine.TheVariants.{Number, Bad}
-use Rattle.sheet.specs.declared.cues.CuesRead.TheVariants.{Count, Refused}
+use Rattle.std.specs.Prelude.{Result, Ok, Err}
+use Rattle.fields.specs.declared.fault.AtLine.{AtLine}
+use Rattle.sheet.specs.AtLine.{at_line}
 
 -- 1 to 5 digits, the first not 0
 abbrev pub is_cue_number : Text → Bool
@@ -28,27 +28,27 @@ pub record CueFits (l : Text) : Type 0 where
   pub short : length l ≤ max_file
 
 -- a line behind one with the number p: its own number, or what is wrong with it
-abbrev pub cue_line : ℕ → Text → CueLine
+abbrev pub cue_line : ℕ → Text → Result ℕ CueFault
 cue_line p l =
-    cond (ltb (length (fields l)) 3 || not (same_text (field 0 l) (bytes "cue"))) (Bad BadFields)
-    (cond (not (is_cue_number (field 1 l))) (Bad BadNumber)
-    (cond (leb (value (field 1 l)) p) (Bad NotAbove)
-    (cond (not (all_names (field 2 l ∷ children l))) (Bad NoName)
-    (cond (ltb max_row (length (children l))) (Bad ManyChildren)
-    (Number (value (field 1 l)))))))
+    cond (ltb (length (fields l)) 3 || not (same_text (field 0 l) (bytes "cue"))) (Err BadFields)
+    (cond (not (is_cue_number (field 1 l))) (Err BadNumber)
+    (cond (leb (value (field 1 l)) p) (Err NotAbove)
+    (cond (not (all_names (field 2 l ∷ children l))) (Err NoName)
+    (cond (ltb max_row (length (children l))) (Err ManyChildren)
+    (Ok (value (field 1 l)))))))
 
-abbrev pub by_line : CueLine → (ℕ → CuesRead) → (CueFault → CuesRead) → CuesRead
-by_line (Number n) good bad = good n
-by_line (Bad f) good bad = bad f
+abbrev pub by_line : Result ℕ CueFault → (ℕ → Result ℕ (AtLine CueFault)) → (CueFault → Result ℕ (AtLine CueFault)) → Result ℕ (AtLine CueFault)
+by_line (Ok n) good bad = good n
+by_line (Err f) good bad = bad f
 
 -- lines behind n lines, the last of which has the number p: how many lines there are, or the first fault and its line
-abbrev pub cue_lines : ℕ → ℕ → List Text → CuesRead
-cue_lines n p [] = Count n
-cue_lines n p (l ∷ ls) = by_line (cue_line p l) (λ q. cue_lines (suc n) q ls) (λ f. Refused f (suc n))
+abbrev pub cue_lines : ℕ → ℕ → List Text → Result ℕ (AtLine CueFault)
+cue_lines n p [] = Ok n
+cue_lines n p (l ∷ ls) = by_line (cue_line p l) (λ q. cue_lines (suc n) q ls) (λ f. Err (at_line f (suc n)))
 
 -- how many cues the text has, or what is wrong with it
-abbrev pub cues_read : Text → CuesRead
+abbrev pub cues_read : Text → Result ℕ (AtLine CueFault)
 cues_read x =
-    cond (ltb max_file (length x)) (Refused LongFile 0)
+    cond (ltb max_file (length x)) (Err (at_line LongFile 0))
     (cond (same_text (behind x) []) (cue_lines 0 0 (lines x))
-    (Refused Unended 0))
+    (Err (at_line Unended 0)))

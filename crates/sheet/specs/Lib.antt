@@ -5,6 +5,8 @@
 --   Cues       the lines of a cue list, and what is wrong with one
 --   Sheet      the lines of a sheet, what is wrong with one, and what they read into
 --   RefusalLine   the line that is printed on a refusal
+--   AtLine     a refusal with its line, and the tests of a whole file
+pub mod AtLine
 pub mod Cues
 pub mod Sheet
 pub mod RefusalLine

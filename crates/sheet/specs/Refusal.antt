@@ -2,17 +2,16 @@
 -- Lines count from 1; what is wrong with the whole file stands at 0. Each fault looks at the text alone, not at whether another stands before it.
 pub mod Order
 use mathlib.Core.{Path.◌≡◌, Logic.◌⊎◌, Bool.false, List.[], List.◌∷◌}
-use Rattle.std.specs.Prelude.{ℕ, zero, suc, ◌+◌, ◌-◌, ◌≤◌, ◌<◌, length, get_or}
+use Rattle.std.specs.Prelude.{Result, Ok, Err, ℕ, zero, suc, ◌+◌, ◌-◌, ◌≤◌, ◌<◌, length, get_or}
 use Rattle.fields.specs.{Bytes.Text, Bytes.bytes, Bytes.value, Limits.max_row, Limits.max_file, declared.fault.CueFault.CueFault, Split.lines, Split.behind}
 use Rattle.fields.specs.{Split.fields, Split.field, Children.cue_number, Children.short_name, Children.all_names, Least.NoFault, Least.First}
 use Rattle.fields.specs.declared.fault.CueFault.TheVariants.{LongFile as LongList, Unended as UnendedList, BadFields as BadCue, BadNumber, NotAbove, NoName}
 use Rattle.fields.specs.declared.fault.CueFault.TheVariants.{ManyChildren, NoChild}
 use Rattle.model.specs.Fault.{Answers, refused}
-use Rattle.sheet.specs.{declared.sheet.SheetFault.SheetFault, declared.sheet.SheetOutcome.SheetOutcome, declared.cues.CuesRead.CuesRead}
+use Rattle.fields.specs.declared.fault.AtLine.{AtLine}
+use Rattle.sheet.specs.{declared.sheet.SheetFault.SheetFault}
 use Rattle.sheet.specs.{Cues.is_cue_number, Cues.children, Sheet.max_rules, Sheet.sheet_number, Sheet.kind, Sheet.model}
 use Rattle.sheet.specs.declared.sheet.SheetFault.TheVariants.{LongFile, Unended, ManyRules, BadFields, NoKind, Repeated, Model}
-use Rattle.sheet.specs.declared.sheet.SheetOutcome.TheVariants.{Read, Refused}
-use Rattle.sheet.specs.declared.cues.CuesRead.TheVariants.{Count, Refused as RefusedList}
 
 -- the text has a line n, and the line
 abbrev pub Line : Text → ℕ → Type 0
@@ -59,9 +58,9 @@ sheet_rank Repeated = sheet_number Repeated
 sheet_rank (Model f) = suc (sheet_number Repeated)
 
 -- what a sheet is answered
-abbrev pub SheetAnswers : Text → SheetOutcome → Type 0
-SheetAnswers x Read = NoFault (SheetStands x)
-SheetAnswers x (Refused f n) = First sheet_rank (SheetStands x) f n
+abbrev pub SheetAnswers : Text → Result Unit (AtLine SheetFault) → Type 0
+SheetAnswers x (Ok _) = NoFault (SheetStands x)
+SheetAnswers x (Err e) = First sheet_rank (SheetStands x) e.fault e.line
 
 -- the number of a cue line
 abbrev pub number_of : Text → ℕ
@@ -85,6 +84,6 @@ CueStands x ManyChildren n = Line x n × (max_row < length (children (line x n))
 CueStands x NoChild n = ⊥
 
 -- what a cue list is answered
-abbrev pub CuesAnswers : Text → CuesRead → Type 0
-CuesAnswers x (Count n) = NoFault (CueStands x) × (n ≡ length (lines x))
-CuesAnswers x (RefusedList f n) = First cue_number (CueStands x) f n
+abbrev pub CuesAnswers : Text → Result ℕ (AtLine CueFault) → Type 0
+CuesAnswers x (Ok n) = NoFault (CueStands x) × (n ≡ length (lines x))
+CuesAnswers x (Err e) = First cue_number (CueStands x) e.fault e.line

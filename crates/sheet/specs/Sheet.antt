@@ -3,16 +3,16 @@
 pub mod Line
 use mathlib.Core.{Bool.Bool, Bool.false, Bool.cond, Bool.not, Bool.◌||◌, Option.Option, Option.none, Option.some, List.List, List.[], List.◌∷◌, List.◌++◌}
 use mathlib.Core.{Path.◌≡◌, List.map}
-use Rattle.std.specs.Prelude.{ℕ, suc, ◌+◌, ◌-◌, ◌≤◌, ◌<◌}
+use Rattle.std.specs.Prelude.{Result, Ok, Err, ℕ, suc, ◌+◌, ◌-◌, ◌≤◌, ◌<◌}
 use lib.{Dec.leb, Dec.ltb, Dec.eqb, ListN.length, ListN.get_or, ListN.replicate}
 use Rattle.fields.specs.{Limits.max_file, Bytes.Text, Bytes.bytes, Bytes.same_text, Split.lines, Split.behind, Split.fields, Split.field, Children.short_name}
 use Rattle.judge.specs.{declared.reading.NamePlace.NamePlace, Reading.no_place, Reading.names_with, Reading.reading, Reading.part_at}
 use Rattle.model.specs.Fault.{Answer, refused, accepted, model_number}
 use Rattle.judge.specs.Answer.{answer}
-use Rattle.sheet.specs.{declared.sheet.SheetFault.SheetFault, declared.sheet.SheetOutcome.SheetOutcome, declared.sheet.Entry.Entry}
+use Rattle.fields.specs.declared.fault.AtLine.{AtLine}
+use Rattle.sheet.specs.{declared.sheet.SheetFault.SheetFault, AtLine.at_line, declared.sheet.Entry.Entry}
 use Rattle.sheet.specs.{declared.sheet.Sheet.Sheet, declared.sheet.SheetRead.SheetRead}
 use Rattle.sheet.specs.declared.sheet.SheetFault.TheVariants.{LongFile, Unended, ManyRules, BadFields, NoKind, Repeated, Model}
-use Rattle.sheet.specs.declared.sheet.SheetOutcome.TheVariants.{Read, Refused}
 
 abbrev pub max_rules : ℕ
 max_rules = 64
@@ -50,22 +50,22 @@ line_fault ks l =
     (cond (among ks (kind l)) (some Repeated)
     (model_fault (answer (model l)))))
 
-abbrev pub by_fault : Option SheetFault → SheetOutcome → (SheetFault → SheetOutcome) → SheetOutcome
+abbrev pub by_fault : Option SheetFault → Result Unit (AtLine SheetFault) → (SheetFault → Result Unit (AtLine SheetFault)) → Result Unit (AtLine SheetFault)
 by_fault none good bad = good
 by_fault (some f) good bad = bad f
 
 -- lines behind n lines with these kinds: all good, or the first fault and its line
-abbrev pub sheet_lines : ℕ → List Text → List Text → SheetOutcome
-sheet_lines n ks [] = Read
+abbrev pub sheet_lines : ℕ → List Text → List Text → Result Unit (AtLine SheetFault)
+sheet_lines n ks [] = Ok tt
 sheet_lines n ks (l ∷ ls) =
-    cond (leb max_rules n) (Refused ManyRules (suc n))
-    (by_fault (line_fault ks l) (sheet_lines (suc n) (ks ++ (kind l ∷ [])) ls) (λ f. Refused f (suc n)))
+    cond (leb max_rules n) (Err (at_line ManyRules (suc n)))
+    (by_fault (line_fault ks l) (sheet_lines (suc n) (ks ++ (kind l ∷ [])) ls) (λ f. Err (at_line f (suc n))))
 
-abbrev pub sheet_outcome : Text → SheetOutcome
+abbrev pub sheet_outcome : Text → Result Unit (AtLine SheetFault)
 sheet_outcome x =
-    cond (ltb max_file (length x)) (Refused LongFile 0)
+    cond (ltb max_file (length x)) (Err (at_line LongFile 0))
     (cond (same_text (behind x) []) (sheet_lines 0 [] (lines x))
-    (Refused Unended 0))
+    (Err (at_line Unended 0)))
 
 -- a line with the place of its first byte in the text
 pub record Placed : Type 0 where
@@ -94,9 +94,9 @@ abbrev pub sheet_with : List Placed → Sheet
 sheet_with ps = record { kinds = names_with (map kind_place ps); entries = map entry_of ps ++ replicate (max_rules - length ps) no_entry }
 
 -- a refused reading has no rules
-abbrev pub sheet_by : Text → SheetOutcome → SheetRead
-sheet_by x Read = record { outcome = Read; sheet = sheet_with (placed_from 0 (lines x)) }
-sheet_by x (Refused f n) = record { outcome = Refused f n; sheet = sheet_with [] }
+abbrev pub sheet_by : Text → Result Unit (AtLine SheetFault) → SheetRead
+sheet_by x (Ok _) = record { outcome = Ok tt; sheet = sheet_with (placed_from 0 (lines x)) }
+sheet_by x (Err f) = record { outcome = Err f; sheet = sheet_with [] }
 
 abbrev pub sheet_read : Text → SheetRead
 sheet_read x = sheet_by x (sheet_outcome x)

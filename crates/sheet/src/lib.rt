@@ -5,3 +5,4 @@ pub mod cues;
 pub mod number;
 pub mod refusal;
 pub mod sheet;
+mod whole;

@@ -2,7 +2,7 @@
 
 ghost use mathlib.Core.{Path.◌≡◌, List.◌++◌};
 ghost use Rattle.std.specs.Prelude.{◌≤◌, length, drop};
-ghost use Rattle.fields.specs.Put.{Put, put_end, put_at};
+ghost use Rattle.fields.specs.Put.{Put};
 ghost use Rattle.sheet.specs.RefusalLine.{refusal_head, refusal_line};
 
 use fields::put::{put, put_number};
@@ -30,37 +30,31 @@ pub struct Refusal {
 }
 
 // The line up to the number.
-fn put_head(buffer: &mut [u8], source: Source) -> usize
-    ensures value { result ≡ put_end buffer.old 0 (refusal_head source) }
-    ensures buffer_after { buffer.new ≡ put_at buffer.old 0 (refusal_head source) }
+fn head(source: Source) -> &'static [u8]
+    ensures { result.now ≡ refusal_head source }
 {
     match source {
-        Source::Sheet => put(buffer, 0, b"refused\tsheet\t"),
-        Source::Cues => put(buffer, 0, b"refused\tcues\t"),
-        Source::Listing => put(buffer, 0, b"refused\tlisting\t"),
+        Source::Sheet => b"refused\tsheet\t",
+        Source::Cues => b"refused\tcues\t",
+        Source::Listing => b"refused\tlisting\t",
     }
 }
 
-fn put_refusal(buffer: &mut [u8], source: Source, number: u32, line: usize) -> usize
+fn put_refusal(buffer: &mut [u8], refusal: Refusal) -> usize
     requires { 48 ≤ length buffer.old }
-    ensures { Put buffer.old buffer.new 0 (refusal_line source number line) result }
+    ensures { Put buffer.old buffer.new 0 (refusal_line refusal.source refusal.number refusal.line) result }
 {
-    let a = put_head(buffer, source);
-    let b = put_number(buffer, a, number as usize);
+    let a = put(buffer, 0, head(refusal.source));
+    let b = put_number(buffer, a, refusal.number as usize);
     let c = put(buffer, b, b"\t");
-    let d = put_number(buffer, c, line);
+    let d = put_number(buffer, c, refusal.line);
     put(buffer, d, b"\n")
 }
 
 // Writes the line of a refusal, and gives its length. Bytes behind it are not touched.
-pub fn refusal_line(
-    source: Source,
-    number: u32,
-    line: usize,
-    buffer: &mut [u8; REFUSAL_SIZE],
-) -> usize
-    ensures value { (result ≡ length (refusal_line source number line)) × (result ≤ length buffer.new) }
-    ensures buffer_after { buffer.new ≡ refusal_line source number line ++ drop result buffer.old }
+pub fn refusal_line(refusal: Refusal, buffer: &mut [u8; REFUSAL_SIZE]) -> usize
+    ensures value { (result ≡ length (refusal_line refusal.source refusal.number refusal.line)) × (result ≤ length buffer.new) }
+    ensures buffer_after { buffer.new ≡ refusal_line refusal.source refusal.number refusal.line ++ drop result buffer.old }
 {
-    put_refusal(buffer, source, number, line)
+    put_refusal(buffer, refusal)
 }

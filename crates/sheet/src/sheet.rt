@@ -3,16 +3,17 @@
 ghost use mathlib.Core.{Path.◌≡◌, List.[]};
 ghost use Rattle.std.specs.Prelude.{◌-◌, ◌+◌, ◌≤◌, length};
 ghost use Rattle.fields.specs.{Limits.max_file, Split.lines, Split.behind, Heads.heads_of};
-ghost use Rattle.judge.specs.Reading.{no_place, names_with, parts_of};
-ghost use Rattle.sheet.specs.{declared.sheet.SheetOutcome.TheVariants.Refused, declared.sheet.Checked.TheVariants.Bad};
-ghost use Rattle.sheet.specs.Sheet.Line.{line_checked, LineIs};
-ghost use Rattle.sheet.specs.Sheet.{no_entry, sheet_with, sheet_lines, sheet_by, sheet_read};
+ghost use Rattle.judge.specs.Reading.{parts_of};
+ghost use Rattle.sheet.specs.Sheet.Line.{line_checked, line_read, read_of};
+ghost use Rattle.sheet.specs.Sheet.{sheet_with, sheet_lines, sheet_by, sheet_read};
 
-use fields::bytes::same_bytes;
+use crate::whole::check_whole;
 use fields::children::is_name;
-use fields::limits::MAX_FILE;
-use fields::split::{Heads, LINE_FEED, first_fields, is_ended, part_end};
-use judge::reading::{NamePlace, Names, Outcome, number_of, read_model};
+use fields::fault::AtLine;
+use fields::lines::lines_of;
+use fields::split::{Heads, first_fields};
+use judge::fault::Misread;
+use judge::reading::{NamePlace, Names, number_of, read_model};
 use model::fault::ModelFault;
 use model::rule::Rule;
 
@@ -30,10 +31,14 @@ pub enum SheetFault {
     Model(ModelFault),
 }
 
-#[derive(Clone, Copy)]
-pub enum SheetOutcome {
-    Read,
-    Refused(SheetFault, usize),
+impl From<Misread> for SheetFault {
+    ghost use Rattle.sheet.specs.declared.sheet.SheetFault.TheVariants.{Model};
+
+    ghost from_gives = { λ m e. e ≡ Model m.fault };
+
+    fn from(misread: Misread) -> SheetFault {
+        SheetFault::Model(misread.fault)
+    }
 }
 
 // A line of the sheet: where its model stands in the sheet's text, and what it reads into.
@@ -54,108 +59,57 @@ pub struct Sheet {
 // A refused reading has no rules.
 #[derive(Clone, Copy)]
 pub struct SheetRead {
-    pub outcome: SheetOutcome,
+    pub outcome: Result<(), AtLine<SheetFault>>,
     pub sheet: Sheet,
 }
 
-#[derive(Clone, Copy)]
-enum Checked {
-    Good,
-    Bad(SheetFault),
-}
-
-// What a line is read into. What a bad line gives beside its fault is of no use.
+// What a line is read into.
 #[derive(Clone, Copy)]
 struct LineRead {
-    checked: Checked,
     kind: NamePlace,
     entry: Entry,
 }
 
-fn no_place() -> NamePlace
-    ensures { result ≡ no_place }
-{
-    NamePlace { start: 0, len: 0 }
-}
+const NO_PLACE: NamePlace = NamePlace { start: 0, len: 0 };
 
-fn no_kinds() -> Names
-    ensures { result ≡ names_with [] }
-{
-    let none = NamePlace { start: 0, len: 0 };
-    Names {
-        places: [none; MAX_RULES],
-        len: 0,
-    }
-}
-
-fn no_entry() -> Entry
-    ensures { result ≡ no_entry }
-{
-    let none = read_model(b"");
-    let rule = none.rule;
-    let names = none.names;
-    Entry {
-        model: no_place(),
-        rule: rule,
-        names: names,
-    }
-}
-
+// A place that no line fills holds what a refused reading does: the rule of `()` and no names.
 fn no_rules() -> Sheet
     ensures { result ≡ sheet_with [] }
 {
-    let entry = no_entry();
+    let none = read_model(b"");
+    let entry = Entry {
+        model: NO_PLACE,
+        rule: none.rule,
+        names: none.names,
+    };
     Sheet {
-        kinds: no_kinds(),
+        kinds: Names {
+            places: [NO_PLACE; MAX_RULES],
+            len: 0,
+        },
         entries: [entry; MAX_RULES],
     }
 }
 
-fn refused(fault: SheetFault, line: usize) -> SheetRead
-    ensures { result ≡ sheet_by [] (Refused fault line) }
-{
-    SheetRead {
-        outcome: SheetOutcome::Refused(fault, line),
-        sheet: no_rules(),
-    }
-}
-
-fn bad_line(fault: SheetFault) -> LineRead
-    ensures { result.checked ≡ Bad fault }
-{
-    LineRead {
-        checked: Checked::Bad(fault),
-        kind: no_place(),
-        entry: no_entry(),
-    }
-}
-
 // What is wrong with a line behind lines with these kinds, its model left aside.
-fn check_line(text: &[u8], kinds: Names, line: &[u8], ends: Heads) -> Checked
+fn check_line(text: &[u8], kinds: Names, line: &[u8], ends: Heads) -> Result<(), SheetFault>
     requires { ends ≡ heads_of line.now }
     ensures { result ≡ line_checked (parts_of text.now kinds) line.now }
 {
-    let first = ends.first;
-    let second = ends.second;
-    let third = ends.third;
-    if second < line.len() {} else {
-        return Checked::Bad(SheetFault::BadFields);
+    if line.len() <= ends.second
+        || ends.third != line.len()
+        || &line[..ends.first] != b"rule".as_slice()
+    {
+        return Err(SheetFault::BadFields);
     }
-    if third == line.len() {} else {
-        return Checked::Bad(SheetFault::BadFields);
+    let kind = &line[ends.first + 1..ends.second];
+    if !is_name(kind) {
+        return Err(SheetFault::NoKind);
     }
-    if same_bytes(&line[0..first], b"rule") {} else {
-        return Checked::Bad(SheetFault::BadFields);
+    if number_of(text, kinds, kind).0 != 0 {
+        return Err(SheetFault::Repeated);
     }
-    let kind = &line[first + 1..second];
-    if is_name(kind) {} else {
-        return Checked::Bad(SheetFault::NoKind);
-    }
-    let number = number_of(text, kinds, kind);
-    if number.0 == 0 {} else {
-        return Checked::Bad(SheetFault::Repeated);
-    }
-    Checked::Good
+    Ok(())
 }
 
 // The part from `from` to `to` of the line that begins at `at`.
@@ -170,93 +124,72 @@ fn place_in(at: usize, from: usize, to: usize) -> NamePlace
 }
 
 // Reads the line of the text from at to end, behind lines with these kinds.
-fn read_line(text: &[u8], kinds: Names, at: usize, end: usize) -> LineRead
+fn read_line(text: &[u8], kinds: Names, at: usize, end: usize) -> Result<LineRead, SheetFault>
     requires { (at ≤ end) × (end ≤ length text.now) × (length text.now ≤ max_file) }
-    ensures { LineIs text.now kinds at end result }
+    ensures { result ≡ line_read text.now kinds at end }
 {
     let line = &text[at..end];
     let ends = first_fields(line);
-    let first = ends.first;
-    let second = ends.second;
-    let third = ends.third;
-    match check_line(text, kinds, line, ends) {
-        Checked::Good => {}
-        Checked::Bad(f) => {
-            return bad_line(f);
-        }
-    }
-    let model = read_model(&line[second + 1..third]);
-    let outcome = model.outcome;
-    match outcome {
-        Outcome::Read => {}
-        Outcome::Refused(f, _) => {
-            return bad_line(SheetFault::Model(f));
-        }
-    }
-    let rule = model.rule;
-    let names = model.names;
-    let kind = place_in(at, first + 1, second);
-    let place = place_in(at, second + 1, third);
-    LineRead {
-        checked: Checked::Good,
-        kind: kind,
+    check_line(text, kinds, line, ends)?;
+    let model = read_model(&line[ends.second + 1..ends.third]);
+    model.outcome?;
+    Ok(LineRead {
+        kind: place_in(at, ends.first + 1, ends.second),
         entry: Entry {
-            model: place,
-            rule: rule,
-            names: names,
+            model: place_in(at, ends.second + 1, ends.third),
+            rule: model.rule,
+            names: model.names,
         },
-    }
+    })
 }
 
 // The lines of a text that is not too long and whose last line has its line feed.
-fn read_lines(text: &[u8]) -> SheetRead
+fn read_lines(text: &[u8]) -> Result<Sheet, AtLine<SheetFault>>
     requires { (length text.now ≤ max_file) × (behind text.now ≡ []) }
-    ensures { result ≡ sheet_by text.now (sheet_lines 0 [] (lines text.now)) }
+    ensures { read_of result ≡ sheet_by text.now (sheet_lines 0 [] (lines text.now)) }
 {
-    let none = no_rules();
-    let mut kinds = none.kinds;
-    let mut entries = none.entries;
-    let mut n: usize = 0;
+    let mut sheet = no_rules();
     let mut at: usize = 0;
-    while at < text.len() {
+    for (n, line) in lines_of(text).enumerate() {
         if n == MAX_RULES {
-            return refused(SheetFault::ManyRules, n + 1);
+            return Err(AtLine {
+                fault: SheetFault::ManyRules,
+                line: n + 1,
+            });
         }
-        let end = part_end(text, at, LINE_FEED);
-        let line = read_line(text, kinds, at, end);
-        let checked = line.checked;
-        match checked {
-            Checked::Good => {}
-            Checked::Bad(f) => {
-                return refused(f, n + 1);
-            }
-        }
-        let kind = line.kind;
-        let entry = line.entry;
-        kinds.places[n] = kind;
-        entries[n] = entry;
-        n += 1;
-        kinds.len = n;
+        let end = at + line.len();
+        let read = read_line(text, sheet.kinds, at, end).map_err(|fault| AtLine {
+            fault,
+            line: n + 1,
+        })?;
+        sheet.kinds.places[n] = read.kind;
+        sheet.kinds.len = n + 1;
+        sheet.entries[n] = read.entry;
         at = end + 1;
     }
-    SheetRead {
-        outcome: SheetOutcome::Read,
-        sheet: Sheet {
-            kinds: kinds,
-            entries: entries,
-        },
-    }
+    Ok(sheet)
+}
+
+// The sheet that a text holds, or what is wrong with it.
+fn sheet_in(text: &[u8]) -> Result<Sheet, AtLine<SheetFault>>
+    ensures { read_of result ≡ sheet_read text.now }
+{
+    check_whole(text, SheetFault::LongFile, SheetFault::Unended)?;
+    read_lines(text)
 }
 
 // Reads a sheet.
 pub fn read_sheet(text: &[u8]) -> SheetRead
     ensures { result ≡ sheet_read text.now }
 {
-    if MAX_FILE < text.len() {
-        return refused(SheetFault::LongFile, 0);
+    match sheet_in(text) {
+        Ok(sheet) => SheetRead {
+            outcome: Ok(()),
+            sheet,
+        },
+        Err(fault) => SheetRead {
+            outcome: Err(fault),
+            sheet: no_rules(),
+        },
     }
-    if is_ended(text) {
-        return read_lines(text);
-    }
-    refused(SheetFault::Unended, 0)
 }

@@ -6,16 +6,16 @@ pub mod Laws
 pub mod Visible
 pub mod Again
 use mathlib.Core.{Path.◌≡◌, Logic.◌↔◌, Bool.cond, List.List, List.[], List.◌∷◌, List.◌++◌}
-use Rattle.std.specs.Prelude.{ℕ, ◌≤◌, ◌<◌}
+use Rattle.std.specs.Prelude.{ℕ, ◌≤◌, ◌<◌, Result, Ok, Err}
 use lib.{Dec.leb, ListN.length, ListN.drop}
 use Rattle.fields.specs.{Bytes.Text, Bytes.bytes, Split.line_feed, Split.tab, Split.lines, Least.NoFault, Least.First}
 use Rattle.model.specs.{Fault.Answer, Fault.Answers, Fault.refused, Fault.accepted, Syntax.Syntax, Flatten.nil}
 use Rattle.judge.specs.Answer.{answer}
-use Rattle.sheet.specs.{declared.sheet.SheetOutcome.SheetOutcome, declared.refusal.Refusal.Refusal, declared.refusal.Source.Source}
-use Rattle.sheet.specs.declared.sheet.SheetOutcome.TheVariants.{Read, Refused as SheetRefused}
+use Rattle.fields.specs.declared.fault.AtLine.{AtLine}
+use Rattle.sheet.specs.{declared.sheet.SheetFault.SheetFault, declared.refusal.Refusal.Refusal, declared.refusal.Source.Source}
 use Rattle.sheet.specs.{Sheet.kind, Sheet.model, Sheet.sheet_number, Sheet.sheet_outcome, Refusal.SheetStands, Refusal.sheet_rank, RefusalLine.too_long}
 use Rattle.canonical.specs.Canonical.{canonical, canonical_text, HoldsNames}
-use Rattle.tidying.specs.declared.write.SheetTidied.{SheetTidied, TheVariants.Written, TheVariants.Refused, TheVariants.TooLong}
+use Rattle.tidying.specs.declared.write.TidyFault.{TidyFault, TheVariants.Sheet, TheVariants.TooLong}
 
 -- the tree that a model text spells; a sheet that was read has no other (`sheet-exactly` in sheet/Ends)
 abbrev pub tree_in : Answer → Syntax
@@ -44,35 +44,34 @@ pub record LineKept (l y : Text) : Type 0 where
   pub same_rows : (w : List Text) → HoldsNames (canonical tree) w ↔ HoldsNames tree w
 
 -- the sheet's own refusal first; 50 where the tidied sheet is longer than the buffer's size
-abbrev pub tidied_by : SheetOutcome → SheetTidied → SheetTidied
-tidied_by Read good = good
-tidied_by (SheetRefused f n) good = Refused f n
+abbrev pub tidied_by : Result Unit (AtLine SheetFault) → Result ℕ TidyFault → Result ℕ TidyFault
+tidied_by (Ok _) good = good
+tidied_by (Err f) good = Err (Sheet f)
 
-abbrev pub sheet_tidied : Text → ℕ → SheetTidied
-sheet_tidied x size = tidied_by (sheet_outcome x) (cond (leb (length (tidy_sheet x)) size) (Written (length (tidy_sheet x))) TooLong)
+abbrev pub sheet_tidied : Text → ℕ → Result ℕ TidyFault
+sheet_tidied x size = tidied_by (sheet_outcome x) (cond (leb (length (tidy_sheet x)) size) (Ok (length (tidy_sheet x))) (Err TooLong))
 
 -- by the table: the sheet's own first (sheet/Refusal), and 50 last
-abbrev pub TidiedAnswers : Text → ℕ → SheetTidied → Type 0
-TidiedAnswers x size (Refused f n) = First sheet_rank (SheetStands x) f n
-TidiedAnswers x size TooLong = NoFault (SheetStands x) × (size < length (tidy_sheet x))
-TidiedAnswers x size (Written n) = NoFault (SheetStands x) × (length (tidy_sheet x) ≤ size) × (n ≡ length (tidy_sheet x))
+abbrev pub TidiedAnswers : Text → ℕ → Result ℕ TidyFault → Type 0
+TidiedAnswers x size (Err (Sheet f)) = First sheet_rank (SheetStands x) f.fault f.line
+TidiedAnswers x size (Err TooLong) = NoFault (SheetStands x) × (size < length (tidy_sheet x))
+TidiedAnswers x size (Ok n) = NoFault (SheetStands x) × (length (tidy_sheet x) ≤ size) × (n ≡ length (tidy_sheet x))
 
 -- the buffer after: the tidied sheet and the bytes behind it as they were; a refusal changes none
-abbrev pub buffer_tidied : SheetTidied → Text → Text → Text
-buffer_tidied (Written n) new old = new ++ drop n old
-buffer_tidied (Refused f n) new old = old
-buffer_tidied TooLong new old = old
+abbrev pub buffer_tidied : Result ℕ TidyFault → Text → Text → Text
+buffer_tidied (Ok n) new old = new ++ drop n old
+buffer_tidied (Err f) new old = old
 
 -- document 01's numbers; 50 has no line, and a sheet that was tidied no refusal
-abbrev pub tidied_number : SheetTidied → ℕ
-tidied_number (Written n) = 0
-tidied_number (Refused f n) = sheet_number f
-tidied_number TooLong = too_long
+abbrev pub tidied_number : Result ℕ TidyFault → ℕ
+tidied_number (Ok n) = 0
+tidied_number (Err (Sheet f)) = sheet_number f.fault
+tidied_number (Err TooLong) = too_long
 
-abbrev pub tidied_line : SheetTidied → ℕ
-tidied_line (Written n) = 0
-tidied_line (Refused f n) = n
-tidied_line TooLong = 0
+abbrev pub tidied_line : Result ℕ TidyFault → ℕ
+tidied_line (Ok n) = 0
+tidied_line (Err (Sheet f)) = f.line
+tidied_line (Err TooLong) = 0
 
-abbrev pub tidied_refusal : SheetTidied → Refusal
+abbrev pub tidied_refusal : Result ℕ TidyFault → Refusal
 tidied_refusal r = record { source = Source.Sheet; number = tidied_number r; line = tidied_line r }

@@ -3,29 +3,22 @@
 ghost use Rattle.std.specs.Prelude.{◌≡◌};
 ghost use Rattle.tidying.specs.Tidying.{tidied_refusal};
 
-use crate::write::SheetTidied;
+use crate::write::TidyFault;
 use sheet::number::sheet_number;
 use sheet::refusal::{Refusal, Source, TOO_LONG};
 
 // Of a sheet that was tidied, number and line are 0.
-pub fn tidied_refusal(tidied: SheetTidied) -> Refusal
+pub fn tidied_refusal(tidied: Result<usize, TidyFault>) -> Refusal
     ensures { result ≡ tidied_refusal tidied }
 {
-    match tidied {
-        SheetTidied::Written(_) => Refusal {
-            source: Source::Sheet,
-            number: 0,
-            line: 0,
-        },
-        SheetTidied::Refused(f, line) => Refusal {
-            source: Source::Sheet,
-            number: sheet_number(f),
-            line: line,
-        },
-        SheetTidied::TooLong => Refusal {
-            source: Source::Sheet,
-            number: TOO_LONG,
-            line: 0,
-        },
+    let (number, line) = match tidied {
+        Ok(_) => (0, 0),
+        Err(TidyFault::Sheet(refused)) => (sheet_number(refused.fault), refused.line),
+        Err(TidyFault::TooLong) => (TOO_LONG, 0),
+    };
+    Refusal {
+        source: Source::Sheet,
+        number,
+        line,
     }
 }

@@ -1,31 +1,28 @@
--- A head as one number.
-use Rattle.std.specs.Prelude.{◌≡◌, ℕ, ◌+◌, ◌*◌, ◌/◌, ◌%◌, ◌<◌}
-use Rattle.std.proofs.Common.{arith}
-use Rattle.model.specs.{declared.rule.Mark.Mark, Mark.mark_number, Mark.mark_numbered, Mark.mark_place, Mark.Laws.numbered-mark, Mark.Laws.few-marks}
-use Rattle.canonical.specs.declared.head.Head.{Head}
+-- What the head of a tree tells of it by its shape, and the head of no tree.
+use mathlib.Core.{Bool.Bool, Bool.true, Bool.false}
+use Rattle.model.specs.declared.rule.{Sign.Sign, Mark.TheVariants.Plain}
+use Rattle.model.specs.declared.rule.Sign.TheVariants.{None}
+use Rattle.model.specs.Flatten.{same_sign}
+use Rattle.canonical.specs.declared.head.{Head.Head, Shape.Shape}
+use Rattle.canonical.specs.declared.head.Shape.TheVariants.{Atom, Group}
 
-abbrev pub head_in : ℕ → Head
-head_in w =
-    record {
-      sign = w % 256;
-      mark = mark_numbered (w / mark_place % 4);
-      members = w / 256 % 256;
-      size = w / 65536 % 256;
-      least = w / 16777216 % 65536;
-    }
+abbrev pub no_head : Head
+no_head = record { shape = Group None; mark = Plain; nullable = false; members = 0; size = 0; least = 0 }
 
-abbrev word_of : ℕ → ℕ → ℕ → ℕ → ℕ → ℕ
-word_of mark least size members sign = (least * 256 + size) * 65536 + members * 256 + sign + mark * mark_place
+abbrev pub is_atom : Shape → Bool
+is_atom Atom = true
+is_atom (Group s) = false
 
-module _ (least size members sign : ℕ) (l : least < 65536) (n : size < 256) (m : members < 256) (s : sign < 256) where
-  word-parts : (mark : ℕ) → mark < 4
-      → let w = word_of mark least size members sign in
-      (w % 256 ≡ sign) × (w / 256 % 256 ≡ members) × (w / 65536 % 256 ≡ size) × (w / 16777216 % 65536 ≡ least) × (w / mark_place % 4 ≡ mark)
-  word-parts mark h = omega arith
+-- a group of the sign
+abbrev pub is_group : Sign → Shape → Bool
+is_group s Atom = false
+is_group s (Group r) = same_sign s r
 
-  pub head-packed : (mark : Mark)
-      → head_in (word_of (mark_number mark) least size members sign)
-      ≡ record { sign = sign; mark = mark; members = members; size = size; least = least }
-  head-packed mark =
-      let w = word-parts (mark_number mark) (omega (arith, few-marks mark)) in
-      rw (w.0, w.1, w.2, w.3, w.4, numbered-mark mark)
+-- a group without a sign, as `()` is
+abbrev pub is_nothing : Shape → Bool
+is_nothing h = is_group None h
+
+-- the sign of a group
+abbrev pub sign_of : Shape → Sign
+sign_of Atom = None
+sign_of (Group s) = s

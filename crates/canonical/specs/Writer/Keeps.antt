@@ -10,6 +10,7 @@ use Rattle.model.specs.declared.rule.Sign.TheVariants.{None, Sequence, Choice, I
 use Rattle.model.specs.Tree.{Node, leaf, group, marked, Members, none, ◌▹◌, size, nodes, members_weight, members_leaves, node_under}
 use Rattle.model.specs.Flatten.{nil, members_of}
 use Rattle.model.specs.Syntax.{Spelling, Syntax, node_text, written_names}
+use Rattle.canonical.specs.declared.head.Shape.{Shape, TheVariants.Atom, TheVariants.Group}
 use Rattle.canonical.specs.{declared.tidy.Tidied.Tidied, declared.tidy.Gathered.Gathered, Order.smallest}
 use Rattle.canonical.specs.Tidy.{tidy_atom, node_nullable, group_nullable}
 use Rattle.canonical.specs.Writer.Place.{atom_at, piece_at}
@@ -21,10 +22,9 @@ sign_byte Sequence = code ","
 sign_byte Choice = code "|"
 sign_byte Interleaving = code "&"
 
--- 1 for an atom
-abbrev pub sign_code : Node Spelling → ℕ
-sign_code (leaf a) = 1
-sign_code (group s ts) = sign_byte s
+abbrev pub shape_of : Node Spelling → Shape
+shape_of (leaf a) = Atom
+shape_of (group s ts) = Group s
 
 abbrev pub mark_in : Syntax → Mark
 mark_in (marked m n) = m
@@ -46,13 +46,13 @@ pub record NamedAt (x : Text) (u : Syntax) (p : ℕ) : Type 0 where
 
 -- r is what is kept of the tree u
 pub record KeepsTree (x : Text) (u : Syntax) (r : Tidied) : Type 0 where
-  pub sign_is : r.sign ≡ sign_code (node_under u)
-  pub mark_is : r.mark ≡ mark_in u
-  pub nullable_is : r.nullable ≡ node_nullable (node_under u)
-  pub members_is : r.members ≡ size (members_of u)
-  pub size_is : r.size ≡ nodes u
-  pub least_inside : r.least ≤ length x
-  pub kind_is : (u ≡ nil) ⊎ NamedAt x u r.least
+  pub shape_is : r.head.shape ≡ shape_of (node_under u)
+  pub mark_is : r.head.mark ≡ mark_in u
+  pub nullable_is : r.head.nullable ≡ node_nullable (node_under u)
+  pub members_is : r.head.members ≡ size (members_of u)
+  pub size_is : r.head.size ≡ nodes u
+  pub least_inside : r.head.least ≤ length x
+  pub kind_is : (u ≡ nil) ⊎ NamedAt x u r.head.least
 
 -- g is what is kept of the members us of a group with the sign s, of which some held the empty row if v says so
 pub record KeepsMembers (x : Text) (s : Sign) (us : Members Spelling) (v : Bool) (g : Gathered) : Type 0 where

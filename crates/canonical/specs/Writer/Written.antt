@@ -1,6 +1,6 @@
 -- What is put of a tree: the text of its node, member by member, and its mark.
 use mathlib.Core.{Path.◌≡◌, Path.refl, Path.sym, Path.ap, Path.◌∙◌, Bool.true, Bool.false}
-use Rattle.std.specs.Prelude.{List, [], ◌∷◌, ◌++◌, map, eqb, length, take, drop, get_or, set}
+use Rattle.std.specs.Prelude.{List, [], ◌∷◌, ◌++◌, map, length, take, drop, get_or, set}
 use Rattle.std.proofs.Common.{append_assoc, length-append, length-take, length-set, take-append-drop, take-take, get_or-take}
 use Prim.Native.{Nat.ℕ, Nat.suc, Nat.◌+◌, Nat.◌-◌, Nat.◌≤◌, Nat.◌<◌, Char.code}
 use native.Mathlib.{Omega.arith, Nat.add-zero}
@@ -9,7 +9,8 @@ use Rattle.model.specs.declared.rule.Sign.{Sign}
 use Rattle.model.specs.Tree.{group, Members, none, ◌▹◌, size, nodes}
 use Rattle.model.specs.{Syntax.Spelling, Syntax.Syntax, Syntax.sign_text, Syntax.mark_text, Syntax.node_text, Syntax.text, Syntax.members_text}
 use Rattle.model.specs.{Syntax.more_text}
-use Rattle.judge.specs.Packed.{sign_by}
+use Rattle.canonical.specs.Writer.{Head.is_atom, Head.sign_of, Keeps.sign_byte}
+use Rattle.canonical.specs.declared.head.Head.{Head}
 use Rattle.canonical.specs.Order.{order, order_all, arrange, Kept.order-length, Kept.order-size, Sorted.arrange-order}
 use Rattle.canonical.specs.Writer.{Place.piece_at, Stack.turned, Stack.tree_with, Stack.trees_on, Stack.HeadFits}
 use Rattle.canonical.specs.Writer.Stack.Skip.{each_counts, nodes-with, heads-from, tree-at, fits-at}
@@ -44,15 +45,19 @@ module _ (s : Sign) (sign : ℕ) (e : sign_text s ≡ sign ∷ []) where
   group-led none h = absurd (omega arith)
   group-led (t ▹ ts) h = some-led (code "(") t ts
 
-abbrev mark_at : List ℕ → ℕ → Text
+abbrev mark_at : List Head → ℕ → Text
 mark_at stack p = mark_text (head_at stack p).mark
 
+-- the byte of its sign
+abbrev pub sign_at : List Head → ℕ → ℕ
+sign_at stack p = sign_byte (sign_of (head_at stack p).shape)
+
 -- what is yet to be put of the group at p: the members whose places stand before k
-abbrev ahead : Text → List ℕ → List ℕ → ℕ → ℕ → ℕ → ℕ → Text
-ahead x stack places p start before k = led before (head_at stack p).sign (order_all (trees_listed x stack places start k)) ++ mark_at stack p
+abbrev ahead : Text → List Head → List ℕ → ℕ → ℕ → ℕ → ℕ → Text
+ahead x stack places p start before k = led before (sign_at stack p) (order_all (trees_listed x stack places start k)) ++ mark_at stack p
 
 -- What the loop over the members keeps. The piece is what is put so far, up to the place next.
-pub record Writing (x : Text) (stack places list old new : List ℕ) (p start end to before next k : ℕ) : Type 0 where
+pub record Writing (x : Text) (stack : List Head) (places list old new : List ℕ) (p start end to before next k : ℕ) : Type 0 where
   pub kept : take end list ≡ take end places
   pub same_length : length list ≡ length places
   pub range : (start ≤ k) × (k ≤ end)
@@ -61,14 +66,14 @@ pub record Writing (x : Text) (stack places list old new : List ℕ) (p start en
   pub whole : piece ++ ahead x stack places p start before k ≡ text (order (tree_at x stack p))
 
 -- the next member has room, on the list and in the buffer
-pub record MemberNext (x : Text) (stack list new : List ℕ) (p end before next k : ℕ) : Type 0 where
+pub record MemberNext (x : Text) (stack : List Head) (list new : List ℕ) (p end before next k : ℕ) : Type 0 where
   pub on_list : k - 1 < max_nodes
   pub above : p < get_or list (k - 1) 0
   pub byte_fits : next < length new
   pub ready : PutReady x stack list (set new next before) (get_or list (k - 1) 0) end (next + 1)
 
 -- A tree that is to be put.
-module _ {x : Text} {stack list buffer : List ℕ} {p start to : ℕ} (r : PutReady x stack list buffer p start to) where
+module _ {x : Text} {stack : List Head} {list buffer : List ℕ} {p start to : ℕ} (r : PutReady x stack list buffer p start to) where
   tree_is : tree_at x stack p ≡ tree_with x (head_at stack p) (trees_on x (drop (suc p) stack))
   tree_is = tree-at x stack p (omega (arith, r.inside, r.entries))
 
@@ -79,7 +84,7 @@ module _ {x : Text} {stack list buffer : List ℕ} {p start to : ℕ} (r : PutRe
   whole-fits = rw (order-length (tree_at x stack p)) r.fits
 
   -- an atom
-  module _ (e : eqb (head_at stack p).sign 1 ≡ true) where
+  module _ (e : is_atom (head_at stack p).shape ≡ true) where
     atom-text : piece_at x (head_at stack p).least ++ mark_at stack p ≡ text (order (tree_at x stack p))
     atom-text = rw (tree_is, (head-fits.atom_is e).1, e) refl
 
@@ -115,7 +120,7 @@ module _ {x : Text} {stack list buffer : List ℕ} {p start to : ℕ} (r : PutRe
       }
 
   -- a group
-  module _ (e : eqb (head_at stack p).sign 1 ≡ false) where
+  module _ (e : is_atom (head_at stack p).shape ≡ false) where
     abbrev own : Members Spelling
     own = turned (take (head_at stack p).members (trees_on x (drop (suc p) stack))) none
 
@@ -127,10 +132,10 @@ module _ {x : Text} {stack list buffer : List ℕ} {p start to : ℕ} (r : PutRe
     module _ {places : List ℕ} {end : ℕ} (m : MembersListed x stack list places p start end) where
       group-text : ahead x stack places p start (code "(") end ≡ text (order (tree_at x stack p))
       group-text =
-          let s = sign_by (head_at stack p).sign in
+          let s = sign_of (head_at stack p).shape in
           let some : 0 < size (arrange s (order_all own)) = rw (order-size s own, own-size) (omega (arith, (head-fits.group_is e).0)) in
           rw (m.members_are, tree_is, e, ← arrange-order s own)
-          (ap (λ l. l ++ mark_at stack p) (sym (group-led s (head_at stack p).sign (head-fits.group_is e).1 (arrange s (order_all own)) some)))
+          (ap (λ l. l ++ mark_at stack p) (sym (group-led s (sign_at stack p) (head-fits.group_is e).1 (arrange s (order_all own)) some)))
 
       pub writing_begins : Writing x stack places places buffer buffer p start end to (code "(") to end
       writing_begins =
@@ -177,11 +182,11 @@ module _ {x : Text} {stack list buffer : List ℕ} {p start to : ℕ} (r : PutRe
       member = text (order (tree_at x stack place))
 
       abbrev others : Text
-      others = ahead x stack places p start (head_at stack p).sign (k - 1)
+      others = ahead x stack places p start (sign_at stack p) (k - 1)
 
       ahead-is : ahead x stack places p start before k ≡ before ∷ (member ++ others)
       ahead-is =
-          let sign = (head_at stack p).sign in
+          let sign = (sign_at stack p) in
           ap (λ ts. led before sign (order_all ts) ++ mark_at stack p) listed-first
           ∙ ap (λ l. before ∷ l) (append_assoc member (led sign sign (order_all (trees_listed x stack places start (k - 1)))) (mark_at stack p))
 
@@ -208,7 +213,7 @@ module _ {x : Text} {stack list buffer : List ℕ} {p start to : ℕ} (r : PutRe
           }
 
       pub writing-goes-on : {later newer : List ℕ} {then : ℕ} → TreePut x stack now later (set new next before) newer place end (next + 1) then
-          → Writing x stack places later buffer newer p start end to (head_at stack p).sign then (k - 1)
+          → Writing x stack places later buffer newer p start end to (sign_at stack p) then (k - 1)
       writing-goes-on t =
           record {
             kept = t.before ∙ w.kept;
@@ -226,7 +231,7 @@ module _ {x : Text} {stack list buffer : List ℕ} {p start to : ℕ} (r : PutRe
       ahead-ends : ahead x stack places p start before k ≡ code ")" ∷ mark_at stack p
       ahead-ends =
           let n : k ≡ start = omega (arith, w.range) in
-          ap (λ ts. led before (head_at stack p).sign (order_all ts) ++ mark_at stack p)
+          ap (λ ts. led before (sign_at stack p) (order_all ts) ++ mark_at stack p)
           (ap (λ j. trees_listed x stack places start j) n ∙ ap (λ l. turned (map (tree_at x stack) l) none) (nothing-behind places start))
 
       pub bracket-fits : next < length new

@@ -1,104 +1,85 @@
 -- What the code finds on the way to a child.
-use mathlib.Core.{Logic.inl, Logic.inr, Logic.by_cases, Bool.true, Bool.false, Bool.cond, Bool.◌&&◌}
+use mathlib.Core.{Bool.false, Bool.cond, Bool.◌&&◌}
 use Rattle.std.proofs.Math.Path.{◌≡◌, refl}
-use Rattle.std.proofs.Common.{sym, ap, subst, ◌∙◌, length-drop, length-take, length-append}
+use Rattle.std.proofs.Common.{sym, ap, ◌∙◌, length-drop, length-take}
 use mathlib.Core.List.{List, [], ◌∷◌, head-eq_of_cons-eq, tail-eq_of_cons-eq}
 use Prim.Native.Nat.{ℕ, zero, suc, ◌+◌, ◌-◌, ◌≤◌, ◌<◌}
-use native.Mathlib.{Decide.dec_lt, Numerals.add-one, Omega.arith}
-use lib.{Dec.leb, Dec.ltb, Seq.drop-cons}
+use native.Mathlib.{Numerals.add-one, Omega.arith}
+use lib.{Dec.T, Dec.eqb, Dec.leb, Dec.ltb, Seq.drop-cons}
 use Rattle.std.proofs.Math.ListN.{length}
-use Rattle.std.specs.Prelude.{take, drop, get_or}
-use borrow.Author.Tests.{leb-true, lt-leb, le-ltb, lt-ltb, ltb-true, ltb-false}
-use Rattle.fields.specs.{Tests.by-test, Bytes.Text, Limits.max_row, Limits.max_file, declared.fault.CueFault.CueFault, declared.children.Children.Children}
-use Rattle.fields.specs.{Children.cue_number, Children.all_names, Children.children_of}
+use Rattle.std.specs.Prelude.{take, drop, get_or, Result, Ok, Err}
+use mir.Mem.{Loc}
+use borrow.Author.Tests.{ne_eqb, eqb-false, leb-true, lt-leb, ltb-true}
+use Rattle.fields.specs.{Tests.by-test, Bytes.Text, Limits.max_row, Limits.max_file, Limits.max_atoms, declared.fault.CueFault.CueFault}
+use Rattle.fields.specs.{Children.all_names, Children.children_of}
 use Rattle.fields.specs.declared.fault.CueFault.TheVariants.{LongFile, NoName, ManyChildren, NoChild}
-use Rattle.fields.specs.declared.children.Children.TheVariants.{Count, Refused}
 use Rattle.fields.specs.Split.{tab, split, part, part_end, more}
-use Rattle.fields.specs.Split.{joined_by, Laws.joined-split, Laws.part_at, Laws.end-within}
-use Rattle.model.specs.{declared.fault.ModelFault.ModelFault, Syntax.Syntax, Syntax.written_names, Syntax.number_in}
+use Rattle.fields.specs.Split.{Laws.part_at, Laws.end-within}
+use Rattle.model.specs.{Syntax.Syntax, Syntax.written_names, Syntax.number_in}
 use Rattle.judge.specs.Answer.{answer, answered}
-use Rattle.model.specs.{Syntax.Number.number-below}
 use Rattle.model.proofs.FaultAnswered.{name-inside}
-use Rattle.model.specs.Fault.{model_number, Answer, Answers, refused, accepted}
-use Rattle.judge.specs.{declared.reading.Names.Names, declared.reading.Reading.Reading, Reading.Laws.names_are, Reading.Search.name-fits}
-use Rattle.judge.specs.{Reading.Search.parts-many}
-use Rattle.judge.proofs.{ReplyChildrenLaws.children-some, ReplyRead.children_give}
-use Rattle.judge.specs.declared.reading.Outcome.TheVariants.{Read, Refused as Unread}
-use Rattle.judge.specs.Reading.{no_place, names_of, reading_by, reading, parts_of}
-use Rattle.judge.specs.Reply.{children_in, child, Reply, model_refused, children_refused, good, children_by, no_child}
-use Rattle.desk.specs.{declared.child.Located.Located, Desk.reply_number, Child.Names.names-many, Child.Names.place_in, Child.Laws.name-here}
-use Rattle.desk.specs.{Child.Laws.finds-exactly}
-use Rattle.desk.specs.declared.child.Located.TheVariants.{InModel, InChildren, ModelRefused, ChildrenRefused}
-use Rattle.desk.specs.Child.{Part, of_model, of_children, child_name, start_in, Finds, part_by, part_in, found, child_refusal, part_of, child_part, located}
+use Rattle.model.specs.Fault.{Answer, Answers, refused, accepted, name_at, name_from, places}
+use Rattle.judge.specs.{declared.reading.NamePlace.NamePlace, declared.reading.Reading.Reading, Reading.Laws.names_are, Reading.Search.name-fits}
+use Rattle.judge.proofs.ReplyChildrenLaws.{children-some}
+use Rattle.judge.specs.declared.fault.Misread.{Misread}
+use Rattle.judge.specs.Reading.{name_place, no_place, names_of, reading_by, reading, parts_of}
+use Rattle.judge.specs.Reply.{result_of, children_in, child, Reply, children_refused, good, asked_by, children_by}
+use Rattle.desk.specs.{Desk.reply_number, Desk.Laws.written-few, Child.Names.names-many, Child.Names.place_in, Child.Laws.name-here}
+use Rattle.judge.specs.declared.fault.TextFault.{TheVariants.Model, TheVariants.Children}
+use Rattle.desk.specs.Child.{of_model, of_children, child_name, start_in, part_by, part_in, found, child_part, child_refusal, Hands}
 
 -- what the code finds of the children
-abbrev asked_count : Children → ℕ → Children
-asked_count (Count n) k = cond (leb 1 k && leb k n) (Count n) (Refused NoChild)
-asked_count (Refused f) k = Refused f
+abbrev asked_count : Result ℕ CueFault → ℕ → Result (Unit {0}) CueFault
+asked_count (Ok n) k = cond (leb 1 k && leb k n) (Ok tt) (Err NoChild)
+asked_count (Err f) k = Err f
 
-unfoldable pub asked_of : Text → ℕ → Children
-asked_of c k = cond (ltb max_file (length c)) (Refused LongFile) (asked_count (children_of (children_in c)) k)
+abbrev pub asked_of : Text → ℕ → Result (Unit {0}) CueFault
+asked_of c k = cond (ltb max_file (length c)) (Err LongFile) (cond (eqb (length c) 0) (Err NoChild) (asked_count (children_of (split tab c)) k))
+
+-- what is made of it, and of fields that are asked for the same
+abbrev fields_give : {A : Type 0} → List Text → ℕ → A → Reply A
+fields_give cs k v =
+    cond (all_names cs) (cond (leb (length cs) max_row) (asked_by (child k) (length cs) v) (children_refused ManyChildren)) (children_refused NoName)
+
+abbrev asked_give : {A : Type 0} → Result (Unit {0}) CueFault → A → Reply A
+asked_give (Ok u) v = good v
+asked_give (Err f) v = children_refused f
 
 module _ (c : Text) (k : ℕ) where
-  pub asked-long : max_file < length c → Refused LongFile ≡ asked_of c k
-  unfolding asked_of
-  asked-long h = rw (lt-ltb max_file (length c) h)
-
-  pub asked-none : length c ≡ 0 → Refused NoChild ≡ asked_of c k
-  unfolding asked_of
-  asked-none h = rw (le-ltb max_file (length c) (omega arith)) (go c h)
+  kids-asked : {A : Type 0} (v : A) → children_by (child k) c v ≡ asked_give (asked_of c k) v
+  kids-asked {A} v = by-test (ltb max_file (length c)) (λ e. rw e) (λ e. rw e (go c))
     where
-      go : (y : Text) → length y ≡ 0 → Refused NoChild ≡ asked_count (children_of (children_in y)) k
-      go [] h = by-test (leb 1 k) (λ e. rw (e, lt-leb k 0 (omega (arith, leb-true 1 k e)))) (λ e. rw e)
-      go (b ∷ y) h = absurd (omega arith)
+      counted : (cs : List Text) → fields_give cs k v ≡ asked_give (asked_count (children_of cs) k) v
+      counted cs =
+          by-test (all_names cs)
+          (λ n. by-test (leb (length cs) max_row)
+          (λ l. by-test (leb 1 k && leb k (length cs)) (λ t. rw (n, l, t)) (λ t. rw (n, l, t)))
+          (λ l. rw (n, l)))
+          (λ n. rw n)
 
-  module _ (size : length c ≤ max_file) (some : length c ≡ 0 → ⊥) {x : Children} (e : x ≡ children_of (split tab c)) where
-    asked-some : asked_of c k ≡ asked_count x k
-    unfolding asked_of
-    asked-some = rw (le-ltb max_file (length c) size, children-some c some, ← e)
+      go : (y : Text) → fields_give (children_in y) k v ≡ asked_give (cond (eqb (length y) 0) (Err NoChild) (asked_count (children_of (split tab y)) k)) v
+      go [] = by-test (leb 1 k) (λ e. rw (e, lt-leb k 0 (omega (arith, leb-true 1 k e)))) (λ e. rw e)
+      go (b ∷ y) = let e : eqb (length (b ∷ y)) 0 ≡ false = ne_eqb (length (b ∷ y)) 0 (λ z. omega arith) in rw e (counted (split tab (b ∷ y)))
 
-    pub asked-there : {n : ℕ} → x ≡ Count n → leb 1 k && leb k n ≡ true → Count n ≡ asked_of c k
-    asked-there d t = sym (asked-some ∙ rw (d, t))
-
-    pub asked-missing : {n : ℕ} → x ≡ Count n → leb 1 k && leb k n ≡ false → Refused NoChild ≡ asked_of c k
-    asked-missing d t = sym (asked-some ∙ rw (d, t))
-
-    pub asked-bad : {f : CueFault} → x ≡ Refused f → Refused f ≡ asked_of c k
-    asked-bad d = sym (asked-some ∙ rw d)
-
-  kids-asked : {A : Type 0} (v : A) → children_by (child k) c v ≡ children_give (asked_of c k) v
-  unfolding asked_of
-  kids-asked v =
-      by-test (ltb max_file (length c)) (λ e. rw e)
-      (λ e. by-test (all_names (children_in c))
-      (λ n. by-test (leb (length (children_in c)) max_row)
-      (λ l. by-test (leb 1 k && leb k (length (children_in c))) (λ t. rw (e, n, l, t)) (λ t. rw (e, n, l, t)))
-      (λ l. rw (e, n, l)))
-      (λ n. rw (e, n)))
-
-  -- a child that is asked for and counted is there
-  pub asked-within : {n : ℕ} → asked_of c k ≡ Count n → (1 ≤ k) × (k ≤ length (split tab c)) × (length c ≤ max_file) × (length c ≡ 0 → ⊥)
-  unfolding asked_of
-  asked-within {n} e =
+  -- a child that is asked for is there
+  pub asked-within : asked_of c k ≡ Ok tt → (1 ≤ k) × (k ≤ length (split tab c)) × (length c ≡ 0 → ⊥)
+  asked-within e =
       by-test (ltb max_file (length c))
-      (λ t. let z : Refused LongFile ≡ Count n = rw t at e in let o : ◌≡◌ {A = ℕ} 0 1 = cc in absurd (omega arith))
-      (λ t. go c (ltb-false max_file (length c) t) (rw t at e))
+      (λ t. let z : Err LongFile ≡ Ok tt = rw t at e in absurd cc)
+      (λ t. by-test (eqb (length c) 0)
+      (λ u. let z : Err NoChild ≡ Ok tt = rw (t, u) at e in absurd cc)
+      (λ u. let w = there (split tab c) (rw (t, u) at e) in (w.0, w.1, eqb-false (length c) 0 u)))
     where
-      there : (cs : List Text) → asked_count (children_of cs) k ≡ Count n → (1 ≤ k) × (k ≤ length cs)
+      there : (cs : List Text) → asked_count (children_of cs) k ≡ Ok tt → (1 ≤ k) × (k ≤ length cs)
       there cs d =
           by-test (all_names cs)
           (λ a. by-test (leb (length cs) max_row)
           (λ b. by-test (leb 1 k)
           (λ p. by-test (leb k (length cs)) (λ q. (leb-true 1 k p, leb-true k (length cs) q))
-          (λ q. let z : Refused NoChild ≡ Count n = rw (a, b, p, q) at d in let o : ◌≡◌ {A = ℕ} 0 1 = cc in absurd (omega arith)))
-          (λ p. let z : Refused NoChild ≡ Count n = rw (a, b, p) at d in let o : ◌≡◌ {A = ℕ} 0 1 = cc in absurd (omega arith)))
-          (λ b. let z : Refused ManyChildren ≡ Count n = rw (a, b) at d in let o : ◌≡◌ {A = ℕ} 0 1 = cc in absurd (omega arith)))
-          (λ a. let z : Refused NoName ≡ Count n = rw a at d in let o : ◌≡◌ {A = ℕ} 0 1 = cc in absurd (omega arith))
-
-      go : (y : Text) → length y ≤ max_file → asked_count (children_of (children_in y)) k ≡ Count n
-          → (1 ≤ k) × (k ≤ length (split tab y)) × (length y ≤ max_file) × (length y ≡ 0 → ⊥)
-      go [] l d = let h = there [] d in absurd (omega (arith, h.0, h.1))
-      go (b ∷ y) l d = let h = there (split tab (b ∷ y)) d in (h.0, h.1, l, λ z. omega arith)
+          (λ q. let z : Err NoChild ≡ Ok tt = rw (a, b, p, q) at d in absurd cc))
+          (λ p. let z : Err NoChild ≡ Ok tt = rw (a, b, p) at d in absurd cc))
+          (λ b. let z : Err ManyChildren ≡ Ok tt = rw (a, b) at d in absurd cc))
+          (λ a. let z : Err NoName ≡ Ok tt = rw a at d in absurd cc)
 
 -- A walk over the children stands where child i begins, counted from 0.
 pub record ChildReached (c : Text) (i at : ℕ) : Type 0 where
@@ -144,155 +125,126 @@ module _ {c : Text} {i at : ℕ} (r : ChildReached c i at) (h : i < length (spli
         long = sym (ap length (sym name) ∙ length-take (e - at) (drop at c) ∙ omega (arith, length-drop at c, b.0, b.1));
       }
 
-  pub reached-next : {e : ℕ} → suc i < length (split tab c) → e ≡ part_end c tab at → ChildReached c (i + 1) (e + 1)
-  reached-next {e} l k =
+  pub reached-next : {e j : ℕ} → j ≡ i + 1 → j < length (split tab c) → e ≡ part_end c tab at → ChildReached c j (e + 1)
+  reached-next {e} n l k =
       let b = reached-end k in
       let m = here-is.1 in
       by-test (ltb e (length c))
       (λ t. record {
-        at_is = rw (add-one i) (omega (arith, start-next (split tab c) i h, r.at_is, b.long, b.bounds));
+        at_is = rw (n, add-one i) (omega (arith, start-next (split tab c) i h, r.at_is, b.long, b.bounds));
         within = omega (arith, ltb-true e (length c) t);
-        left = rw (add-one e, add-one i) (rw (← k, t) at m);
+        left = rw (n, add-one e, add-one i) (rw (← k, t) at m);
       })
       (λ t. let z : [] ≡ drop (suc i) (split tab c) = rw (← k, t) at m in
       absurd (omega (arith, length-drop (suc i) (split tab c), ap length z)))
 
--- what the code makes of a number
-abbrev pub located_in : Names → ℕ → ℕ → ℕ → Located
-located_in ns zero at len = InChildren at len
-located_in ns (suc n) at len = InModel (get_or ns.places n no_place).start (get_or ns.places n no_place).len
+-- What is handed on of the children text, which stands at this place: the part of child k.
+pub record HandsField (c : Text) (k : ℕ) (children : Loc) (bytes : Text) (place : Loc) : Type 0 where
+  pub asked : asked_of c k ≡ Ok tt
+  pub text_is : place.0 ≡ children.0
+  pub start_is : place.1 ≡ children.1 + start_in (children_in c) (k - 1)
+  pub name_is : bytes ≡ child_name c k
+  pub bytes_are : bytes ≡ take (length (child_name c k)) (drop (start_in (children_in c) (k - 1)) c)
 
-pub located-none : (ns : Names) (n at len : ℕ) → n ≡ 0 → InChildren at len ≡ located_in ns n at len
-located-none ns n at len e = rw e
+module _ (c : Text) (k : ℕ) {at end : ℕ} (a : asked_of c k ≡ Ok tt) (r : ChildReached c (k - 1) at) (e : end ≡ part_end c tab at) where
+  field_ends : ChildEnds c (k - 1) at end
+  field_ends = let w = asked-within c k a in reached-end r (omega (arith, w.0, w.1)) e
 
-pub located-some : (ns : Names) (n at len : ℕ) → (n ≡ 0 → ⊥)
-    → InModel (get_or ns.places (n - 1) no_place).start (get_or ns.places (n - 1) no_place).len ≡ located_in ns n at len
-located-some ns zero at len o = absurd (o refl)
-located-some ns (suc n) at len o = let z : suc n - 1 ≡ n = omega arith in rw z
+  pub field_bounds : (at ≤ end) × (end ≤ length c)
+  field_bounds = field_ends.bounds
 
-abbrev located_by : Text → Names → Text → ℕ → Children → Located
-located_by m ns c k (Count n) = located_in ns (number_in (parts_of m ns) (child_name c k)) (start_in (children_in c) (k - 1)) (length (child_name c k))
-located_by m ns c k (Refused f) = ChildrenRefused f
-
-unfoldable pub located_read : Text → Names → Text → ℕ → Located
-located_read m ns c k = located_by m ns c k (asked_of c k)
-
-module _ (m : Text) (ns : Names) (c : Text) (k : ℕ) where
-  pub read-missing : {f : CueFault} → asked_of c k ≡ Refused f → ChildrenRefused f ≡ located_read m ns c k
-  unfolding located_read
-  read-missing e = rw e
-
-  pub read-there : {x : Located} {n number at end : ℕ} → asked_of c k ≡ Count n → at ≡ start_in (split tab c) (k - 1) → ChildEnds c (k - 1) at end
-      → number ≡ number_in (parts_of m ns) (take (end - at) (drop at c)) → x ≡ located_in ns number at (end - at) → x ≡ located_read m ns c k
-  unfolding located_read
-  read-there {at = at} e q b p i =
-      let s = children-some c (asked-within c k e).3 in
-      i ∙ rw (e, s, p, b.name_is, b.long, q)
-
--- a number of a name is at most how many places there are
-pub number-few : (m : Text) (ns : Names) (name : Text) {n : ℕ} → length ns.places ≡ 64 → n ≡ number_in (parts_of m ns) name → n ≤ 64
-number-few m ns name l e = omega (arith, e, number-below 0 (parts_of m ns) name, parts-many m ns name l)
-
--- what the code finds is what is meant
-module _ (m c : Text) (k : ℕ) where
-  located-is : (t : Syntax) → Answers m (accepted t) → answer m ≡ accepted t → located_read m (names_of m) c k ≡ located (found m c k)
-  unfolding located_read found
-  located-is t h e = rw (e, kids-asked c k (part_in m c k t)) (go (asked_of c k))
-    where
-      by_number : (n : ℕ) → number_in (written_names t) (child_name c k) ≡ n
-          → located_in (names_of m) n (start_in (children_in c) (k - 1)) (length (child_name c k)) ≡ located (good (part_by m c k n))
-      by_number zero d = refl
-      by_number (suc n) d =
-          let f = name-here m c k t h n d in
-          let p = place_in m n (omega (arith, f.0, names-many m t h)) in
-          rw (p, f.2)
-
-      go : (x : Children) → located_by m (names_of m) c k x ≡ located (children_give x (part_in m c k t))
-      go (Count n) = rw (names_are m t h) (by_number (number_in (written_names t) (child_name c k)) refl)
-      go (Refused f) = refl
-
-  module _ {x : Reading} (e : x ≡ reading m) where
-    pub located-read : {y : Located} → y ≡ located_read m x.names c k → x.outcome ≡ Read → y ≡ located (found m c k)
-    located-read {y} = rw e (go (answer m) refl)
-      where
-        go : (a : Answer) → answer m ≡ a → y ≡ located_read m (reading_by m a).names c k → (reading_by m a).outcome ≡ Read → y ≡ located (found m c k)
-        go (refused f p) d i o = let z : ◌≡◌ {A = ℕ} 0 1 = cc in absurd (omega arith)
-        go (accepted t) d i o = i ∙ located-is t (rw d at (answered m)) d
-
-    pub located-unread : {f : ModelFault} {p : ℕ} → x.outcome ≡ Unread f p → ModelRefused f ≡ located (found m c k)
-    unfolding found
-    located-unread {f} {p} = rw e (go (answer m) refl)
-      where
-        go : (a : Answer) → answer m ≡ a → (reading_by m a).outcome ≡ Unread f p → ModelRefused f ≡ located (found m c k)
-        go (refused g q) d o = let z : f ≡ g = cc in rw (d, z)
-        go (accepted t) d o = let z : ◌≡◌ {A = ℕ} 0 1 = cc in absurd (omega arith)
-
--- a child lies inside the children text
-start-within : (l : List Text) (i : ℕ) → i < length l → start_in l i + length (get_or l i []) ≤ length (joined_by tab l)
-start-within [] i h = absurd (omega arith)
-start-within (p ∷ []) zero h = omega arith
-start-within (p ∷ []) (suc i) h = absurd (omega arith)
-start-within (p ∷ q ∷ l) zero h = omega (arith, length-append p (tab ∷ joined_by tab (q ∷ l)))
-start-within (p ∷ q ∷ l) (suc i) h = omega (arith, length-append p (tab ∷ joined_by tab (q ∷ l)), start-within (q ∷ l) i (omega arith))
-
-child-within : (c : Text) (i : ℕ) → i < length (children_in c) → start_in (children_in c) i + length (get_or (children_in c) i []) ≤ length c
-child-within [] i h = absurd (omega arith)
-child-within (b ∷ c) i h = omega (arith, start-within (split tab (b ∷ c)) i h, ap length (joined-split tab (b ∷ c)))
-
--- what the code takes from it: the part, where it lies, and the number of a refusal
-abbrev part_as : Located → Part
-part_as (InModel s n) = of_model s n
-part_as (InChildren s n) = of_children s n
-part_as (ModelRefused f) = of_children 0 0
-part_as (ChildrenRefused f) = of_children 0 0
-
-abbrev number_as : Located → ℕ
-number_as (InModel s n) = 0
-number_as (InChildren s n) = 0
-number_as (ModelRefused f) = model_number f
-number_as (ChildrenRefused f) = cue_number f
-
-abbrev Inside : Text → Text → Located → Type 0
-Inside m c (InModel s n) = s + n ≤ length m
-Inside m c (InChildren s n) = s + n ≤ length c
-Inside m c (ModelRefused f) = Unit {0}
-Inside m c (ChildrenRefused f) = Unit {0}
-
-module _ (m c : Text) (k : ℕ) {x y : Located} (e : x ≡ located (found m c k)) (d : x ≡ y) where
-  is : located (found m c k) ≡ y
-  is = sym e ∙ d
-
-  pub part_is : child_part m c k ≡ part_as y
-  part_is = go (found m c k) ∙ ap part_as is
-    where
-      go : (r : Reply Part) → part_of r ≡ part_as (located r)
-      go (model_refused f) = refl
-      go (children_refused f) = refl
-      go (good (of_model p n)) = refl
-      go (good (of_children p n)) = refl
-
-  pub refusal_is : number_as y ≡ child_refusal m c k
-  refusal_is = sym (go (found m c k) ∙ ap number_as is)
-    where
-      go : (r : Reply Part) → reply_number (λ p. 0) r ≡ number_as (located r)
-      go (model_refused f) = refl
-      go (children_refused f) = refl
-      go (good (of_model p n)) = refl
-      go (good (of_children p n)) = refl
-
-  pub inside : Inside m c y
-  inside = subst (Inside m c) is (go (found m c k) ((finds-exactly m c k (found m c k)).0 refl))
-    where
-      go : (r : Reply Part) → Finds m c k r → Inside m c (located r)
-      go (model_refused f) h = tt
-      go (children_refused f) h = tt
-      go (good (of_model p n)) (t, a, b, q) = omega (arith, name-fits m p (omega (arith, name-inside m p q.0)), q.2, ap length q.1)
-      go (good (of_children p n)) (t, a, b, q) =
-          let l : k - 1 < length (children_in c) =
-          by_cases (dec_lt (k - 1) (length (children_in c))) (λ o. o)
-          (λ o. absurd (b NoChild (no_child (by_cases (dec_lt 0 k) (λ u. inr (omega arith)) (λ u. inl (omega arith)))))) in
-          omega (arith, child-within c (k - 1) l, q.1, q.2)
+  pub hands_field : (children : Loc) → HandsField c k children (take (end - at) (drop at c)) (children.0, at + children.1)
+  hands_field children =
+      let s = children-some c (asked-within c k a).2 in
+      let b = field_ends in
+      record {
+        asked = a;
+        text_is = refl;
+        start_is = let e : at ≡ start_in (children_in c) (k - 1) = rw s r.at_is in omega (arith, e);
+        name_is = rw s b.name_is;
+        bytes_are = rw (s, ← r.at_is, ← b.long);
+      }
 
 -- a part by its end is the part by its length
 pub part-sized : (x : Text) (s n : ℕ) → take (s + n - s) (drop s x) ≡ take n (drop s x)
 part-sized x s n = let e : s + n - s ≡ n = omega arith in ap (λ j. take j (drop s x)) e
+
+-- of a name of the model
+part-own : (m c : Text) (k n : ℕ) → (n ≡ 0 → ⊥) → part_by m c k n ≡ of_model (get_or (places m (length m)) (n - 1) 0) (length (child_name c k))
+part-own m c k zero z = absurd (z refl)
+part-own m c k (suc n) z = let e : suc n - 1 ≡ n = omega arith in rw e
+
+-- what is read of the model text is what is meant
+module _ (m : Text) {x : Reading} (e : x ≡ reading m) where
+  pub read-refused : (c : Text) (k : ℕ) (u : Misread) → x.outcome ≡ Err u → result_of (found m c k) ≡ Err (Model u.fault)
+  unfolding found
+  read-refused c k u = rw e (go (answer m) refl)
+    where
+      go : (a : Answer) → answer m ≡ a → (reading_by m a).outcome ≡ Err u → result_of (found m c k) ≡ Err (Model u.fault)
+      go (refused g q) d o = let z : g ≡ u.fault = cc in rw (d, z)
+      go (accepted t) d o = absurd (cc)
+
+  module _ (o : x.outcome ≡ Ok tt) where
+    read-tree : (t : Syntax) × (answer m ≡ accepted t) × (x.names ≡ names_of m)
+    read-tree = rw e (go (answer m) refl (rw e at o))
+      where
+        go : (a : Answer) → answer m ≡ a → (reading_by m a).outcome ≡ Ok tt → (t : Syntax) × (answer m ≡ accepted t) × ((reading_by m a).names ≡ names_of m)
+        go (refused f p) d o = absurd (cc)
+        go (accepted t) d o = (t, d, refl)
+
+    abbrev tree : Syntax
+    tree = read-tree.0
+
+    answers : Answers m (accepted tree)
+    answers = rw read-tree.1 at (answered m)
+
+    found-asked : (c : Text) (k : ℕ) → found m c k ≡ asked_give (asked_of c k) (part_in m c k tree)
+    unfolding found
+    found-asked c k = rw read-tree.1 (kids-asked c k (part_in m c k tree))
+
+    pub read-missing : (c : Text) (k : ℕ) (f : CueFault) → asked_of c k ≡ Err f → result_of (found m c k) ≡ Err (Children f)
+    read-missing c k f a = rw (found-asked c k, a)
+
+-- the model text was read, and the child has this number in it
+module _ (m : Text) {c : Text} {k : ℕ} {x : Reading} (e : x ≡ reading m) (o : x.outcome ≡ Ok tt)
+    {name : Text} {place children : Loc} (h : HandsField c k children name place) {n : ℕ} (g : n ≡ number_in (parts_of m x.names) name) where
+  number-is : number_in (written_names (tree m e o)) (child_name c k) ≡ n
+  number-is = rw ((read-tree m e o).2, h.name_is, names_are m (tree m e o) (answers m e o)) at (sym g)
+
+  found-part : found m c k ≡ good (part_by m c k n)
+  found-part = found-asked m e o c k ∙ rw (h.asked, number-is)
+
+  pub none-refused : child_refusal m c k ≡ 0
+  none-refused = ap (reply_number (λ p. 0)) found-part
+
+  pub hands-foreign : (model : Loc) → n ≡ 0 → Hands m c k model children name place
+  hands-foreign model z =
+      let d : child_part m c k ≡ of_children (start_in (children_in c) (k - 1)) (length (child_name c k)) = rw (found-part, z) in
+      record { text_is = rw d h.text_is; start_is = rw d h.start_is; bytes_are = rw d h.bytes_are }
+
+  -- a name of the model
+  module _ (z : n ≡ 0 → ⊥) where
+    abbrev begins : ℕ
+    begins = get_or (places m (length m)) (n - 1) 0
+
+    own-named : (n - 1 < length (written_names (tree m e o))) × T (name_at m begins) × (name_from m begins ≡ child_name c k)
+    own-named = name-here m c k (tree m e o) (answers m e o) (n - 1) (number-is ∙ omega arith)
+
+    pub own-few : n - 1 < max_atoms
+    own-few = omega (arith, own-named.0, written-few m (tree m e o) (answers m e o))
+
+    abbrev own : NamePlace
+    own = get_or x.names.places (n - 1) no_place
+
+    own-is : own ≡ name_place m begins
+    own-is = rw (read-tree m e o).2 (place_in m (n - 1) (omega (arith, own-named.0, names-many m (tree m e o) (answers m e o))))
+
+    pub own-inside : own.start + own.len ≤ length m
+    own-inside = rw own-is (name-fits m begins (omega (arith, name-inside m begins own-named.1)))
+
+    pub hands-own : (model : Loc) → Hands m c k model children (take (own.start + own.len - own.start) (drop own.start m)) (model.0, own.start + model.1)
+    hands-own model =
+        let start : own.start ≡ begins = ap (λ (p : NamePlace). p.start) own-is in
+        let long : own.len ≡ length (child_name c k) = rw (own-is, own-named.2) in
+        let d : child_part m c k ≡ of_model own.start own.len = rw (found-part, part-own m c k n z, start, long) in
+        record { text_is = rw d refl; start_is = rw d (omega arith); bytes_are = rw d (part-sized m own.start own.len) }

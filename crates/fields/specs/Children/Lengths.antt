@@ -6,7 +6,7 @@ use Rattle.std.proofs.Common.{arith, eq-eqb, le-leb, lt-ltb, ltb-true}
 use lib.{Dec.eqb, Dec.leb, Dec.ltb, Dec.leb-suc-suc, ListN.length, ListN.drop, ListN.get_or, ListN.length-drop, Seq.get_or-drop, Seq.drop-drop}
 use Rattle.std.proofs.lemmas.Bool.{lt-leb}
 use Rattle.fields.specs.{Tests.by-test, Limits.max_name, Bytes.Text, Bytes.front, Split.tab, Split.split, Split.other, Split.part_end}
-use Rattle.fields.specs.Split.Laws.{parted, end_later}
+use Rattle.fields.specs.Split.Laws.{parted}
 
 abbrev pub all_short : List Text → Bool
 all_short [] = true
@@ -66,38 +66,24 @@ fits_not r (b ∷ y) h =
     (λ t. rw (d, t) (fits_not (r - 1) y (omega (arith, rw d at h, ltb-true 0 r t))))
     (λ t. rw (d, t)))
 
--- A hop from the beginning of a field to that of another, over fields that are short enough; or none, where the first field is too long.
+-- A hop from the beginning of a field to that of another, over fields that are short enough.
 pub record Hop (x : Text) (at next : ℕ) : Type 0 where
-  pub bounds : (at ≤ next) × (next ≤ length x)
-  pub none : next ≡ at → all_short (split tab (drop at x)) ≡ false
-  pub hop : at < next → all_short (split tab (drop at x)) ≡ all_short (split tab (drop next x))
-
--- a byte that is no tab leaves the end of its field where it is
-pub tab-not : (x : Text) (i : ℕ) → 0 < i → i ≤ length x → (get_or x (i - 1) 0 ≡ tab → ⊥) → part_end x tab (i - 1) ≡ part_end x tab i
-tab-not x i p h n = let j : i - 1 + 1 ≡ i = omega arith in sym (rw j at (end_later x tab (i - 1) (omega arith) n))
+  pub ahead : at < next
+  pub within : next ≤ length x
+  pub same : all_short (split tab (drop at x)) ≡ all_short (split tab (drop next x))
 
 module _ (x : Text) (at : ℕ) where
   pub short-rest : length x - at ≤ max_name → all_short (split tab (drop at x)) ≡ true
   short-rest h = short-fits (drop at x) ∙ fits_all max_name (drop at x) (rw length-drop h) (omega arith)
 
-  pub hop-tab : (i : ℕ) → at < i → i ≤ at + max_name + 1 → i ≤ length x → get_or x (i - 1) 0 ≡ tab → Hop x at i
+  pub hop-tab : (i : ℕ) → at ≤ i → i ≤ at + max_name → i < length x → get_or x i 0 ≡ tab → Hop x at (i + 1)
   hop-tab i p n h e =
-      let k = i - 1 - at in
-      let j : at + k ≡ i - 1 = omega arith in
-      let s : at + suc k ≡ i = omega arith in
+      let k = i - at in
+      let j : at + k ≡ i = omega arith in
+      let s : at + suc k ≡ i + 1 = omega arith in
       let t : get_or (drop at x) k 0 ≡ tab = rw (get_or-drop, j) e in
       let f = fits-tab max_name k (drop at x) (omega arith) (omega arith) (rw length-drop (omega arith)) t in
-      record {
-        bounds = omega arith;
-        none = λ q. absurd (omega arith);
-        hop = λ _. short-fits (drop at x) ∙ f ∙ rw (drop-drop, s) (sym (short-fits (drop i x)));
-      }
+      record { ahead = omega arith; within = omega arith; same = short-fits (drop at x) ∙ f ∙ rw (drop-drop, s) (sym (short-fits (drop (i + 1) x))) }
 
-  pub hop-none : (i : ℕ) → i ≡ at → i ≤ length x → at + max_name < part_end x tab i → Hop x at i
-  hop-none i e h n =
-      let k : at + max_name < part_end x tab at = rw e at n in
-      record {
-        bounds = omega arith;
-        none = λ _. short-fits (drop at x) ∙ fits_not max_name (drop at x) (omega arith);
-        hop = λ q. absurd (omega arith);
-      }
+  pub hop-none : at + max_name < part_end x tab at → all_short (split tab (drop at x)) ≡ false
+  hop-none h = short-fits (drop at x) ∙ fits_not max_name (drop at x) (omega arith)

@@ -16,10 +16,6 @@ module _ (l : Text) where
   pub more-none : (e : ℕ) → length l ≤ e → more l tab e ≡ []
   more-none e h = rw (le-ltb e (length l) h)
 
-  pub heads_are : (a b d : ℕ) → a ≡ part_end l tab 0 → b ≡ field_behind l a → d ≡ field_behind l b
-      → ◌≡◌ {A = Heads} (record { first = a; second = b; third = d }) (heads_of l)
-  heads_are a b d p q r = rw (r, q, p)
-
 -- what the ends of the first three fields tell of a line that has them
 pub record Three (l : Text) (h : Heads) : Type 0 where
   pub enough : ltb (length (fields l)) 3 ≡ false

@@ -1,7 +1,7 @@
 -- There is one list of next names and one reply, and the functions compute them.
 use mathlib.Core.{Path.◌≡◌, Path.refl, Path.sym, Path.◌∙◌, Bool.true, Bool.false, Bool.false≢true, Bool.true≢false, List.[], List.◌∷◌}
 use mathlib.Core.{List.◌++◌, List.append_assoc, List.append-nil}
-use Rattle.std.specs.Prelude.{ℕ, zero, suc, ◌<◌, ◌≤◌, ◌⊎◌, ◌↔◌}
+use Rattle.std.specs.Prelude.{ℕ, zero, suc, ◌<◌, ◌≤◌, ◌⊎◌, ◌↔◌, Result, Ok, Err}
 use Rattle.std.proofs.Math.Logic.{by_cases}
 use Rattle.std.proofs.Math.Logic.Iff
 use Rattle.std.proofs.Common.{inl, inr, ⊎_elim, leb-true, leb-false, le-leb}
@@ -18,9 +18,8 @@ use Rattle.model.proofs.AcceptLaws.{accepted-counts}
 use Rattle.model.specs.{Rule.rule_type}
 use Rattle.model.proofs.CheckExact.{means-type, type-means, means-conflict-free}
 use Rattle.model.specs.declared.verdict.Verdict.TheVariants.{Complete, Open, Dead}
-use Rattle.judge.specs.{declared.verdict.Judged.Judged, Row.Judges, Row.by_meaning, Row.judged}
+use Rattle.judge.specs.{declared.fault.JudgeFault.JudgeFault, Row.Judges, Row.by_meaning, Row.judged}
 use Rattle.judge.specs.{Row.Laws.judged-judges, Row.Laws.judged-is, Reply.Reply, Reply.row, Reply.row_in, Reply.Laws.replies-exactly}
-use Rattle.judge.specs.declared.verdict.Judged.TheVariants.{Verdict as Said, Refused}
 use Rattle.judge.specs.Next.{MayCome, RisesFrom, Among, NextNames, is_live, may_come, numbers_to, next_names, NextReply, NextInto, all_listed}
 use Rattle.judge.specs.Next.{row_too_short}
 use Rattle.judge.specs.Next.{JudgesNext, not_judged, next_by_meaning, ChildrenNextStands, fitted, next_by, next_judged, children_next}
@@ -173,9 +172,9 @@ dead-has-none {A} {w = w} {l = x ∷ l} d h = absurd (go ((h.listed x).0 (inl re
 
 -- by a rule, and by texts
 module _ (r : Rule) (w : Word) (k : ℕ) where
-  judged-next : (j : Judged) → Judges r w j → JudgesNext r w k (next_by (fitted k (next_names (rule_type r) (names r) w)) j)
-  judged-next (Refused f) h = not_judged h
-  judged-next (Said v) (by_meaning m l u s) =
+  judged-next : (j : Result Verdict JudgeFault) → Judges r w j → JudgesNext r w k (next_by (fitted k (next_names (rule_type r) (names r) w)) j)
+  judged-next (Err f) h = not_judged h
+  judged-next (Ok v) (by_meaning m l u s) =
       let t = type-means (m.text, m.reads) in
       next_by_meaning t l u ((into-exactly (rule_type r) (means-conflict-free t) (names r) w k _).0 refl)
 
@@ -184,7 +183,7 @@ module _ (r : Rule) (w : Word) (k : ℕ) where
   next_is (not_judged {f} h) = rw (sym (judged-is r w h))
   next_is (next_by_meaning {A} {a} m l u h) =
       let g = means-conflict-free m in
-      let j : judged r w ≡ Said (verdict A w) = sym (judged-is r w (by_meaning m l u (verdict-says A g w))) in
+      let j : judged r w ≡ Ok (verdict A w) = sym (judged-is r w (by_meaning m l u (verdict-says A g w))) in
       rw (j, ← means-type m) ((into-exactly A g (names r) w k a).1 h)
 
   pub judges-next-exactly : (a : NextReply) → (next_judged r w k ≡ a) ↔ JudgesNext r w k a

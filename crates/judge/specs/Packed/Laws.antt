@@ -1,6 +1,6 @@
 -- Nodes, and what is seen of the names behind them, in one array.
-use Rattle.std.specs.Prelude.{◌≡◌, ℕ, ◌+◌, ◌<◌, ◌≤◌, List, map, take, slice_index, slice_set}
-use Rattle.std.proofs.Common.{sym, ◌∙◌, arith, length-set, take-take, get_or-take, get_or-drop}
+use Rattle.std.specs.Prelude.{◌≡◌, ℕ, ◌+◌, ◌≤◌, List, map, take, slice_index, slice_set}
+use Rattle.std.proofs.Common.{sym, ◌∙◌, arith, length-set, take-take, get_or-drop}
 use Rattle.std.proofs.Math.Path.{ap}
 use Rattle.std.proofs.lemmas.List.{take-set-le, drop-set-add}
 use Rattle.fields.specs.Limits.{max_nodes}
@@ -24,6 +24,3 @@ module _ (words words' : List ℕ) (s : SameNodes words words') where
   pub same_nodes : (n : ℕ) → n ≤ max_nodes → map node_in (take n words') ≡ map node_in (take n words)
   unfolding same_first
   same_nodes n h = ap (map node_in) (same_first n h)
-
-  pub same_at : (i : ℕ) → i < max_nodes → slice_index words' i ≡ slice_index words i
-  same_at i h = sym (get_or-take max_nodes words' i 0 h) ∙ ap (λ l. slice_index l i) s.0 ∙ get_or-take max_nodes words i 0 h

@@ -1,10 +1,10 @@
 -- What the second pass over a row computes of a type, from what the first has seen of each name: its span, whether its part of the row is held,
 -- and whether that can be extended. `attribute_by` is the same over a model.
-use mathlib.Core.{Path.◌≡◌, Path.refl, Bool.true, Bool.false, Bool.cond, Bool.◌&&◌, Bool.and-true, List.List, List.[], List.◌∷◌, List.map}
+use mathlib.Core.{Path.◌≡◌, Path.refl, Bool.Bool, Bool.true, Bool.false, Bool.◌&&◌, Bool.and-true, List.List, List.[], List.◌∷◌, List.map}
 use Rattle.std.specs.Prelude.{ℕ, zero, suc, ◌+◌, ◌*◌, ◌/◌, ◌%◌, ◌<◌, ◌≤◌, min, max}
 use Rattle.std.proofs.Common.{arith}
 use lib.{Dec.leb, Dec.ltb, Dec.eqb, ListN.length}
-use Rattle.fields.specs.Tests.{bit-under, bit_is}
+use Rattle.std.specs.Int.{from_bool}
 use Rattle.model.specs.{declared.rule.Upper.Upper, declared.rule.Sign.Sign, declared.rule.Mark.Mark, Word.Word, Word.only, Word.count, Word.touched}
 use Rattle.model.specs.declared.rule.Mark.TheVariants.{Plain, Optional, Nonempty}
 use Rattle.model.proofs.WordSpan.{first_place, last_behind, first-untouched, behind-untouched, touched-behind, ordered-span, first_either, behind-either}
@@ -25,16 +25,20 @@ attribute_in w =
     record { first = w % 65536; behind = w / 65536 % 65536; done = eqb (w / done_bit % 2) 1; alive = eqb (w / alive_bit % 2) 1 }
 
 abbrev pub attribute_word : Attribute → ℕ
-attribute_word x = x.first + x.behind * 65536 + cond x.done done_bit 0 + cond x.alive alive_bit 0
+attribute_word x = x.first + x.behind * 65536 + from_bool x.done * done_bit + from_bool x.alive * alive_bit
 
 pub unpack-attribute : (x : Attribute) → x.first < 65536 → x.behind < 65536 → attribute_in (attribute_word x) ≡ x
 unfolding attribute_in
 unpack-attribute x h k =
-    let d = bit_is x.done done_bit in
-    let a = bit_is x.alive alive_bit in
-    let p = parts (cond x.done 1 0) (cond x.alive 1 0) (bit-under x.done 1) (bit-under x.alive 1) in
-    rw (d.0, a.0, p.0, p.1, p.2, p.3, d.1, a.1)
+    let d = read_back x.done in
+    let a = read_back x.alive in
+    let p = parts (from_bool x.done) (from_bool x.alive) d.0 a.0 in
+    rw (p.0, p.1, p.2, p.3, d.1, a.1)
   where
+    read_back : (b : Bool) → (from_bool b ≤ 1) × (eqb (from_bool b) 1 ≡ b)
+    read_back true = (omega arith, refl)
+    read_back false = (omega arith, refl)
+
     parts : (d a : ℕ) → d ≤ 1 → a ≤ 1 → let w = x.first + x.behind * 65536 + d * done_bit + a * alive_bit in
         (w % 65536 ≡ x.first) × (w / 65536 % 65536 ≡ x.behind) × (w / done_bit % 2 ≡ d) × (w / alive_bit % 2 ≡ a)
     parts d a i j = (omega arith, omega arith, omega arith, omega arith)

@@ -1,6 +1,7 @@
 -- Every row has one answer, and `judged` computes it.
-use mathlib.Core.{Path.◌≡◌, Path.refl, Path.sym, Path.ap, Bool.true, Bool.and-eq-true_iff, List.[], List.◌∷◌}
-use Rattle.std.specs.Prelude.{ℕ, zero, suc, ◌<◌, ◌≤◌}
+use mathlib.Core.{Path.◌≡◌, Path.refl, Path.sym, Path.ap, Bool.Bool, Bool.true, Bool.false, Bool.and-eq-true_iff, List.[], List.◌∷◌}
+use Rattle.std.specs.Prelude.{ℕ, zero, suc, ◌<◌, ◌≤◌, Result, Ok}
+use Rattle.std.specs.{Bool.MatchBool, List.AllWithin, List.HoldsAt}
 use Rattle.std.proofs.Common.{arith, leb-true, le-leb}
 use lib.{Dec.leb, ListN.length, ListN.get_or}
 use Rattle.model.specs.{declared.rule.Rule.Rule, Word.Word, Rule.names, Rule.rule_type, Rule.Means}
@@ -8,8 +9,7 @@ use Rattle.model.proofs.VerdictLaws.{verdict-says, verdict-is}
 use Rattle.model.specs.{Rule.Readable}
 use Rattle.model.specs.{Check.readable, declared.verdict.Verdict.Verdict, Types.Ty, Verdict.Says, Rule.Laws.means-once}
 use Rattle.model.proofs.CheckExact.{readable-is, type-means, means-type, means-conflict-free}
-use Rattle.judge.specs.{declared.verdict.Judged.Judged, declared.verdict.Judged.TheVariants.Verdict as Said}
-use Rattle.judge.specs.declared.row.Tested.TheVariants.{Passed}
+use Rattle.judge.specs.declared.fault.JudgeFault.{JudgeFault}
 use Rattle.judge.specs.Row.{Upto, Judges, row_tested, judged, upto, unreadable, long_row, unknown_name, by_meaning}
 use Rattle.fields.specs.Tests.{by-test, Tells, untold, fails, tells-le, tells-and}
 use Rattle.fields.specs.Limits.{max_row}
@@ -24,6 +24,17 @@ upto-at m [] e i h = absurd (omega arith)
 upto-at m (x ∷ w) e zero h = leb-true x m ((and-eq-true_iff (leb x m) (upto m w)).0 e).0
 upto-at m (x ∷ w) e (suc i) h = upto-at m w ((and-eq-true_iff (leb x m) (upto m w)).0 e).1 i (omega arith)
 
+-- what a walk over the numbers tells, which stops at the first above m
+pub upto-walked : (m : ℕ) (w : Word) (r : Bool) → MatchBool r (AllWithin (λ x. x ≤ m) w 0 (length w)) ((k : ℕ) × (k < length w) × HoldsAt (λ x. m < x) w k)
+    → r ≡ upto m w
+upto-walked m w true h = sym (all-upto m w (λ k l. h k 0 (omega arith) l))
+  where
+    all-upto : (m : ℕ) (w : Word) → ((k : ℕ) → k < length w → get_or w k 0 ≤ m) → upto m w ≡ true
+    all-upto m [] g = refl
+    all-upto m (x ∷ w) g =
+        (and-eq-true_iff (leb x m) (upto m w)).1 (le-leb x m (g 0 (omega arith)), all-upto m w (λ k l. g (suc k) (omega arith)))
+upto-walked m w false (k, l, h) = by-test (upto m w) (λ e. absurd (omega (arith, upto-at m w e k l, h 0))) (λ e. sym e)
+
 pub upto-more : (m n : ℕ) (w : Word) → m ≤ n → upto m w ≡ true → upto n w ≡ true
 upto-more m n [] h e = refl
 upto-more m n (x ∷ w) h e =
@@ -31,7 +42,7 @@ upto-more m n (x ∷ w) h e =
     (and-eq-true_iff (leb x n) (upto n w)).1 (le-leb x n (omega (arith, leb-true x m a)), upto-more m n w h b)
 
 -- a row that is not refused
-pub test-passed : (r : Rule) (w : Word) → Readable r → length w ≤ max_row → Upto (names r) w → row_tested r w ≡ Passed (names r)
+pub test-passed : (r : Rule) (w : Word) → Readable r → length w ≤ max_row → Upto (names r) w → row_tested r w ≡ Ok (names r)
 unfolding row_tested
 test-passed r w i l u = rw ((readable-is r).1 i, (tells-le (length w) max_row).1 l, (upto-tells (names r) w).1 u)
 
@@ -50,7 +61,7 @@ judged-judges r w =
     (λ a. rw a (unreadable (untold (readable r) (readable-is r) a)))
 
 -- there is no second one
-pub judged-is : (r : Rule) (w : Word) {a : Judged} → Judges r w a → a ≡ judged r w
+pub judged-is : (r : Rule) (w : Word) {a : Result Verdict JudgeFault} → Judges r w a → a ≡ judged r w
 unfolding judged row_tested
 judged-is r w (unreadable h) = rw (fails (readable r) (readable-is r) h)
 judged-is r w (long_row i h) =
@@ -59,11 +70,11 @@ judged-is r w (unknown_name i l h) =
     rw ((readable-is r).1 i, (tells-le (length w) max_row).1 l, fails (upto (names r) w) (upto-tells (names r) w) h)
 judged-is r w (by_meaning {A} {v} m l u s) =
     rw (test-passed r w (m.text, m.reads) l u)
-    (ap Said (sym ((verdict-is (rule_type r) (rw (means-type m) at (means-conflict-free m)) w v).1 (rw (means-type m) at s))))
+    (ap Ok (sym ((verdict-is (rule_type r) (rw (means-type m) at (means-conflict-free m)) w v).1 (rw (means-type m) at s))))
 
 -- the verdict on a row that is not refused
-pub judged-says : (r : Rule) (w : Word) (v : Verdict) {A : Ty} → Means r A → judged r w ≡ Said v → Says A w v
+pub judged-says : (r : Rule) (w : Word) (v : Verdict) {A : Ty} → Means r A → judged r w ≡ Ok v → Says A w v
 judged-says r w v {A} m e = go (rw e at (judged-judges r w))
   where
-    go : Judges r w (Said v) → Says A w v
+    go : Judges r w (Ok v) → Says A w v
     go (by_meaning n l u s) = rw (means-once m n) s

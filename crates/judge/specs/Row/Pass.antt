@@ -1,6 +1,6 @@
 -- From what the two passes over a row know to the verdict on it.
 use mathlib.Core.{Path.◌≡◌, Path.refl, Path.sym, Path.ap, Path.◌∙◌, Bool.true, List.List, List.[], List.◌∷◌, List.map}
-use Rattle.std.specs.Prelude.{ℕ, ◌+◌, ◌<◌, ◌≤◌, length, slice_index_or}
+use Rattle.std.specs.Prelude.{ℕ, ◌+◌, ◌<◌, ◌≤◌, length, take, slice_index_or}
 use Rattle.std.proofs.Common.{arith}
 use Rattle.model.specs.{declared.rule.Upper.Upper, declared.rule.Sign.Sign, declared.rule.Kind.Kind, declared.rule.Mark.Mark, declared.rule.Node.Node}
 use Rattle.model.specs.{declared.rule.Rule.Rule, declared.verdict.Verdict.Verdict, Word.Word, Types.symbols, Membership.over?, Membership.holds?}
@@ -10,13 +10,25 @@ use Rattle.model.proofs.CheckExact.{readable-formed, rule-type}
 use Rattle.model.specs.declared.rule.Kind.TheVariants.{Atom, Group}
 use Rattle.model.specs.Model.{Algebra, Model, type_by, type_of, after, eval_step, eval, atoms_in}
 use Rattle.model.specs.Model.Types.{Fits, type-conflict-free}
-use Rattle.judge.specs.{declared.tally.Seen.Seen, Row.Root.root_attribute}
+use Rattle.fields.specs.Limits.{max_row}
+use Rattle.judge.specs.{declared.tally.Seen.Seen, declared.packed.Sizes.Sizes, Row.upto, Row.Root.root_attribute, Row.Tally.limits_in}
+use Rattle.judge.specs.Packed.{node_in, rule_in, seen_in, Sized}
 use Rattle.judge.specs.Row.Attribute.{empty_attribute, attribute_by, attribute, attribute-is, attribute-atom, attribute-group, attribute-mark, seen}
 use Rattle.judge.specs.Row.Attribute.{attribute_of, CountsWithin}
 
 -- by what is seen of each name in a row of n children, none of them at fault
 abbrev pub seen_verdict : Rule → ℕ → (ℕ → Seen) → Verdict
 seen_verdict r n s = verdict_of (root_attribute r n s).done (root_attribute r n s).alive
+
+-- The words hold the nodes of a rule that some model text reads into, and behind them the upper counts of its names; the row, of as many children, is not
+-- refused.
+pub record Judgeable (words : List ℕ) (r : Sizes) (row : Word) : Type 0 where
+  pub sized : Sized words r
+  pub children_are : r.children ≡ length row
+  pub limits : seen_in words ≡ limits_in (map node_in (take r.nodes words))
+  pub good : readable (rule_in words r.nodes) ≡ true
+  pub short : length row ≤ max_row
+  pub named : upto r.names row ≡ true
 
 -- of names, only those that number the atoms are looked at
 module _ {A : Type 0} (g h : Algebra A)

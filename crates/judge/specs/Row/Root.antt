@@ -1,11 +1,11 @@
 -- The second pass over a row: the attributes that it computes, member by member, and at its end that of the first node.
 use mathlib.Core.{Path.◌≡◌, Path.refl, Bool.Bool, Bool.cond, List.List, List.[], List.◌∷◌, List.◌++◌}
-use Rattle.std.specs.Prelude.{ℕ, zero, suc}
+use Rattle.std.specs.Prelude.{ℕ}
 use lib.{Dec.eqb, ListN.length, ListN.get_or}
 use Rattle.model.specs.{declared.rule.Kind.Kind, declared.rule.Rule.Rule, Rule.used, Model.operator, Model.eval}
 use Rattle.model.specs.declared.rule.Kind.TheVariants.{Atom, Group}
 use Rattle.judge.specs.{declared.tally.Seen.Seen, declared.attribute.Attribute.Attribute, Row.Stack.Parts, Row.Joined.members-more}
-use Rattle.judge.specs.Row.Attribute.{empty_attribute, atom_attribute, pair_attribute, counted_attribute, joined_attribute, attribute_by}
+use Rattle.judge.specs.Row.Attribute.{empty_attribute, pair_attribute, counted_attribute, joined_attribute, attribute_by}
 
 -- of the first node of a rule, in a row of n children
 abbrev pub root_attribute : Rule → ℕ → (ℕ → Seen) → Attribute
@@ -20,10 +20,6 @@ part_attribute n (Group s m) x l = joined_attribute n (operator s) l
 unfoldable pub grown_attribute : Kind → Bool → Attribute → Attribute → Attribute
 grown_attribute (Atom lo hi) b x y = x
 grown_attribute (Group s m) b x y = cond b y (pair_attribute (operator s) x y)
-
-pub counted-from : (n m : ℕ) (x : Seen) → ¬ (m ≡ 0) → counted_attribute n m x ≡ atom_attribute m x
-counted-from n zero x h = absurd (h refl)
-counted-from n (suc m) x h = refl
 
 part-more : (n : ℕ) (κ : Kind) (z : Seen) (l : List Attribute) (y : Attribute)
     → part_attribute n κ z (l ++ (y ∷ [])) ≡ grown_attribute κ (eqb (length l) 0) (part_attribute n κ z l) y

@@ -5,7 +5,7 @@
 pub mod Words
 pub mod Limits
 use mathlib.Core.{Path.◌≡◌, List.List, List.◌∷◌, List.◌++◌, List.map}
-use Rattle.std.specs.Prelude.{ℕ, ◌+◌, ◌-◌, ◌*◌, ◌/◌, ◌%◌, ◌<◌, ◌≤◌, cond, length, take, replicate, ◌==◌, slice_index}
+use Rattle.std.specs.Prelude.{ℕ, ◌+◌, ◌-◌, ◌*◌, ◌/◌, ◌%◌, ◌<◌, ◌≤◌, cond, length, take, replicate, ◌==◌, slice_index, Option, None}
 use Rattle.fields.specs.Limits.{max_atoms}
 use Rattle.model.specs.declared.rule.Upper.{Upper}
 use Rattle.model.specs.declared.rule.Upper.TheVariants.{Number, Unbounded}
@@ -14,8 +14,7 @@ use Rattle.model.specs.declared.rule.Node.{Node}
 use Rattle.model.specs.declared.rule.Kind.TheVariants.{Atom, Group}
 use Rattle.model.specs.Word.{Word, only, count, touched}
 use Rattle.model.proofs.WordSpan.{first_place, last_behind}
-use Rattle.judge.specs.{declared.tally.Seen.Seen, declared.verdict.FirstFault.FirstFault, Row.Attribute.seen}
-use Rattle.judge.specs.declared.verdict.FirstFault.TheVariants.{Nothing}
+use Rattle.judge.specs.{declared.tally.Seen.Seen, Row.Attribute.seen}
 use Rattle.judge.specs.FirstFault.{upper_counts, allowed, is_fault, first_where, first_fault}
 
 -- What is seen of a name, in one number: how many further children may have it, how many have it, its first place, and one past its last place.
@@ -73,9 +72,9 @@ abbrev pub Tallied : Word → List ℕ → Type 0
 Tallied w s = (k : ℕ) → k ≤ max_atoms → seen_of (length w) (slice_index s k) ≡ seen w k
 
 -- the first fault of the row, and, where there is none, what s tells
-pub record RowTallied (us : List Upper) (w : Word) (s : List ℕ) (r : FirstFault) : Type 0 where
+pub record RowTallied (us : List Upper) (w : Word) (s : List ℕ) (r : Option ℕ) : Type 0 where
   pub fault_is : r ≡ first_fault us w
-  pub tallied : r ≡ Nothing → Tallied w s
+  pub tallied : r ≡ None → Tallied w s
 
 -- The first i children of the row w are passed: none of them is at fault, and they are seen in s.
 pub record RowPassed (us : List Upper) (w : Word) (i : ℕ) (s : List ℕ) : Type 0 where

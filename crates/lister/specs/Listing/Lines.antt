@@ -1,6 +1,6 @@
 -- The lines of a listing as they are printed: a line for each cue, and what the last one says of them.
 use mathlib.Core.{Path.◌≡◌, Path.refl, Path.ap, Path.ap₂, Path.◌∙◌, Bool.true, Bool.not, List.List, List.[], List.◌∷◌, List.map}
-use Rattle.std.specs.Prelude.{ℕ, suc, ◌+◌}
+use Rattle.std.specs.Prelude.{Some, None, ℕ, suc, ◌+◌}
 use Rattle.std.proofs.Common.{arith}
 use lib.{Dec.T, ListN.length, ListN.get_or, ListN.length-map}
 use Rattle.std.proofs.Math.Facts.{and_yes, yes_and}
@@ -9,14 +9,14 @@ use Rattle.fields.specs.Split.{line_feed, tab, joined_by, but_last, last, lines,
 use Rattle.fields.specs.Split.Joined.{split-joined, lines-unlines, but-last-snoc, last_snoc}
 use Rattle.fields.specs.Split.Joined.{passed-lacks, split-lacks, lacks-at, append-lacks, joined-lacks, lines-lack}
 use Rattle.sheet.specs.Cues.{children}
-use Rattle.lister.specs.declared.said.Said.{Said, TheVariants.Complete, TheVariants.Open, TheVariants.Dead, TheVariants.NoSheet}
-use Rattle.lister.specs.Listing.{word, listing_fields, listing_line, times_among, totals, total_line, said, listing_lines, listing, Totals}
+use Rattle.model.specs.declared.verdict.Verdict.TheVariants.{Complete, Open, Dead}
+use Rattle.lister.specs.Listing.{Said, word, listing_fields, listing_line, times_among, totals, total_line, said, listing_lines, listing, Totals}
 
 word-inner : (v : Said) → T (all is_inner (word v))
-word-inner Complete = tt
-word-inner Open = tt
-word-inner Dead = tt
-word-inner NoSheet = tt
+word-inner (Some Complete) = tt
+word-inner (Some Open) = tt
+word-inner (Some Dead) = tt
+word-inner None = tt
 
 -- what is no byte of names stands in no field, unless it stands in a field of the cue line
 module _ (t : ℕ) (n : T (not (is_inner t))) where
@@ -60,13 +60,13 @@ module _ (f : Text → Said) where
 
 -- no other words are said
 abbrev sum : List Text → ℕ
-sum ws = times_among (word Complete) ws + times_among (word Open) ws + times_among (word Dead) ws + times_among (word NoSheet) ws
+sum ws = times_among (word (Some Complete)) ws + times_among (word (Some Open)) ws + times_among (word (Some Dead)) ws + times_among (word None) ws
 
 sum_more : (v : Said) (ws : List Text) → sum ws ≡ length ws → sum (word v ∷ ws) ≡ suc (length ws)
-sum_more Complete ws h = omega arith
-sum_more Open ws h = omega arith
-sum_more Dead ws h = omega arith
-sum_more NoSheet ws h = omega arith
+sum_more (Some Complete) ws h = omega arith
+sum_more (Some Open) ws h = omega arith
+sum_more (Some Dead) ws h = omega arith
+sum_more None ws h = omega arith
 
 words-sum : (f : Text → Said) (ls : List Text) → sum (map (λ l. word (f l)) ls) ≡ length (map (λ l. word (f l)) ls)
 words-sum f [] = refl

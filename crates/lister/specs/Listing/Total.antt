@@ -1,12 +1,12 @@
 -- Laws of the last line: its pieces, as they are put, and that 36 bytes hold it.
 use mathlib.Core.{Path.◌≡◌, Path.refl, Path.ap, Path.sym, Path.◌∙◌, List.List, List.[], List.◌∷◌, List.◌++◌, List.map, List.append_assoc}
-use Rattle.std.specs.Prelude.{ℕ, ◌+◌, ◌≤◌, ◌<◌}
+use Rattle.std.specs.Prelude.{Some, None, ℕ, ◌+◌, ◌≤◌, ◌<◌}
 use native.Mathlib.{Omega.arith, Numerals.add-one}
 use lib.{ListN.length, ListN.drop, ListN.get_or, ListN.length-append, Seq.drop-cons}
 use Rattle.fields.specs.{Limits.max_file, Tests.by-test, Bytes.Text, Bytes.bytes, Bytes.same_text, Bytes.digits, Bytes.Numeral.digits-length}
 use Rattle.fields.specs.Split.{line_feed, tab, joined_by}
-use Rattle.lister.specs.declared.said.Said.{Said, TheVariants.Complete, TheVariants.Open, TheVariants.Dead, TheVariants.NoSheet}
-use Rattle.lister.specs.Listing.{word, times_among, totals, total_line}
+use Rattle.model.specs.declared.verdict.Verdict.TheVariants.{Complete, Open, Dead}
+use Rattle.lister.specs.Listing.{Said, word, times_among, totals, total_line}
 
 -- a tab before each number, and a line feed
 abbrev pub tabbed : List ℕ → Text
@@ -38,8 +38,9 @@ module _ (ws : List Text) (h : length ws ≤ max_file) where
 
   pub total-short : length (total_line ws ++ (line_feed ∷ [])) ≤ 36
   total-short =
-      let fourth = times_among (word NoSheet) ws ∷ [] in
-      let third = times_among (word Dead) ws ∷ fourth in
-      let second = times_among (word Open) ws ∷ third in
-      let five = tabbed-more (length ws) (times_among (word Complete) ws ∷ second) (omega arith) in
-      omega (arith, ap length (total-is ws), five, word_more Complete second, word_more Open third, word_more Dead fourth, word_more NoSheet [])
+      let fourth = times_among (word None) ws ∷ [] in
+      let third = times_among (word (Some Dead)) ws ∷ fourth in
+      let second = times_among (word (Some Open)) ws ∷ third in
+      let five = tabbed-more (length ws) (times_among (word (Some Complete)) ws ∷ second) (omega arith) in
+      let four = word_more (Some Complete) second in
+      omega (arith, ap length (total-is ws), five, four, word_more (Some Open) third, word_more (Some Dead) fourth, word_more None [])

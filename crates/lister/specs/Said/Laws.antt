@@ -2,7 +2,7 @@
 use mathlib.Core.{Path.◌≡◌, Path.refl, Path.sym, Path.ap, Path.◌∙◌, Logic.◌↔◌, List.List, List.[], List.map}
 use Prim.Native.Nat.{ℕ, zero, suc, ◌<◌}
 use native.Mathlib.{Nat.sub-zero, Numerals.add-one, Omega.arith}
-use Rattle.std.specs.Prelude.{length, get_or}
+use Rattle.std.specs.Prelude.{None, Ok, length, get_or}
 use Rattle.std.proofs.Math.ListN.{length-map, get_or-map}
 use Rattle.fields.specs.{Bytes.Text, Split.lines, Split.field}
 use Rattle.model.specs.{Syntax.Syntax, Syntax.written_names, Syntax.number_in, Syntax.Number.from_found, Syntax.Number.from-none, Fault.Answers, Fault.accepted}
@@ -12,13 +12,12 @@ use Rattle.judge.specs.Answer.{answer-is}
 use Rattle.model.proofs.VerdictLaws.{verdict-says, verdict-is}
 use Rattle.judge.specs.{Named.row_of, Reading.Laws.number-of-name}
 use Rattle.sheet.specs.{declared.sheet.SheetFault.TheVariants.Repeated}
-use Rattle.lister.specs.{declared.said.Said.Said, declared.said.Said.TheVariants.NoSheet}
-use Rattle.sheet.specs.{declared.sheet.SheetOutcome.TheVariants.Read, Cues.children, Sheet.kind, Sheet.model, Sheet.sheet_outcome}
+use Rattle.sheet.specs.{Cues.children, Sheet.kind, Sheet.model, Sheet.sheet_outcome}
 use Rattle.sheet.proofs.{SheetGood.line-accepted, RefusalLaws.sheet-is}
-use Rattle.lister.specs.{Listing.word_of, Listing.said_at, Listing.said, Said.CueSaid, Said.lacking}
+use Rattle.lister.specs.{Listing.Said, Listing.word_of, Listing.said_at, Listing.said, Said.CueSaid, Said.lacking}
 use Rattle.lister.specs.{Said.by_a_line}
 
-module _ (s : Text) (e : sheet_outcome s ≡ Read) where
+module _ (s : Text) (e : sheet_outcome s ≡ Ok tt) where
   abbrev ls : List Text
   ls = lines s
 
@@ -26,7 +25,7 @@ module _ (s : Text) (e : sheet_outcome s ≡ Read) where
   kinds-apart : (i j : ℕ) → i < j → j < length (map kind ls) → ¬ get_or (map kind ls) i [] ≡ get_or (map kind ls) j []
   kinds-apart i j h k q =
       let same = sym (get_or-map kind ls i []) ∙ q ∙ get_or-map kind ls j [] in
-      (sheet-is s Read).0 e Repeated (suc j) ((omega arith, omega (arith, k, length-map ls kind)), (suc i, omega arith, omega arith, same))
+      (sheet-is s (Ok tt)).0 e Repeated (suc j) ((omega arith, omega (arith, k, length-map ls kind)), (suc i, omega arith, omega arith, same))
 
   module _ (l : Text) where
     -- what the sheet's line of that kind says
@@ -52,7 +51,7 @@ module _ (s : Text) (e : sheet_outcome s ≡ Read) where
         (by_a_line k o p t a (verdict A w) (verdict-says A (type-conflict-free (model_of t) (accepted-counts m t a)) w))
 
     no_line : (m : ℕ) → number_in (map kind ls) (field 2 l) ≡ m → ((k : ℕ) → k < length ls → ¬ kind (get_or ls k []) ≡ field 2 l)
-        → said_at ls m (children l) ≡ NoSheet
+        → said_at ls m (children l) ≡ None
     no_line zero q n = refl
     no_line (suc k) q n =
         let f = from_found 0 (map kind ls) (field 2 l) k q in

@@ -1,7 +1,8 @@
 -- The book is a function of what it is fed: it gives one reply to each call, and there is one book after it.
 use mathlib.Core.{Path.◌≡◌, Path.refl, Path.sym, Path.ap, Path.◌∙◌, Logic.◌↔◌, List.List, List.[], List.◌∷◌, List.◌++◌}
 use Rattle.std.specs.Prelude.{ℕ, length}
-use Rattle.std.proofs.Common.{arith, length-append}
+use Rattle.std.proofs.Common.{arith}
+use Rattle.std.proofs.lemmas.List.{length_push, same_from_push}
 use Rattle.model.specs.{declared.rule.Rule.Rule, Word.Word, Types.Ty, Rule.Means, Rule.names, Rule.rule_type, Rule.Laws.means-once}
 use Rattle.model.proofs.VerdictLaws.{says-once}
 use Rattle.model.proofs.CheckExact.{means-type, means-conflict-free}
@@ -11,17 +12,7 @@ use Rattle.sessions.specs.Book.{none_to_take, takes, asks, not_listed, lists_nex
 
 -- no word that ends in x is empty
 pub ends-not-empty : (w : Word) (x : ℕ) → ¬ w ++ (x ∷ []) ≡ []
-ends-not-empty w x e = let l = length-append w (x ∷ []) in let z = ap length e in omega arith
-
--- what stands before the last symbol is told by the word
-pub before_last : (v w : Word) (x y : ℕ) → v ++ (x ∷ []) ≡ w ++ (y ∷ []) → v ≡ w
-before_last [] [] x y e = refl
-before_last [] (b ∷ w) x y e = let z : [] ≡ w ++ (y ∷ []) = cc in absurd (ends-not-empty w y (sym z))
-before_last (a ∷ v) [] x y e = let z : v ++ (x ∷ []) ≡ [] = cc in absurd (ends-not-empty v x z)
-before_last (a ∷ v) (b ∷ w) x y e =
-    let t : v ++ (x ∷ []) ≡ w ++ (y ∷ []) = cc in
-    let h : a ≡ b = cc in
-    let i = before_last v w x y t in cc
+ends-not-empty w x e = omega (arith, length_push w x, ap length e)
 
 -- the names that may come next, by any type that the rule means
 pub rule-lists : {r : Rule} {A : Ty} {w l : Word} → Means r A → (next_names (rule_type r) (names r) w ≡ l) ↔ NextNames A (names r) w l
@@ -51,7 +42,7 @@ module _ {n : ℕ} where
   enters-same e none_to_take (takes {w = w} x) = absurd (ends-not-empty w x (sym (ap (λ (b : Book). b.row) e)))
   enters-same e (takes {w = w} x) none_to_take = absurd (ends-not-empty w x (ap (λ (b : Book). b.row) e))
   enters-same e (takes {w = v} x) (takes {w = w} y) =
-      let i = before_last v w x y (ap (λ (b : Book). b.row) e) in
+      let (i, k) = same_from_push v w x y (ap (λ (b : Book). b.row) e) in
       let j = ap (λ (b : Book). b.rule) e in (refl, cc)
   enters-same e (asks {w = w} {A = A} {v = u} m h) (asks {v = v} m' k) =
       let a = means-once m (rw (sym (ap (λ (b : Book). b.rule) e)) at m') in

@@ -1,13 +1,13 @@
 -- What the tests of a session tell.
 use mathlib.Core.{Path.◌≡◌, Path.refl, Bool.Bool, Bool.true, Bool.false, List.[], List.◌∷◌}
-use Rattle.std.specs.Prelude.{ℕ}
-use Rattle.std.proofs.Common.{arith, eq-eqb, eqb-true}
+use Rattle.std.specs.Prelude.{ℕ, Ok, Err}
+use Rattle.std.proofs.Common.{eq-eqb, eqb-true}
 use lib.{Dec.leb, Dec.eqb, ListN.length, ListN.take, ListN.drop}
 use Rattle.judge.specs.{declared.fault.JudgeFault.JudgeFault, Row.Laws.upto-tells, Next.fitted, Next.next_by}
 use Rattle.judge.specs.declared.fault.JudgeFault.TheVariants.{Unreadable, BadTrail, ShortRow}
-use Rattle.sessions.specs.{declared.session.Session.Session, declared.session.Outcome.Outcome, Refusal.AllFree, Refusal.Intact}
-use Rattle.sessions.specs.declared.session.Outcome.TheVariants.{Done, Refused}
-use Rattle.sessions.specs.Session.{Trail, free, all_free, intact, check, ◌then◌, checked, names_ahead, outcome, judged_by, asked, listed_by, next_asked}
+use Rattle.sessions.specs.{declared.session.Session.Session, Refusal.AllFree, Refusal.Intact}
+use Rattle.sessions.specs.Session.{Outcome, Trail, free, all_free, intact, check, ◌then◌, checked, names_ahead, outcome, judged_by}
+use Rattle.sessions.specs.Session.{asked, listed_by, next_asked}
 use Rattle.fields.specs.Tests.{by-test, Tells, tells-le, tells-and, tells-three}
 use Rattle.model.specs.{Rule.names, Check.readable}
 
@@ -20,15 +20,15 @@ unfolding intact
 intact-tells k m t = tells-three _ _ _ (tells-le _ _) (upto-tells m (take k t)) (all-free-tells (drop k t))
 
 -- a check is passed where its condition holds, and a row of checks where each is
-pub check_done : (b : Bool) (f : JudgeFault) → check b f ≡ Done → b ≡ true
+pub check_done : (b : Bool) (f : JudgeFault) → check b f ≡ Ok tt → b ≡ true
 check_done true f e = refl
-check_done false f e = let z : ◌≡◌ {A = ℕ} 0 1 = cc in absurd (omega arith)
+check_done false f e = cc
 
-pub then-done : (o p : Outcome) → (o then p) ≡ Done → (o ≡ Done) × (p ≡ Done)
-then-done Done p e = (refl, e)
-then-done (Refused f) p e = let z : ◌≡◌ {A = ℕ} 0 1 = cc in absurd (omega arith)
+pub then-done : (o p : Outcome) → (o then p) ≡ Ok tt → (o ≡ Ok tt) × (p ≡ Ok tt)
+then-done (Ok u) p e = (refl, e)
+then-done (Err f) p e = cc
 
-pub checked-done : (s : Session) (t : Trail) → checked s t ≡ Done → (readable s.rule ≡ true) × (intact s.children (names s.rule) t ≡ true)
+pub checked-done : (s : Session) (t : Trail) → checked s t ≡ Ok tt → (readable s.rule ≡ true) × (intact s.children (names s.rule) t ≡ true)
 unfolding checked
 checked-done s t e =
     let (a, b) = then-done (check (readable s.rule) Unreadable) _ e in
@@ -40,5 +40,5 @@ unfolding outcome
 next-by-asked s t k = go (checked s t)
   where
     go : (o : Outcome) → listed_by (o then check (leb (length (names_ahead s t)) k) ShortRow) s t ≡ next_by (fitted k (names_ahead s t)) (judged_by o s t)
-    go Done = by-test (leb (length (names_ahead s t)) k) (λ e. rw e) (λ e. rw e)
-    go (Refused f) = refl
+    go (Ok u) = by-test (leb (length (names_ahead s t)) k) (λ e. rw e) (λ e. rw e)
+    go (Err f) = refl

@@ -1,15 +1,15 @@
 -- What is known of the lines of a cue list that was read.
 use mathlib.Core.{Path.◌≡◌, Path.refl, List.List, List.[], List.◌∷◌}
-use Rattle.std.specs.Prelude.{Bool, true, false, not, ◌&&◌, ◌||◌, ℕ, zero, suc, ◌≤◌, ◌<◌}
+use Rattle.std.specs.Prelude.{Result, Ok, Err, Bool, true, false, not, ◌||◌, ℕ, zero, suc, ◌≤◌, ◌<◌}
 use Rattle.std.proofs.Common.{arith, ltb-false}
+use Rattle.std.proofs.Math.Bool.{and-eq-true_iff}
 use lib.{Dec.T, Dec.leb, Dec.ltb, Dec.eqb, ListN.length, ListN.get_or}
 use Rattle.fields.specs.{Tests.by-test, Bytes.Text, Bytes.bytes, Bytes.value, Bytes.same_text, Bytes.Laws.same_text-is, Limits.max_row, Limits.max_file}
 use Rattle.fields.specs.{declared.fault.CueFault.CueFault, Split.Laws.parted, Children.short_name, Children.all_names}
 use Rattle.fields.specs.declared.fault.CueFault.TheVariants.{BadFields, BadNumber, NotAbove, NoName, ManyChildren}
 use Rattle.fields.specs.Split.{split, but_last, lines, behind, fields, field}
-use Rattle.sheet.specs.{declared.cues.CueLine.CueLine, Cues.Walk.GoodCues}
-use Rattle.sheet.specs.declared.cues.CueLine.TheVariants.{Number, Bad}
-use Rattle.sheet.specs.declared.cues.CuesRead.TheVariants.{Count, Refused}
+use Rattle.fields.specs.declared.fault.AtLine.{AtLine}
+use Rattle.sheet.specs.{AtLine.at_line, Cues.Walk.GoodCues}
 use Rattle.sheet.specs.Cues.{is_cue_number, children, cue_line, by_line, cue_lines, cues_read}
 
 pub record LineGood (l : Text) : Type 0 where
@@ -17,16 +17,11 @@ pub record LineGood (l : Text) : Type 0 where
   pub few : length (children l) ≤ max_row
   pub named : T (all_names (children l))
 
-and_second : (a b : Bool) → a && b ≡ true → T b
-and_second true true e = tt
-and_second true false e = let z : ◌≡◌ {A = ℕ} 0 1 = cc e in absurd (omega arith)
-and_second false b e = let z : ◌≡◌ {A = ℕ} 0 1 = cc e in absurd (omega arith)
-
 or_left : (a b : Bool) → a || b ≡ false → a ≡ false
 or_left true b e = e
 or_left false b e = refl
 
-line-good : (p q : ℕ) (l : Text) → cue_line p l ≡ Number q → LineGood l
+line-good : (p q : ℕ) (l : Text) → cue_line p l ≡ Ok q → LineGood l
 line-good p q l e =
     by-test (ltb (length (fields l)) 3 || not (same_text (field 0 l) (bytes "cue"))) (λ a. no BadFields (rw a))
     (λ a. by-test (is_cue_number (field 1 l)) (λ b. by-test (leb (value (field 1 l)) p) (λ c. no NotAbove (rw (a, b, c)))
@@ -34,23 +29,23 @@ line-good p q l e =
     (λ f. record {
       enough = ltb-false (length (fields l)) 3 (or_left (ltb (length (fields l)) 3) (not (same_text (field 0 l) (bytes "cue"))) a);
       few = ltb-false max_row (length (children l)) f;
-      named = and_second (short_name (field 2 l)) (all_names (children l)) d;
+      named = rw ((and-eq-true_iff (short_name (field 2 l)) (all_names (children l))).0 d).1 tt;
     }))
     (λ d. no NoName (rw (a, b, c, d))))) (λ b. no BadNumber (rw (a, b))))
   where
-    no : (f : CueFault) {C : Type 0} → Bad f ≡ cue_line p l → C
-    no f g = let z : ◌≡◌ {A = ℕ} 0 1 = cc (g, e) in absurd (omega arith)
+    no : (f : CueFault) {C : Type 0} → Err f ≡ cue_line p l → C
+    no f g = cc (g, e)
 
-all-good : (n p m : ℕ) (ls : List Text) → cue_lines n p ls ≡ Count m → (i : ℕ) → i < length ls → LineGood (get_or ls i [])
+all-good : (n p m : ℕ) (ls : List Text) → cue_lines n p ls ≡ Ok m → (i : ℕ) → i < length ls → LineGood (get_or ls i [])
 all-good n p m [] e i h = absurd (omega arith)
 all-good n p m (l ∷ ls) e i h = go (cue_line p l) (λ q. all-good (suc n) q m ls) refl e i h
   where
-    go : (c : CueLine) → ((q : ℕ) → cue_lines (suc n) q ls ≡ Count m → (j : ℕ) → j < length ls → LineGood (get_or ls j [])) → cue_line p l ≡ c
-        → by_line c (λ q. cue_lines (suc n) q ls) (λ f. Refused f (suc n)) ≡ Count m
+    go : (c : Result ℕ CueFault) → ((q : ℕ) → cue_lines (suc n) q ls ≡ Ok m → (j : ℕ) → j < length ls → LineGood (get_or ls j [])) → cue_line p l ≡ c
+        → by_line c (λ q. cue_lines (suc n) q ls) (λ f. Err (at_line f (suc n))) ≡ Ok m
         → (i : ℕ) → i < suc (length ls) → LineGood (get_or (l ∷ ls) i [])
-    go (Number q) r g k zero o = line-good p q l g
-    go (Number q) r g k (suc i) o = r q k i (omega arith)
-    go (Bad f) r g k i o = let z : ◌≡◌ {A = ℕ} 0 1 = cc k in absurd (omega arith)
+    go (Ok q) r g k zero o = line-good p q l g
+    go (Ok q) r g k (suc i) o = r q k i (omega arith)
+    go (Err f) r g k i o = cc k
 
 -- a line is no longer than the text
 part-short : (s : ℕ) (x : Text) (i : ℕ) → length (get_or (split s x) i []) ≤ length x
@@ -76,7 +71,7 @@ but_last-is (p ∷ []) (suc i) = omega arith
 but_last-is (p ∷ q ∷ ps) zero = omega arith
 but_last-is (p ∷ q ∷ ps) (suc i) = but_last-is (q ∷ ps) i
 
-pub good-cues : (c : Text) (n : ℕ) → cues_read c ≡ Count n → GoodCues c
+pub good-cues : (c : Text) (n : ℕ) → cues_read c ≡ Ok n → GoodCues c
 good-cues c n e =
     by-test (ltb max_file (length c)) (λ a. no (rw a at e))
     (λ a. by-test (same_text (behind c) [])
@@ -90,5 +85,5 @@ good-cues c n e =
     })
     (λ b. no (rw (a, b) at e)))
   where
-    no : {f : CueFault} {m : ℕ} {C : Type 0} → Refused f m ≡ Count n → C
-    no g = let z : ◌≡◌ {A = ℕ} 0 1 = cc g in absurd (omega arith)
+    no : {e : AtLine CueFault} {C : Type 0} → Err e ≡ Ok n → C
+    no g = cc g

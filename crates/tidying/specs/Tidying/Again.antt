@@ -1,6 +1,6 @@
 -- A tidied sheet is read again, if a file may be so long, and is its own tidied sheet.
 use mathlib.Core.{Bool.true, Bool.cond, Bool.not, Bool.◌||◌, Option.Option, Option.none, Option.some}
-use Rattle.std.specs.Prelude.{◌≡◌, refl, List, [], ◌∷◌, ◌++◌, map, ℕ, zero, suc, ◌≤◌, ◌<◌}
+use Rattle.std.specs.Prelude.{◌≡◌, refl, List, [], ◌∷◌, ◌++◌, map, ℕ, zero, suc, ◌≤◌, ◌<◌, Result, Ok, Err}
 use Rattle.std.proofs.Common.{sym, ap, ap₂, ◌∙◌, append_assoc, arith, le-ltb}
 use lib.{Dec.T, Dec.leb, Dec.eqb, ListN.length, ListN.get_or, ListN.length-map}
 use Rattle.std.proofs.Math.Facts.{yes_and}
@@ -8,13 +8,13 @@ use Rattle.fields.specs.{Limits.max_file, Bytes.Text, Bytes.bytes, Bytes.same_te
 use Rattle.fields.specs.Split.{line_feed, tab, lines, behind, unlines, fields, other, none_has, Joined.split-joined, Joined.lines-unlines, Joined.passed-lacks}
 use Rattle.model.specs.{Syntax.text, Fault.accepted}
 use Rattle.judge.specs.Answer.{answer, answer-is}
-use Rattle.sheet.specs.{declared.sheet.SheetFault.SheetFault, declared.sheet.SheetOutcome.SheetOutcome}
+use Rattle.fields.specs.declared.fault.AtLine.{AtLine}
+use Rattle.sheet.specs.{declared.sheet.SheetFault.SheetFault, AtLine.at_line}
 use Rattle.sheet.specs.declared.sheet.SheetFault.TheVariants.{ManyRules, BadFields, NoKind, Repeated}
-use Rattle.sheet.specs.declared.sheet.SheetOutcome.TheVariants.{Read, Refused}
 use Rattle.sheet.specs.Sheet.{max_rules, kind, model, among, model_fault, line_fault, by_fault, sheet_lines, sheet_outcome}
 use Rattle.sheet.proofs.SheetGood.{Accepted, lines-read}
 use Rattle.canonical.specs.{Canonical.canonical, Canonical.Accepted.canonical-formed, Ends.text-accepted, Ends.same_rows, Ends.written_twice}
-use Rattle.tidying.specs.Tidying.{tidy_model, tidy_line, tidy_lines, tidy_sheet, LineKept, Laws.good-sheet}
+use Rattle.tidying.specs.Tidying.{tidy_model, tidy_line, tidy_lines, tidy_sheet, LineKept, Laws.good-sheet, Laws.AllFit, Laws.rest-fit}
 use Rattle.tidying.specs.Tidying.Line.{RuleFits, tree_is, kind-named, fields-are}
 use Rattle.tidying.specs.Tidying.Visible.{visible, Visible, name-visible, text-visible}
 
@@ -77,12 +77,6 @@ module _ {l : Text} (r : RuleFits l) where
       ap (fault_of ks) bare-fields ∙ rw (g.0, ← g.1) (ap (fault_of ks) (sym (fields-are r)))
 
 -- the lines
-abbrev AllFit : List Text → Type 0
-AllFit ls = (i : ℕ) → i < length ls → RuleFits (get_or ls i [])
-
-rest-fit : (l : Text) (ls : List Text) → AllFit (l ∷ ls) → AllFit ls
-rest-fit l ls f i h = f (suc i) (omega arith)
-
 -- each line with its line feed
 unlines-bare : (ls : List Text) → tidy_lines ls ≡ unlines (map bare ls)
 unlines-bare [] = refl
@@ -112,8 +106,8 @@ read_again (l ∷ ls) f n ks =
     ∙ ap (λ k. then (line_fault ks l) (sheet_lines (suc n) (ks ++ (k ∷ [])) (map bare ls))) (kind-same r)
     ∙ ap (then (line_fault ks l)) (read_again ls (rest-fit l ls f) (suc n) (ks ++ (kind l ∷ [])))
   where
-    then : Option SheetFault → SheetOutcome → SheetOutcome
-    then o rest = cond (leb max_rules n) (Refused ManyRules (suc n)) (by_fault o rest (λ g. Refused g (suc n)))
+    then : Option SheetFault → Result Unit (AtLine SheetFault) → Result Unit (AtLine SheetFault)
+    then o rest = cond (leb max_rules n) (Err (at_line ManyRules (suc n))) (by_fault o rest (λ g. Err (at_line g (suc n))))
 
 bare-at : (ls : List Text) (i : ℕ) → i < length ls → get_or (map bare ls) i [] ≡ bare (get_or ls i [])
 bare-at [] i h = absurd (omega arith)
@@ -121,7 +115,7 @@ bare-at (l ∷ ls) zero h = refl
 bare-at (l ∷ ls) (suc i) h = bare-at ls i (omega arith)
 
 -- the sheet
-module _ (x : Text) (read : sheet_outcome x ≡ Read) where
+module _ (x : Text) (read : sheet_outcome x ≡ Ok tt) where
   fit : AllFit (lines x)
   fit = (good-sheet x read).fit
 
@@ -149,6 +143,6 @@ module _ (x : Text) (read : sheet_outcome x ≡ Read) where
   pub tidied-twice : tidy_sheet (tidy_sheet x) ≡ tidy_sheet x
   tidied-twice = ap tidy_lines lines_are ∙ lines-again (lines x) fit
 
-  pub tidied-read : length (tidy_sheet x) ≤ max_file → sheet_outcome (tidy_sheet x) ≡ Read
+  pub tidied-read : length (tidy_sheet x) ≤ max_file → sheet_outcome (tidy_sheet x) ≡ Ok tt
   tidied-read h =
       rw (le-ltb max_file (length (tidy_sheet x)) h, (split-again (lines x) fit).1, lines_are) (read_again (lines x) fit 0 [] ∙ (lines-read x read).1)

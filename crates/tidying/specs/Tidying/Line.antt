@@ -1,6 +1,6 @@
 -- A line of a tidied sheet: its model as `write_model` writes it, and the line by its pieces.
 use mathlib.Core.{Path.◌≡◌, Path.refl, Path.sym, Path.ap, Path.◌∙◌, Bool.true}
-use Rattle.std.specs.Prelude.{List, [], ◌∷◌, ◌++◌, ℕ, ◌+◌, ◌-◌, ◌≤◌, ◌<◌, length, take, drop, get_or}
+use Rattle.std.specs.Prelude.{List, [], ◌∷◌, ◌++◌, ℕ, ◌+◌, ◌-◌, ◌≤◌, ◌<◌, length, take, drop, get_or, Result, Ok}
 use Rattle.std.proofs.Common.{append_assoc, append-nil, arith, length-append, length-take, length-drop}
 use lib.{Seq.take_at, Seq.drop_at}
 use borrow.{Author.Tests.le-leb, Rule.Slice.PartMut.put_mid}
@@ -8,15 +8,14 @@ use Rattle.fields.specs.{Tests.tells-le, Tests.tells-and, Bytes.Text, Bytes.is_n
 use Rattle.fields.specs.{Split.joined_by, Split.Laws.joined-split}
 use Rattle.fields.specs.{declared.split.Heads.Heads, Heads.heads_of, Heads.Laws.Three, Heads.Laws.fields-enough}
 use Rattle.fields.specs.Split.{line_feed, tab, fields, field, part}
-use Rattle.fields.specs.Put.{Put, Begun, Laws.put-length, Laws.put_first, Laws.begun_all, Laws.piece-put}
+use Rattle.fields.specs.Put.{Put, Begun, put_end, put_at, Laws.put-fits, Laws.put-length, Laws.put_first, Laws.begun_all, Laws.piece-put}
 use Rattle.model.specs.{Fault.accepted, Accept.Length.text-short}
 use Rattle.model.proofs.AcceptLaws.{accepted-within}
 use Rattle.judge.specs.Answer.{answer, answer-is}
 use Rattle.sheet.specs.{Sheet.kind, Sheet.model}
 use Rattle.sheet.proofs.{SheetLaws.part-size, SheetGood.Accepted}
-use Rattle.canonical.specs.{declared.fault.WriteFault.WriteFault, declared.write.Written.Written, Canonical.canonical}
-use Rattle.canonical.specs.declared.write.Written.TheVariants.{Length, Refused}
-use Rattle.canonical.specs.Canonical.{write_reply, wrote, written_of, buffer_written, Accepted.canonical-formed, Accepted.canonical-within}
+use Rattle.canonical.specs.{declared.fault.Unwritten.Unwritten, Canonical.canonical}
+use Rattle.canonical.specs.Canonical.{write_reply, wrote, written_of, Accepted.canonical-formed, Accepted.canonical-within}
 use Rattle.tidying.specs.Tidying.{tidy_model, tidy_line}
 
 -- a model text that is accepted, and room for what it is written as
@@ -38,25 +37,12 @@ module _ {m : Text} (a : Accepted m) where
   reply-is k h = let fits = le-leb (length (tidy_model m)) k h in rw (tree_is, rw tree_is at fits)
 
 -- what `write_model` answers of such a text
-module _ (old : Text) {m : Text} {w : Written} (r : ModelReady m (length old)) (answered : w ≡ written_of (write_reply m (length old))) where
+module _ (old : Text) {m : Text} {w : Result ℕ Unwritten} (r : ModelReady m (length old)) (answered : w ≡ written_of (write_reply m (length old))) where
   written : write_reply m (length old) ≡ wrote (tidy_model m)
   written = reply-is r.is_accepted (length old) r.fits
 
-  answered-so : w ≡ Length (length (tidy_model m))
+  pub answered-so : w ≡ Ok (length (tidy_model m))
   answered-so = answered ∙ ap written_of written
-
-  pub model-put : {new : Text} {n : ℕ} → new ≡ buffer_written (write_reply m (length old)) old → w ≡ Length n → Put old new 0 (tidy_model m) n
-  model-put {new} {n} after e =
-      let z : n ≡ length (tidy_model m) = cc (e, answered-so) in
-      let i : length (tidy_model m) ≡ 0 + length (tidy_model m) = omega arith in
-      record {
-        fits = omega (arith, r.fits);
-        end_is = omega arith;
-        text_is = after ∙ ap (λ o. buffer_written o old) written ∙ ap (λ j. tidy_model m ++ drop j old) i;
-      }
-
-  pub model-not-refused : {C : Type 0} {f : WriteFault} {p : ℕ} → w ≡ Refused f p → C
-  model-not-refused e = let z : ◌≡◌ {A = ℕ} 0 1 = cc (e, answered-so) in absurd (omega arith)
 
 -- a write at the beginning, and one into the part of the buffer behind it
 pub put-behind : {old mid y : Text} {s t : Text} {a n : ℕ} → Put old mid 0 s a → Put (take (length mid - a) (drop a mid)) y 0 t n
@@ -121,22 +107,29 @@ module _ {l : Text} (r : RuleFits l) where
         rw (length-append (kind l))
         (omega (arith, t.ascending, a, ap length (sym t.first_is ∙ r.word), b, ap length t.second_is))
 
-    head-is : part l 0 (h.second + 1) ≡ head l
-    head-is = ap (take ((h.second + 1) - 0)) line_is ∙ take_at (head l) (model l) ((h.second + 1) - 0) (omega (arith, start_is))
+    head-is : take (h.second + 1) l ≡ head l
+    head-is = ap (take (h.second + 1)) line_is ∙ take_at (head l) (model l) (h.second + 1) (omega (arith, start_is))
 
-    pub rule-pieces : (part l 0 (h.second + 1) ++ tidy_model (part l (h.second + 1) h.third)) ++ (line_feed ∷ []) ≡ tidy_line l
+    pub rule-pieces : (take (h.second + 1) l ++ tidy_model (part l (h.second + 1) h.third)) ++ (line_feed ∷ []) ≡ tidy_line l
     rule-pieces =
-        ap (λ m. (part l 0 (h.second + 1) ++ tidy_model m) ++ (line_feed ∷ [])) (sym rule-three.third_is)
+        ap (λ m. (take (h.second + 1) l ++ tidy_model m) ++ (line_feed ∷ [])) (sym rule-three.third_is)
         ∙ ap (λ w. (w ++ tidy_model (model l)) ++ (line_feed ∷ [])) head-is
         ∙ regrouped (bytes "rule") (kind l) (tidy_model (model l))
       where
         regrouped : (a b c : Text) → ((a ++ (tab ∷ (b ++ (tab ∷ [])))) ++ c) ++ (line_feed ∷ []) ≡ a ++ (tab ∷ (b ++ (tab ∷ (c ++ (line_feed ∷ [])))))
         regrouped a b c = simp append_assoc
 
+    pub start-length : length (take (h.second + 1) l) ≡ h.second + 1
+    start-length = rw length-take (omega (arith, rule-three.ascending))
+
     pub rule-sum : length (tidy_line l) ≡ ((h.second + 1) + length (tidy_model (part l (h.second + 1) h.third))) + 1
     rule-sum =
-        let n = part-size l 0 (h.second + 1) (omega (arith, rule-three.ascending)) in
-        ap length (sym rule-pieces) ∙ rw (length-append, length-append) (omega (arith, n))
+        ap length (sym rule-pieces) ∙ rw (length-append, length-append) (omega (arith, start-length))
 
     pub rule-ready : {k : ℕ} → length (tidy_model (part l (h.second + 1) h.third)) ≤ k → ModelReady (part l (h.second + 1) h.third) k
     rule-ready f = record { is_accepted = rw rule-three.third_is at r.is_accepted; fits = f }
+
+    -- what stands before the model is put
+    pub head-put : {old mid : Text} {a : ℕ} → length (tidy_line l) ≤ length old → a ≡ put_end old 0 (take (h.second + 1) l)
+        → mid ≡ put_at old 0 (take (h.second + 1) l) → Put old mid 0 (take (h.second + 1) l) a
+    head-put {old} {mid} {a} f i t = put-fits old mid 0 (take (h.second + 1) l) a (rw length-take (omega (arith, f, rule-sum))) i t

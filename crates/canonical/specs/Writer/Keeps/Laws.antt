@@ -2,7 +2,7 @@
 use mathlib.Core.{Path.◌≡◌, Path.refl, Path.sym, Path.ap, Path.◌∙◌, Logic.inl, Logic.inr, Logic.⊎_elim}
 use Rattle.std.specs.Prelude.{Bool, false, ◌||◌}
 use Rattle.std.proofs.Common.{true≢false, arith, ne_eqb}
-use Prim.Native.{Nat.ℕ, Nat.◌+◌, Nat.◌≤◌, Nat.◌<◌, Char.code}
+use Prim.Native.{Nat.ℕ, Nat.◌+◌, Nat.◌≤◌, Nat.◌<◌}
 use lib.{Dec.eqb}
 use Rattle.fields.specs.{Bytes.Text, Tests.by-test, Tests.neither}
 use Rattle.model.specs.{declared.rule.Sign.Sign, declared.rule.Mark.Mark}
@@ -14,44 +14,20 @@ use Rattle.model.specs.Syntax.{Spelling, Syntax}
 use Rattle.canonical.specs.{declared.tidy.Tidied.Tidied, declared.tidy.Gathered.Gathered}
 use Rattle.canonical.specs.Tidy.{fitting, marking, stripped}
 use Rattle.canonical.specs.Writer.Tidied.{marking_by, stripped_by, placed_at, remarked_by, nothing_by, no_members, grouped_by, group_closed_by}
-use Rattle.canonical.specs.Writer.Keeps.{sign_byte, sign_code, NamedAt, KeepsTree, KeepsMembers}
+use Rattle.canonical.specs.Writer.Head.{is_nothing}
+use Rattle.canonical.specs.Writer.Keeps.{sign_byte, shape_of, NamedAt, KeepsTree, KeepsMembers}
 
--- signs by their bytes
-pub choice-byte : (s : Sign) → eqb (sign_byte s) (code "|") ≡ is_choice s
-choice-byte None = refl
-choice-byte Sequence = refl
-choice-byte Choice = refl
-choice-byte Interleaving = refl
-
-pub same_byte : (r s : Sign) → eqb (sign_byte r) (sign_byte s) ≡ same_sign s r
-same_byte None None = refl
-same_byte None Sequence = refl
-same_byte None Choice = refl
-same_byte None Interleaving = refl
-same_byte Sequence None = refl
-same_byte Sequence Sequence = refl
-same_byte Sequence Choice = refl
-same_byte Sequence Interleaving = refl
-same_byte Choice None = refl
-same_byte Choice Sequence = refl
-same_byte Choice Choice = refl
-same_byte Choice Interleaving = refl
-same_byte Interleaving None = refl
-same_byte Interleaving Sequence = refl
-same_byte Interleaving Choice = refl
-same_byte Interleaving Interleaving = refl
-
-pub no-atom : (s : Sign) → eqb 1 (sign_byte s) ≡ false
-no-atom None = refl
-no-atom Sequence = refl
-no-atom Choice = refl
-no-atom Interleaving = refl
+some-sign : (s : Sign) → 0 < sign_byte s → same_sign None s ≡ false
+some-sign None h = absurd (omega arith)
+some-sign Sequence h = refl
+some-sign Choice h = refl
+some-sign Interleaving h = refl
 
 -- where a tree stands does not matter
 pub keeps_placed : {x : Text} {u : Syntax} {r : Tidied} (top next : ℕ) → KeepsTree x u r → KeepsTree x u (placed_at top next r)
 keeps_placed top next k =
     record {
-      sign_is = k.sign_is;
+      shape_is = k.shape_is;
       mark_is = k.mark_is;
       nullable_is = k.nullable_is;
       members_is = k.members_is;
@@ -63,7 +39,7 @@ keeps_placed top next k =
 pub keeps-nil : (x : Text) (top next : ℕ) → KeepsTree x nil (nothing_by top next)
 keeps-nil x top next =
     record {
-      sign_is = refl;
+      shape_is = refl;
       mark_is = refl;
       nullable_is = refl;
       members_is = refl;
@@ -72,19 +48,19 @@ keeps-nil x top next =
       kind_is = inl refl;
     }
 
--- `()` has no sign
+-- `()` is nothing
 module _ {x : Text} {p : ℕ} where
   pub named_some : (u : Syntax) → NamedAt x u p → is_nil u ≡ false
   named_some (marked m (leaf a)) h = refl
   named_some (marked m (group s none)) h = absurd (omega (arith, h.proper.0))
   named_some (marked m (group s (t ▹ ts))) h = refl
 
-  named-signed : (u : Syntax) → NamedAt x u p → eqb (sign_code (node_under u)) 0 ≡ false
+  named-signed : (u : Syntax) → NamedAt x u p → is_nothing (shape_of (node_under u)) ≡ false
   named-signed (marked m (leaf a)) h = refl
-  named-signed (marked m (group s ts)) h = ne_eqb (sign_byte s) 0 (λ e. omega (arith, h.proper.1))
+  named-signed (marked m (group s ts)) h = some-sign s h.proper.1
 
-pub nil-sign : {x : Text} (u : Syntax) {r : Tidied} → KeepsTree x u r → eqb r.sign 0 ≡ is_nil u
-nil-sign u k = rw k.sign_is (⊎_elim (λ e. rw e) (λ p. named-signed u p ∙ sym (named_some u p)) k.kind_is)
+pub nil-sign : {x : Text} (u : Syntax) {r : Tidied} → KeepsTree x u r → is_nothing r.head.shape ≡ is_nil u
+nil-sign u k = rw k.shape_is (⊎_elim (λ e. rw e) (λ p. named-signed u p ∙ sym (named_some u p)) k.kind_is)
 
 -- another mark
 pub members-under : (m k : Mark) (n : Node Spelling) → members_of (marked m n) ≡ members_of (marked k n)
@@ -95,7 +71,7 @@ keeps-remarked : {x : Text} {r : Tidied} (m k : Mark) (n : Node Spelling) → is
     → KeepsTree x (marked m n) (remarked_by m r)
 keeps-remarked m k n i h =
     record {
-      sign_is = h.sign_is;
+      shape_is = h.shape_is;
       mark_is = refl;
       nullable_is = h.nullable_is;
       members_is = h.members_is ∙ ap size (members-under k m n);
@@ -109,15 +85,15 @@ keeps-marking m (marked k n) {r} h =
     rw (nil-sign (marked k n) h) (by-test (is_plain m || is_nil (marked k n))
     (λ e. rw e h)
     (λ e. rw (e, ← h.nullable_is)
-    (keeps-remarked (fitting m r.nullable) k n (neither (is_plain m) (is_nil (marked k n)) e).1 h)))
+    (keeps-remarked (fitting m r.head.nullable) k n (neither (is_plain m) (is_nil (marked k n)) e).1 h)))
 
-pub keeps-stripped : {x : Text} (s : Sign) (u : Syntax) {r : Tidied} → KeepsTree x u r → KeepsTree x (stripped s u) (stripped_by (sign_byte s) r)
-keeps-stripped s u h = rw (choice-byte s) (by-test (is_choice s) (λ c. rw c (keeps-marking Nonempty u h)) (λ c. rw c h))
+pub keeps-stripped : {x : Text} (s : Sign) (u : Syntax) {r : Tidied} → KeepsTree x u r → KeepsTree x (stripped s u) (stripped_by s r)
+keeps-stripped s u h = by-test (is_choice s) (λ c. rw c (keeps-marking Nonempty u h)) (λ c. rw c h)
 
 -- a group of the members
 module _ {x : Text} (s : Sign) {v : Bool} {g : Gathered} where
   pub keeps-grouped : (us : Members Spelling) (next : ℕ) → KeepsMembers x s us v g → (2 ≤ size us → 0 < sign_byte s)
-      → KeepsTree x (grouped s us) (grouped_by g (sign_byte s) next)
+      → KeepsTree x (grouped s us) (grouped_by g s next)
   keeps-grouped none next k f = rw k.members_are (keeps-nil x g.top next)
   keeps-grouped (u ▹ none) next k f = rw k.members_are (keeps_placed (g.top + 1) next (k.last_is u refl))
   keeps-grouped (u ▹ w ▹ us) next k f =
@@ -125,7 +101,7 @@ module _ {x : Text} (s : Sign) {v : Bool} {g : Gathered} where
       let b : eqb g.members 1 ≡ false = ne_eqb g.members 1 (λ e. omega (arith, k.members_are)) in
       rw (a, b)
       record {
-        sign_is = refl;
+        shape_is = refl;
         mark_is = refl;
         nullable_is = k.members_nullable (omega arith);
         members_is = k.members_are;
@@ -135,8 +111,8 @@ module _ {x : Text} (s : Sign) {v : Bool} {g : Gathered} where
       }
 
   pub keeps-closed : (us : Members Spelling) (next : ℕ) → KeepsMembers x s us v g → (2 ≤ size us → 0 < sign_byte s)
-      → KeepsTree x (marking (dropped_mark s v) (grouped s us)) (group_closed_by g (sign_byte s) next)
-  keeps-closed us next k f = rw (choice-byte s, k.given_is) (keeps-marking (dropped_mark s v) (grouped s us) (keeps-grouped us next k f))
+      → KeepsTree x (marking (dropped_mark s v) (grouped s us)) (group_closed_by g s next)
+  keeps-closed us next k f = rw k.given_is (keeps-marking (dropped_mark s v) (grouped s us) (keeps-grouped us next k f))
 
 -- no members yet
 pub keeps-none : (x : Text) (s : Sign) (top : ℕ) → KeepsMembers x s none false (no_members top)

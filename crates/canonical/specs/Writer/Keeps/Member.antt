@@ -20,8 +20,8 @@ use Rattle.canonical.specs.Order.Smallest.{smallest-append}
 use Rattle.canonical.specs.Tidy.{Append.some-append, Append.all_append}
 use Rattle.canonical.specs.Tidy.{tree_nullable, some_nullable, all_nullable, group_nullable}
 use Rattle.canonical.specs.Writer.Tidied.{smaller_by, both_by, holds_empty, noted_by, added_by, joins_by}
-use Rattle.canonical.specs.Writer.Keeps.{sign_byte, LeastAt, NamedAt, KeepsTree, KeepsMembers}
-use Rattle.canonical.specs.Writer.Keeps.Laws.{choice-byte, same_byte, no-atom, named_some, nil-sign}
+use Rattle.canonical.specs.Writer.Keeps.{LeastAt, NamedAt, KeepsTree, KeepsMembers}
+use Rattle.canonical.specs.Writer.Keeps.Laws.{named_some, nil-sign}
 
 -- the smaller of two names is that of both lists
 name-if : (x : Text) (b : Bool) (p q : ℕ) → name_from x (cond b p q) ≡ cond b (name_from x p) (name_from x q)
@@ -39,9 +39,9 @@ some-group s none h = absurd (omega arith)
 some-group s (t ▹ ts) h = refl
 
 nullable-append : (s : Sign) (ts us : Members Spelling) → 0 < size ts → 0 < size us
-    → group_nullable (ts ⧺ us) s ≡ both_by (sign_byte s) (group_nullable ts s) (group_nullable us s)
+    → group_nullable (ts ⧺ us) s ≡ both_by s (group_nullable ts s) (group_nullable us s)
 nullable-append s ts us h k =
-    rw (choice-byte s, some-group s ts h, some-group s us k, some-group s (ts ⧺ us) (omega (arith, append-size ts us)), some-append ts us, all_append ts us)
+    rw (some-group s ts h, some-group s us k, some-group s (ts ⧺ us) (omega (arith, append-size ts us)), some-append ts us, all_append ts us)
     (by-test (is_choice s) (λ e. rw e) (λ e. rw e))
 
 -- the members ws behind us, where n, k, b, p are kept of ws
@@ -53,7 +53,7 @@ module _ {x : Text} (s : Sign) {us : Members Spelling} {v : Bool} {g : Gathered}
         last = last;
         given = g.given;
         members = g.members + n;
-        nullable = cond (eqb g.members 0) b (both_by (sign_byte s) g.nullable b);
+        nullable = cond (eqb g.members 0) b (both_by s g.nullable b);
         size = g.size + k;
         least = cond (eqb g.members 0) p (smaller_by x g.least p);
         top = top;
@@ -114,9 +114,9 @@ module _ {x : Text} (s : Sign) {us : Members Spelling} {v : Bool} {g : Gathered}
 
 -- A member that is kept as t.
 module _ {x : Text} (s : Sign) {t : Tidied} where
-  pub joins-merges : (u : Syntax) → KeepsTree x u t → joins_by (sign_byte s) t ≡ merges s u
-  joins-merges (marked m (leaf a)) k = rw (k.sign_is, no-atom s)
-  joins-merges (marked m (group r ts)) k = rw (k.sign_is, k.mark_is, same_byte r s)
+  pub joins-merges : (u : Syntax) → KeepsTree x u t → joins_by s t ≡ merges s u
+  joins-merges (marked m (leaf a)) k = rw k.shape_is
+  joins-merges (marked m (group r ts)) k = rw (k.shape_is, k.mark_is)
 
 pub holds-empty : {x : Text} (u : Syntax) {t : Tidied} → KeepsTree x u t → holds_empty t ≡ tree_nullable u
 holds-empty (marked m n) k = rw (k.mark_is, k.nullable_is)
@@ -152,7 +152,7 @@ module _ {x : Text} (s : Sign) {us : Members Spelling} {v : Bool} {g : Gathered}
 
   module _ (t : Tidied) where
     abbrev Added : Syntax → Type 0
-    Added u = KeepsMembers x s (us ⧺ gathered s (u ∷ [])) v (added_by x g (sign_byte s) t)
+    Added u = KeepsMembers x s (us ⧺ gathered s (u ∷ [])) v (added_by x g s t)
 
     dropped : (u : Syntax) → KeepsTree x u t → is_nil u ≡ true → Added u
     dropped u k e = rw (nil-sign u k, e, append-none us) h
@@ -164,12 +164,12 @@ module _ {x : Text} (s : Sign) {us : Members Spelling} {v : Bool} {g : Gathered}
         go none e = ap (λ (ts : Members Spelling). first_of ts w) e
         go (t ▹ ts) e = absurd (omega (arith, ap size e, append-size ts (w ▹ none)))
 
-    module _ (u : Syntax) (k : KeepsTree x u t) (p : NamedAt x u t.least) where
+    module _ (u : Syntax) (k : KeepsTree x u t) (p : NamedAt x u t.head.least) where
       -- a member that stays
       stays : merges s u ≡ false → Added u
       stays e =
           rw (nil-sign u k, named_some u p, e, joins-merges s u k, e)
-          (keeps-more s h (u ▹ none) 1 t.size t.least (holds_empty t) t (t.top - 1) (omega arith)
+          (keeps-more s h (u ▹ none) 1 t.head.size t.head.least (holds_empty t) t (t.top - 1) (omega arith)
           refl (omega (arith, k.size_is)) (holds-empty u k ∙ sym (one-nullable s u)) k.least_inside (rw append-nil p.least)
           (λ w i. subst (λ (y : Syntax). KeepsTree x y t) (only_one u w i) k))
 
@@ -178,7 +178,7 @@ module _ {x : Text} (s : Sign) {us : Members Spelling} {v : Bool} {g : Gathered}
       merges-in e =
           let c = merged-two s u p e in
           rw (nil-sign u k, named_some u p, e, joins-merges s u k, e, append-none (members_of u))
-          (keeps-more s h (members_of u) t.members (t.size - 1) t.least (holds_empty t) t t.top (omega (arith, c))
+          (keeps-more s h (members_of u) t.head.members (t.head.size - 1) t.head.least (holds_empty t) t t.top (omega (arith, c))
           k.members_is (omega (arith, k.size_is, merged-nodes s u e)) (holds-empty u k ∙ ap tree_nullable (merged s u e)) k.least_inside
           (rw (merged-leaves s u e) p.least)
           (λ y i. absurd (omega (arith, c, ap size i, append-size us (members_of u)))))

@@ -3,12 +3,15 @@ use mathlib.Core.{Path.◌≡◌, Path.refl, Path.sym, Path.ap, Path.◌∙◌, 
 use mathlib.Core.{Bool.true, Bool.false, List.List, List.[], List.◌∷◌, List.◌++◌, List.map, List.map-append}
 use Rattle.std.specs.Prelude.{ℕ, suc, ◌+◌, ◌-◌, ◌≤◌, ◌<◌, length, take, drop, get_or, set}
 use native.Mathlib.{Omega.arith, Decide.dec_lt}
+use Rattle.std.specs.List.{copy_within}
+use Rattle.std.proofs.Common.{length-append, length-drop, take_at, drop_at}
 use Rattle.std.proofs.Common.{length-take, length-set, drop_of_length-le, take-append-drop, drop-cons, drop-set-lt, take-take, get_or-set_same}
 use Rattle.std.proofs.Common.{get_or-set_other, get_or-take, get_or-drop}
-use Rattle.std.proofs.lemmas.List.{drop-append-le, take-set-le}
+use Rattle.std.proofs.lemmas.List.{drop-append-le, take-append-le, take-set-le}
 use Rattle.std.proofs.Math.Seq.{take-set-lt}
-use Rattle.fields.specs.{Bytes.Text, Stack.slice_back}
+use Rattle.fields.specs.{Bytes.Text, Stack.slice_back, Stack.slice_is}
 use Rattle.model.specs.{Tree.Members, Tree.none, Tree.◌▹◌, Syntax.Spelling, Syntax.Syntax}
+use Rattle.canonical.specs.declared.head.Head.{Head}
 use Rattle.canonical.specs.Order.{not_after, smallest_name, insert}
 use Rattle.canonical.specs.Writer.{Stack.turned, Lists.tree_at, Lists.trees_listed, Lists.Inserted}
 
@@ -46,25 +49,29 @@ pub moved_none : (list : List ℕ) (start end : ℕ) → start ≤ end → end <
 moved_none list start end h i =
     record { inside = (h, omega arith, i); list_length = refl; below = refl; above = nothing-behind list (suc end) ∙ sym (nothing-behind list end) }
 
+pub moved-on : {old new : List ℕ} {start end k : ℕ} → start ≤ k → k ≤ end → end < length old → length new ≡ length old
+    → new ≡ copy_within old k end (k + 1) → Moved old new start end k
+moved-on {old} {new} {start} {end} {k} h i j l e =
+    let a = take (k + 1) old in
+    let b = take (end - k) (drop k old) in
+    let c = drop (k + 1 + (end - k)) old in
+    let la : length a ≡ suc k = length-take (k + 1) old ∙ omega arith in
+    let lb : length (a ++ b) ≡ suc end = rw (length-append, length-take, length-take, length-drop) (omega arith) in
+    record {
+      inside = (h, i, j);
+      list_length = l;
+      below = ap (take k) e ∙ take-append-le k (a ++ b) c (omega arith) ∙ take-append-le k a b (omega arith) ∙ take-take k (k + 1) old (omega arith);
+      above =
+          ap (λ (r : List ℕ). drop (suc k) (take (suc end) r)) e ∙ ap (drop (suc k)) (take_at (a ++ b) c (suc end) lb)
+          ∙ drop_at a b (suc k) la ∙ sym (slice_is k end old);
+    }
+
 module _ {old new : List ℕ} {start end k : ℕ} (c : Moved old new start end k) where
   fewer-below : (n : ℕ) → n ≤ k → take n new ≡ take n old
   fewer-below n h = sym (take-take n k new h) ∙ ap (take n) c.below ∙ take-take n k old h
 
   same-below : (j : ℕ) → j < k → get_or new j 0 ≡ get_or old j 0
   same-below j h = sym (get_or-take k new j 0 h) ∙ ap (λ l. get_or l j 0) c.below ∙ get_or-take k old j 0 h
-
-  pub moved_more : start < k → Moved old (set new k (get_or new (k - 1) 0)) start end (k - 1)
-  moved_more h =
-      let e : suc (k - 1) ≡ k = omega arith in
-      let v = get_or new (k - 1) 0 in
-      record {
-        inside = omega arith;
-        list_length = rw length-set c.list_length;
-        below = take-set-le (k - 1) new k v (omega arith) ∙ fewer-below (k - 1) (omega arith);
-        above =
-            rw (e, part-set new k (suc end) v (omega arith) (omega arith), c.above, same-below (k - 1) (omega arith))
-            (sym (slice_back old end k 0 (omega arith) (omega arith) (omega arith)));
-      }
 
   -- one more is put at k
   module _ (m : ℕ) where
@@ -100,7 +107,7 @@ module _ {old new : List ℕ} {start end k : ℕ} (c : Moved old new start end k
         (λ o. let e : j ≡ k = omega arith in inl (ap (λ q. get_or (set new k m) q 0) e ∙ get_or-set_same new k m 0 (omega arith))))
 
 -- the trees of a list
-module _ (x : Text) (stack : List ℕ) where
+module _ (x : Text) (stack : List Head) where
   abbrev trees_at : List ℕ → List Syntax
   trees_at l = map (tree_at x stack) l
 

@@ -5,13 +5,13 @@ use native.Mathlib.{Omega.arith, Decide.dec_lt}
 use Rattle.std.proofs.lemmas.Bool.{not-true, not-false}
 use Rattle.fields.specs.{Bytes.Text, Tests.by-test}
 use Rattle.model.specs.{Tree.◌▹◌, Syntax.Syntax}
+use Rattle.canonical.specs.declared.head.Head.{Head}
 use Rattle.canonical.specs.Order.{not_after, smallest_name, insert, Smallest.not-after-itself, Smallest.not-after-trans}
 use Rattle.canonical.specs.Neat.{Rising}
-use Rattle.canonical.specs.Writer.Lists.{head_at, tree_at, trees_listed, is_behind, Falling, TwoMembers, Narrowed, InsertReady, Inserted}
-use Rattle.canonical.specs.Writer.Place.{behind_name}
+use Rattle.canonical.specs.Writer.Lists.{tree_at, trees_listed, is_behind, Falling, Narrowed, Inserted}
 use Rattle.canonical.specs.Writer.Lists.Laws.{Moved, listed-less, BehindInserted, behind-none, behind_more, stops-there, stops_first, inserted}
 
-module _ (x : Text) (stack : List ℕ) where
+module _ (x : Text) (stack : List Head) where
   not-behind-trans : (p q r : ℕ) → is_behind x stack p q ≡ false → is_behind x stack q r ≡ false → is_behind x stack p r ≡ false
   not-behind-trans p q r h k =
       let name : ℕ → Text = λ o. smallest_name (tree_at x stack o) in
@@ -42,15 +42,7 @@ module _ (x : Text) (stack : List ℕ) where
         (rising-falls n (omega arith) r.1 i (n - 1) h (omega arith) (omega arith)))
         (λ p. let g : i ≡ n = omega arith in rw g (ap not (not-after-itself (smallest_name (tree_at x stack (get_or list n 0))))))))
 
-module _ {x : Text} {stack list : List ℕ} {start end m : ℕ} where
-  pub two-members : InsertReady x stack list start end m → {e : ℕ} → e ≡ behind_name x (head_at stack m).least
-      → (k : ℕ) → start ≤ k → k < end → TwoMembers x stack m e (get_or list k 0)
-  two-members r n k h i =
-      record { low = r.low; heads = r.heads; entries = r.entries; first = r.place; second = r.places k h i; name-end = n }
-
-  pub narrowed_none : {low : ℕ} → low ≡ start → start ≤ end → Narrowed x stack list start end m low end
-  narrowed_none e h = record { inside = omega (arith, e); behind = λ j i k. absurd (omega arith); stops = λ i. absurd (omega (arith, e)) }
-
+module _ {x : Text} {stack : List Head} {list : List ℕ} {start end m : ℕ} where
   module _ {low high : ℕ} (c : Narrowed x stack list start end m low high) (mid : ℕ) (h : (low ≤ mid) × (mid < high))
       {r : Bool} (t : r ≡ is_behind x stack m (get_or list mid 0)) where
     pub narrowed-below : Falling x stack list start end → r ≡ true → Narrowed x stack list start end m low mid
@@ -60,11 +52,6 @@ module _ {x : Text} {stack list : List ℕ} {start end m : ℕ} where
           behind = λ j i k. behind-too x stack m (get_or list mid 0) (get_or list j 0) (sym t ∙ e) (f mid j (omega (arith, c.inside)) i k);
           stops = c.stops;
         }
-
-    pub narrowed-above : {next : ℕ} → next ≡ mid + 1 → r ≡ false → Narrowed x stack list start end m next high
-    narrowed-above {next} n e =
-        let f : next - 1 ≡ mid = omega (arith, n) in
-        record { inside = omega (arith, c.inside, n); behind = c.behind; stops = λ i. rw f (sym t ∙ e) }
 
   -- the members from the place on move up
   module _ {k : ℕ} (c : Narrowed x stack list start end m k k) (l : end < length list) where

@@ -1,11 +1,10 @@
 -- Where names, counts and atoms end: a byte more, for the loops that run over them, and bounds.
-use mathlib.Core.{Path.◌≡◌, Path.refl, Path.ap, Path.◌∙◌, Logic.by_cases, List.[], List.◌∷◌}
-use Rattle.std.specs.Prelude.{Bool, true, false, cond, not, ◌&&◌, ◌||◌, ℕ, ◌+◌, ◌-◌, ◌≤◌, ◌<◌, eqb, leb, ltb, length, take, drop, get_or, set}
+use mathlib.Core.{Path.◌≡◌, Path.refl, Path.ap, Logic.by_cases, List.[], List.◌∷◌}
+use Rattle.std.specs.Prelude.{true, false, cond, not, ◌&&◌, ◌||◌, ℕ, ◌+◌, ◌-◌, ◌≤◌, ◌<◌, eqb, leb, ltb, length, take, drop, get_or, set}
 use Rattle.std.proofs.Math.Bool.{and-false, or-false, or-true}
 use Prim.Native.Char.{code}
 use native.Mathlib.{Omega.arith, Decide.dec_lt, Numerals.add-one}
-use Rattle.std.proofs.Common.{length-take, length-drop, length-set, drop_of_length-le, drop-cons, eqb-true, ltb-true, ltb-false, eq-eqb, ne_eqb, lt-ltb, le-ltb}
-use Rattle.std.proofs.Math.ListN.{get_or-eq_default}
+use Rattle.std.proofs.Common.{length-take, length-drop, length-set, drop-cons, eqb-true, ltb-true, ltb-false, eq-eqb, ne_eqb, lt-ltb, le-ltb}
 use Rattle.fields.specs.{Bytes.Text, Bytes.is_inner, Tests.by-test}
 use Rattle.model.specs.Fault.{name_from, is}
 use Rattle.judge.specs.Reading.Lexeme.Laws.{front-step, front-stop, front_out, front-short, stands-inside}
@@ -50,20 +49,11 @@ module _ (x : Text) (i : ℕ) where
   pub count-step : i < length x → (get_or x i 0 ≡ code "]" → ⊥) → count_from x i ≡ count_from x (i + 1)
   count-step h n = rw (drop-cons x i 0 h, ne_eqb (get_or x i 0) (code "]") n, add-one) (omega arith)
 
-  pub count-last : i < length x → get_or x i 0 ≡ code "]" → count_from x i ≡ i + 1
-  count-last h e = rw (drop-cons x i 0 h, eq-eqb (get_or x i 0) (code "]") e)
-
-  pub count-over : length x ≤ i → count_from x i ≡ i
-  count-over h = rw (drop_of_length-le x {i = i} h) (omega arith)
-
   pub count-some : get_or x i 0 ≡ code "[" → behind_count x i ≡ count_from x i
   count-some e = rw (eq-eqb (get_or x i 0) (code "[") e)
 
   pub count_none : (get_or x i 0 ≡ code "[" → ⊥) → i ≡ behind_count x i
   count_none n = rw (ne_eqb (get_or x i 0) (code "[") n)
-
-  pub count-out : length x ≤ i → i ≡ behind_count x i
-  count-out h = rw (get_or-eq_default x 0 {n = i} h)
 
 -- two names, byte by byte
 module _ (x : Text) (p q : ℕ) where
@@ -157,27 +147,8 @@ module _ {x : Text} {p n e : ℕ} (r : AtomEnds x p n e) where
   pub zero-by : zero_at x p ≡ ltb n e && is x (code "0") (n + 1)
   zero-by = rw (r.count_is, r.name_is)
 
-  -- a 0 behind the first byte of the count is inside the count
-  pub zero-inside : zero_at x p ≡ ltb (n + 1) e && is x (code "0") (n + 1)
-  zero-inside =
-      zero-by
-      ∙ by-test (is x (code "0") (n + 1))
-      (λ z.
-      let i : n + 1 < length x = stands-inside x (code "0") (n + 1) (omega arith) z in
-      by-test (ltb n e)
-      (λ t. rw (t, lt-ltb (n + 1) e (rw r.count_is (count-two x n (rw r.count_is at (ltb-true n e t)) i))))
-      (λ t. rw (t, le-ltb (n + 1) e (omega (arith, ltb-false n e t)))))
-      (λ z. simp (z, and-false))
-
   pub kept_by : kept_end x p ≡ cond (eqb e (n + 6) && leb (get_or x (n + 1) 0) (code "1") && is x (code "1") (n + 4)) n e
   kept_by = rw (r.count_is, r.name_is)
-
-  -- where the count has six bytes, by their test, and where it has not
-  pub kept-six : {b : Bool} → e ≡ n + 6 → leb (get_or x (n + 1) 0) (code "1") && is x (code "1") (n + 4) ≡ b → cond b n e ≡ kept_end x p
-  kept-six h t = rw (kept_by, eq-eqb e (n + 6) h, t)
-
-  pub kept-other : (e ≡ n + 6 → ⊥) → e ≡ kept_end x p
-  kept-other h = rw (kept_by, ne_eqb e (n + 6) h)
 
 -- the name at p ends at n, and what is kept of the atom at e
 pub record KeptEnds (x : Text) (p n e : ℕ) : Type 0 where

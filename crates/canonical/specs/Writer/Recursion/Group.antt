@@ -12,7 +12,7 @@ use Rattle.model.specs.declared.rule.Sign.TheVariants.{None, Sequence, Choice, I
 use Rattle.model.specs.Tree.{leaf, group, marked, Members, none, ◌▹◌, size, nodes, members_weight, SignFits, Formed, MembersFormed}
 use Rattle.model.specs.Syntax.{Spelling, Syntax, text, node_text, members_text, more_text, count_text, sign_text, mark_text, SpellingFormed}
 use Rattle.model.specs.Flatten.Append.{append-size, append-weight}
-use Rattle.canonical.specs.{declared.tidy.Gathered.Gathered}
+use Rattle.canonical.specs.{declared.head.Head.Head, declared.tidy.Gathered.Gathered}
 use Rattle.canonical.specs.Writer.Place.{Stops, TreeAt}
 use Rattle.canonical.specs.Writer.Tidied.{no_members, sign_after, member_after}
 use Rattle.canonical.specs.Writer.Keeps.{sign_byte}
@@ -65,10 +65,10 @@ module _ {x : Text} {p : ℕ} where
       subst (λ (b : ℕ). T (is_initial b)) (sym (byte_at x p b _ (i.splits ∙ ap (λ l. l ++ i.rest) q)) ∙ e) l
 
   -- behind the bracket
-  pub begins : {stack : List ℕ} {top : ℕ} → TidyReady x stack p top → get_or x p 0 ≡ code "(" → Looping x stack stack p top (p + 1) 0 (no_members top)
+  pub begins : {stack : List Head} {top : ℕ} → TidyReady x stack p top → get_or x p 0 ≡ code "(" → Looping x stack stack p top (p + 1) None (no_members top)
   begins {stack} {top} r e = go r.tree r.stands r.room
     where
-      go : (t : Syntax) → TreeAt x p t → nodes t ≤ top → Looping x stack stack p top (p + 1) 0 (no_members top)
+      go : (t : Syntax) → TreeAt x p t → nodes t ≤ top → Looping x stack stack p top (p + 1) None (no_members top)
       go (marked m (leaf a)) h k = absurd (no-atom h e)
       go (marked m (group s ts)) h k =
           record {
@@ -106,7 +106,7 @@ sign-some Sequence n h = omega arith
 sign-some Choice n h = omega arith
 sign-some Interleaving n h = omega arith
 
-sign-none : (s : Sign) → SignFits s 1 → sign_byte s ≡ 0
+sign-none : (s : Sign) → SignFits s 1 → s ≡ None
 sign-none None h = refl
 sign-none Sequence h = absurd (omega (arith, h))
 sign-none Choice h = absurd (omega (arith, h))
@@ -117,6 +117,12 @@ sign-stops None r h = absurd (omega arith)
 sign-stops Sequence r h = (tt, refl, λ z. absurd (omega (arith, z)))
 sign-stops Choice r h = (tt, refl, λ z. absurd (omega (arith, z)))
 sign-stops Interleaving r h = (tt, refl, λ z. absurd (omega (arith, z)))
+
+after-sign : (s r : Sign) → 0 < sign_byte s → sign_after r (sign_byte s) ≡ s
+after-sign None r h = absurd (omega arith)
+after-sign Sequence r h = refl
+after-sign Choice r h = refl
+after-sign Interleaving r h = refl
 
 -- Behind a member u, where the members l are left, at place q.
 module _ (x : Text) (s : Sign) (behind : Text) where
@@ -129,13 +135,13 @@ module _ (x : Text) (s : Sign) (behind : Text) where
       subst Stops (sym (append_assoc (sign_text s) (text w ++ more_text l s) (code ")" ∷ behind)))
       (sign-stops s ((text w ++ more_text l s) ++ (code ")" ∷ behind)) (f (omega arith))).0
 
-  pub record PastMember (l : Members Spelling) (q sign : ℕ) : Type 0 where
+  pub record PastMember (l : Members Spelling) (q : ℕ) (sign : Sign) : Type 0 where
     pub inside : q < length x
     pub ahead : drop (member_after q (get_or x q 0)) x ≡ members_text l s ++ (code ")" ∷ behind)
-    pub sign_is : sign_after sign (get_or x q 0) ≡ sign_byte s
+    pub sign_is : sign_after sign (get_or x q 0) ≡ s
     pub from : q ≤ member_after q (get_or x q 0)
 
-  pub behind-member : (l : Members Spelling) (q sign : ℕ) → drop q x ≡ after_member l → (0 < size l → 0 < sign_byte s) → (size l ≡ 0 → sign ≡ sign_byte s)
+  pub behind-member : (l : Members Spelling) (q : ℕ) (sign : Sign) → drop q x ≡ after_member l → (0 < size l → 0 < sign_byte s) → (size l ≡ 0 → sign ≡ s)
       → PastMember l q sign
   behind-member none q sign e f g =
       let b = byte_at x q (code ")") behind e in
@@ -154,12 +160,12 @@ module _ (x : Text) (s : Sign) (behind : Text) where
       record {
         inside = byte_inside x q (sign_byte s) r d;
         ahead = rw c (drop-behind x (sign_byte s ∷ []) r q d);
-        sign_is = rw c b;
+        sign_is = rw b (after-sign s sign (f (omega arith)));
         from = rw c (omega arith);
       }
 
 -- One turn of the loop.
-module _ {x : Text} {old new : List ℕ} {p top place sign : ℕ} {g : Gathered} (h : Looping x old new p top place sign g) where
+module _ {x : Text} {old new : List Head} {p top place : ℕ} {sign : Sign} {g : Gathered} (h : Looping x old new p top place sign g) where
   abbrev pub behind_group : Text
   behind_group = mark_text h.mark ++ h.stands.rest
 
@@ -218,7 +224,7 @@ module _ {x : Text} {old new : List ℕ} {p top place sign : ℕ} {g : Gathered}
         let e : size h.members ≡ suc (suc (size h.members - 2)) = omega (arith, size-parts) in
         sign-some h.sign_of_group (size h.members - 2) (subst (SignFits h.sign_of_group) e h.stands.formed.0)
 
-    pub last-signed : size t.others ≡ 0 → sign ≡ sign_byte h.sign_of_group
+    pub last-signed : size t.others ≡ 0 → sign ≡ h.sign_of_group
     last-signed i =
         ⊎_elim
         (λ (d, e). let n : size h.members ≡ 1 = omega (arith, size-parts, ap size d) in

@@ -12,8 +12,8 @@ use Rattle.model.specs.Flatten.{◌⧺◌, is_nil, merges, members_of, gathered}
 use Rattle.model.specs.Flatten.Merges.{merged}
 use Rattle.model.specs.Syntax.{Spelling, Syntax, text}
 use Rattle.model.specs.Flatten.Append.{append-none, append-thrice, append-weight}
-use Rattle.canonical.specs.{declared.tidy.Tidied.Tidied, declared.tidy.Gathered.Gathered, Tidy.stripped, Tidy.tidy}
-use Rattle.canonical.specs.Writer.Tidied.{stripped_by, noted_by, FitsOn, added_by, StackedBy, sign_after, member_after}
+use Rattle.canonical.specs.{declared.head.Head.Head, declared.tidy.Tidied.Tidied, declared.tidy.Gathered.Gathered, Tidy.stripped, Tidy.tidy}
+use Rattle.canonical.specs.Writer.Tidied.{stripped_by, noted_by, FitsOn, added_by, stacked_by, sign_after, member_after}
 use Rattle.canonical.specs.Writer.Keeps.{sign_byte, NamedAt, KeepsTree}
 use Rattle.canonical.specs.Writer.Keeps.{Laws.named_some, Laws.keeps-stripped, Member.keeps-noted, Member.keeps-member}
 use Rattle.canonical.specs.Writer.Stack.{stacked, trees_on}
@@ -61,8 +61,8 @@ one-signed s u k h =
     (λ j. absurd (omega (arith, rw (named_some u p, j) at h))))
     k.kind_is
 
-module _ {x : Text} {old new : List ℕ} {p top place sign : ℕ} {g : Gathered} (h : Looping x old new p top place sign g) (t : Turn h)
-    (mid : List ℕ) (r : Tidied) (k : TidiedAt x new mid place g.top r t.member) where
+module _ {x : Text} {old new : List Head} {p top place : ℕ} {sign : Sign} {g : Gathered} (h : Looping x old new p top place sign g) (t : Turn h)
+    (mid : List Head) (r : Tidied) (k : TidiedAt x new mid place g.top r t.member) where
   abbrev s : Sign
   s = h.sign_of_group
 
@@ -82,7 +82,7 @@ module _ {x : Text} {old new : List ℕ} {p top place sign : ℕ} {g : Gathered}
   u = stripped s (tidy t.member)
 
   abbrev q : Tidied
-  q = stripped_by (sign_byte s) r
+  q = stripped_by s r
 
   kept : KeepsTree x u q
   kept = keeps-stripped s (tidy t.member) k.keeps
@@ -125,7 +125,7 @@ module _ {x : Text} {old new : List ℕ} {p top place sign : ℕ} {g : Gathered}
       }
 
   -- with the sign and the place behind the member
-  abbrev sign' : ℕ
+  abbrev sign' : Sign
   sign' = sign_after sign (get_or x r.next 0)
 
   abbrev place' : ℕ
@@ -150,9 +150,9 @@ module _ {x : Text} {old new : List ℕ} {p top place sign : ℕ} {g : Gathered}
           let n : size h.members ≡ suc (suc (size h.members - 2)) = omega (arith, size-parts h t, ap size e) in
           sign-some s (size h.members - 2) (subst (SignFits s) n h.stands.formed.0)
 
-  module _ (after : List ℕ) (st : StackedBy mid after sign' (stripped_by sign' r)) where
+  module _ (after : List Head) (st : after ≡ stacked_by mid sign' (stripped_by sign' r)) where
     on_stack : Stepped x (gathered_of s done ⧺ gathered s (u ∷ [])) (trees_on x (drop top old)) mid after
-        (g.top + members_weight 1 1 (gathered_of s done)) (added_by x (noted_by r g) (sign_byte s) q).top
+        (g.top + members_weight 1 1 (gathered_of s done)) (added_by x (noted_by r g) s q).top
     on_stack =
         stepped x s (gathered_of s done) (noted_by r g) q (trees_on x (drop top old)) mid after u kept
         (record {

@@ -2,12 +2,12 @@
 use mathlib.Core.{Path.◌≡◌, Path.refl, Path.sym, Path.ap, Path.◌∙◌, List.List, List.[], List.◌∷◌, List.◌++◌}
 use Rattle.std.specs.Prelude.{ℕ, zero, suc, ◌+◌, ◌-◌, ◌≤◌, ◌<◌}
 use native.Mathlib.{Omega.arith, Nat.zero-add, Nat.add-zero}
-use lib.{Dec.eqb, ListN.length, ListN.take, ListN.drop, ListN.get_or, ListN.take-append-drop, ListN.length-drop}
+use lib.{ListN.length, ListN.take, ListN.drop, ListN.get_or, ListN.take-append-drop, ListN.length-drop}
 use Rattle.std.proofs.Common.{drop-cons, drop-drop, take-add, take-suc, get_or-drop}
 use Rattle.fields.specs.{Bytes.Text, Tests.by-test}
 use Rattle.model.specs.{Fault.name_from, Flatten.nil, Syntax.Spelling, Syntax.Syntax}
 use Rattle.model.specs.Tree.{leaf, group, marked, Members, none, ◌▹◌, nodes, members_weight}
-use Rattle.canonical.specs.{declared.head.Head.Head, Order.smallest_name, Writer.Head.head_in, Writer.Lists.tree_at, Writer.Lists.head_at}
+use Rattle.canonical.specs.{declared.head.Head.Head, Order.smallest_name, Writer.Head.no_head, Writer.Head.is_atom, Writer.Lists.tree_at, Writer.Lists.head_at}
 use Rattle.canonical.specs.Writer.Stack.{turned, tree_with, trees_on, HeadFits, HeadsFit}
 
 -- a sum over trees
@@ -34,10 +34,10 @@ abbrev pub spans : ℕ → List Syntax → ℕ
 spans n l = sum nodes (take n l)
 
 -- the trees below the head at p, and the place behind n of them
-abbrev pub trees_below : Text → List ℕ → ℕ → List Syntax
+abbrev pub trees_below : Text → List Head → ℕ → List Syntax
 trees_below x stack p = trees_on x (drop (suc p) stack)
 
-abbrev pub place_behind : Text → List ℕ → ℕ → ℕ → ℕ
+abbrev pub place_behind : Text → List Head → ℕ → ℕ → ℕ
 place_behind x stack p n = suc p + spans n (trees_below x stack p)
 
 spans-add : (n m : ℕ) (l : List Syntax) → spans (n + m) l ≡ spans n l + spans m (drop n l)
@@ -66,7 +66,7 @@ module _ {x : Text} {h : Head} {l : List Syntax} (f : HeadFits x h l) where
   -- a node more than those of the members
   pub nodes-with : nodes (tree_with x h l) ≡ suc (spans h.members l)
   nodes-with =
-      by-test (eqb h.sign 1)
+      by-test (is_atom h.shape)
       (λ e. rw (e, (f.atom_is e).0))
       (λ e. rw e (omega (arith, sum-turned nodes (members_weight 1 1) (λ t ts. refl) (take h.members l) none)))
 
@@ -75,33 +75,33 @@ module _ (x : Text) where
   unfolding trees_on
   trees-none = refl
 
-  pub trees-more : (w : ℕ) (l : List ℕ) → trees_on x (w ∷ l) ≡ tree_with x (head_in w) (trees_on x l) ∷ drop (head_in w).members (trees_on x l)
+  pub trees-more : (h : Head) (l : List Head) → trees_on x (h ∷ l) ≡ tree_with x h (trees_on x l) ∷ drop h.members (trees_on x l)
   unfolding trees_on
-  trees-more w l = refl
+  trees-more h l = refl
 
-  pub heads-drop : (n : ℕ) (l : List ℕ) → HeadsFit x l → HeadsFit x (drop n l)
+  pub heads-drop : (n : ℕ) (l : List Head) → HeadsFit x l → HeadsFit x (drop n l)
   heads-drop zero l h = h
   heads-drop (suc n) [] h = h
   heads-drop (suc n) (w ∷ l) h = heads-drop n l h.1
 
   -- behind the words of n trees stand the others
-  pub skip : (l : List ℕ) (n : ℕ) → HeadsFit x l → trees_on x (drop (spans n (trees_on x l)) l) ≡ drop n (trees_on x l)
+  pub skip : (l : List Head) (n : ℕ) → HeadsFit x l → trees_on x (drop (spans n (trees_on x l)) l) ≡ drop n (trees_on x l)
   skip [] zero h = refl
   skip [] (suc n) h = simp trees-none
   skip (w ∷ l) zero h = refl
   skip (w ∷ l) (suc n) h =
-      let m = (head_in w).members in
-      let e : nodes (tree_with x (head_in w) (trees_on x l)) + spans n (drop m (trees_on x l)) ≡ suc (spans (m + n) (trees_on x l)) =
+      let m = w.members in
+      let e : nodes (tree_with x w (trees_on x l)) + spans n (drop m (trees_on x l)) ≡ suc (spans (m + n) (trees_on x l)) =
       omega (arith, nodes-with h.0, spans-add m n (trees_on x l)) in
       rw (trees-more, e, skip l (m + n) h.1) (sym (drop-drop n m (trees_on x l)))
 
   -- every word is a node
-  pub every-word : (l : List ℕ) → HeadsFit x l → sum nodes (trees_on x l) ≡ length l
+  pub every-word : (l : List Head) → HeadsFit x l → sum nodes (trees_on x l) ≡ length l
   every-word [] h = rw trees-none
   every-word (w ∷ l) h =
-      rw trees-more (omega (arith, nodes-with h.0, sum-rest nodes (head_in w).members (trees_on x l), every-word l h.1))
+      rw trees-more (omega (arith, nodes-with h.0, sum-rest nodes w.members (trees_on x l), every-word l h.1))
 
-  module _ (stack : List ℕ) where
+  module _ (stack : List Head) where
     pub heads-from : {low p : ℕ} → low ≤ p → HeadsFit x (drop low stack) → HeadsFit x (drop p stack)
     heads-from {low} {p} h f =
         let e : low + (p - low) ≡ p = omega arith in
@@ -111,14 +111,14 @@ module _ (x : Text) where
       -- the trees from p on
       pub trees-at : trees_on x (drop p stack)
           ≡ tree_with x (head_at stack p) (trees_below x stack p) ∷ drop (head_at stack p).members (trees_below x stack p)
-      trees-at = rw (drop-cons stack p 0 h, trees-more)
+      trees-at = rw (drop-cons stack p no_head h, trees-more)
 
       pub tree-at : tree_at x stack p ≡ tree_with x (head_at stack p) (trees_below x stack p)
       tree-at = rw trees-at
 
       module _ (f : HeadsFit x (drop p stack)) where
         pub fits-at : HeadFits x (head_at stack p) (trees_below x stack p)
-        fits-at = (rw (drop-cons stack p 0 h) at f).0
+        fits-at = (rw (drop-cons stack p no_head h) at f).0
 
         pub size-at : (head_at stack p).size ≡ nodes (tree_at x stack p)
         size-at = fits-at.size_is ∙ ap nodes (sym tree-at)

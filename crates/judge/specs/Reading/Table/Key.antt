@@ -1,19 +1,12 @@
 -- What a key tells of a text, and what comparing eight bytes at once does.
 use mathlib.Core.{Path.◌≡◌, Path.refl, Path.sym, Path.ap₂, Path.◌∙◌, Logic.by_cases, Bool.Bool, Bool.true, Bool.false, Bool.true≢false}
 use mathlib.Core.{Bool.and-eq-true_iff, List.[], List.◌∷◌}
-use Rattle.std.specs.Prelude.{ℕ, zero, suc, ◌+◌, ◌-◌, ◌*◌, ◌/◌, ◌%◌, ◌^◌, ◌<◌, ◌≤◌}
-use native.Mathlib.{Decide.ℕ_discrete, Decide.dec_lt, Nat.mod-lt, Nat.mod-eq_of_lt, Nat.div-eq_of_lt, Nat.div-lt_iff_lt-mul, Omega.arith}
+use Rattle.std.specs.Prelude.{ℕ, zero, suc, ◌+◌, ◌-◌, ◌*◌, ◌^◌, ◌<◌, ◌≤◌}
+use native.Mathlib.{Decide.ℕ_discrete, Decide.dec_lt, Nat.mod-eq_of_lt, Nat.div-eq_of_lt, Omega.arith}
 use lib.{ListN.length, ListN.take, ListN.drop, ListN.get_or, ListN.length-take, ListN.get_or-eq_default, Seq.get_or-take, Seq.get_or-drop}
 use borrow.Author.Tests.{eqb-true, eq-eqb}
 use Rattle.fields.specs.{Tests.by-test, Bytes.Text, Bytes.same_text, Bytes.Laws.same_text-is}
 use Rattle.judge.specs.Reading.Table.{key_step, key_from, key_of, same_run, same_eight}
-
--- a turn stays below 2 ^ 64
-pub turned-fits : (k : ℕ) → k < 2 ^ 64 → k % 72057594037927936 * 256 + k / 72057594037927936 < 2 ^ 64
-turned-fits k h = small (k % 72057594037927936) (k / 72057594037927936) (mod-lt k (omega arith)) ((div-lt_iff_lt-mul (omega arith)).1 h)
-  where
-    small : (m d : ℕ) → m < 72057594037927936 → d < 256 → m * 256 + d < 2 ^ 64
-    small m d a b = omega arith
 
 -- a text of bytes
 abbrev pub Bytes : Text → Type 0

@@ -107,19 +107,28 @@ limits-more l (Atom lo hi) m h = limits-atom l lo hi m (omega arith)
 limits-more l (Group s n) m h = set-get_or (limits_in l) (atoms_in l + 0) 0 ∙ sym (limits-group l s n m)
 
 -- a turn of the loop over the nodes l, with what its calls gave
-pub limits-turn : (l : List Node) {i : ℕ} {x : Node} (d : Node) {words : List ℕ} {name one : ℕ} (w : ℕ) {v : ℕ}
-    → i < max_nodes → i < length l → atoms_in l ≤ max_atoms → x ≡ slice_index_or l i d → node_in w ≡ x
-    → name ≡ atoms_in (take i l) → one ≡ is_atom x.kind → v ≡ limited_word x.kind (slice_index (slice_set words i w) (max_nodes + (name + one)))
-    → Stores node_in max_nodes (limits_in (take i l)) words i (take i l)
-    → (name + one ≡ atoms_in (take (i + 1) l))
-    × Stores node_in max_nodes (limits_in (take (i + 1) l)) (slice_set (slice_set words i w) (max_nodes + (name + one)) v) (i + 1) (take (i + 1) l)
-limits-turn l {i} {x} d {words} {name} {one} w {v} f h b e q n o g t =
-    let m : atoms_in (take (i + 1) l) ≡ is_atom x.kind + atoms_in (take i l) = rw e (atoms-next l i d h) in
-    let u : take (i + 1) l ≡ take i l ++ (x ∷ []) = rw (add-one, e) (take-suc l i d h) in
-    let k : name + one ≡ atoms_in (take i l) + is_atom x.kind = omega arith in
-    let s = holds_more t w f q in
-    let r : v ≡ limited_word x.kind (slice_index (limits_in (take i l)) (name + one)) =
-    g ∙ ap (limited_word x.kind) (sym (seen_at (slice_set words i w) (name + one)) ∙ ap (λ z. slice_index z (name + one)) s.behind) in
-    let c : set (limits_in (take i l)) (name + one) v ≡ limits_in (take i l ++ (x ∷ [])) =
-    rw (r, k) (limits-more (take i l) x.kind x.mark (omega (arith, m, atoms-take l (i + 1)))) in
-    (omega arith, rw (u, ← c) (holds-rest s (name + one) v))
+module _ (l : List Node) (i : ℕ) {x : Node} (d : Node) (h : i < length l) (b : atoms_in l ≤ max_atoms) (e : x ≡ slice_index_or l i d) where
+  atoms-turn : atoms_in (take (i + 1) l) ≡ is_atom x.kind + atoms_in (take i l)
+  atoms-turn = rw e (atoms-next l i d h)
+
+  -- the place of the last name so far
+  module _ {place one : ℕ} (n : place ≡ max_nodes + atoms_in (take i l)) (o : one ≡ is_atom x.kind) where
+    pub place-turn : (place + one ≡ max_nodes + atoms_in (take (i + 1) l)) × (place + one ≤ max_nodes + max_atoms)
+    unfolding atoms-turn
+    place-turn = (omega (arith, atoms-turn), omega (arith, atoms-turn, atoms-take l (i + 1)))
+
+    pub limits-turn : (words : List ℕ) (w : ℕ) {v : ℕ} → i < max_nodes → node_in w ≡ x
+        → v ≡ limited_word x.kind (slice_index (slice_set words i w) (place + one))
+        → Stores node_in max_nodes (limits_in (take i l)) words i (take i l)
+        → Stores node_in max_nodes (limits_in (take (i + 1) l)) (slice_set (slice_set words i w) (place + one) v) (i + 1) (take (i + 1) l)
+    unfolding atoms-turn
+    limits-turn words w {v} f q g t =
+        let name = atoms_in (take i l) + one in
+        let k : place + one ≡ max_nodes + name = omega arith in
+        let u : take (i + 1) l ≡ take i l ++ (x ∷ []) = rw (add-one, e) (take-suc l i d h) in
+        let s = holds_more t w f q in
+        let r : v ≡ limited_word x.kind (slice_index (limits_in (take i l)) name) =
+        (rw k at g) ∙ ap (limited_word x.kind) (sym (seen_at (slice_set words i w) name) ∙ ap (λ z. slice_index z name) s.behind) in
+        let c : set (limits_in (take i l)) name v ≡ limits_in (take i l ++ (x ∷ [])) =
+        rw (r, o) (limits-more (take i l) x.kind x.mark (omega (arith, atoms-turn, atoms-take l (i + 1)))) in
+        rw (k, u, ← c) (holds-rest s name v)
