@@ -1,19 +1,14 @@
 -- The tests of the library, in the words of the specs.
-use Rattle.std.specs.Prelude.{◌≡◌, refl, Bool, true, false, not, ◌&&◌, [], ◌∷◌, ℕ, ◌<◌, eqb, length, take}
-use Rattle.std.proofs.Common.{ap, sym, ◌∙◌}
+use Rattle.std.specs.Prelude.{◌≡◌, Bool, true, false, not, ℕ, ◌<◌, eqb, length, take}
+use Rattle.std.proofs.Common.{sym, ◌∙◌}
 use Rattle.std.proofs.lemmas.Bool.{not-true, not-false}
 use Rattle.std.specs.Cmp.Lexicographic.{pointwise}
 use native.Mathlib.{Nat.sub-zero}
 use Rattle.fields.specs.{Bytes.Text, Bytes.bytes, Bytes.same_text, Split.part}
 use Rattle.fields.specs.{declared.split.Heads.Heads, Heads.heads_of, Heads.Laws.fields-three}
+use Rattle.judge.specs.Reading.Search.{pointwise-is}
 use Rattle.sheet.specs.Cues.{is_cue_number, Laws.NumberedLine, Laws.number_part}
 use Rattle.sheet.proofs.SheetLaws.{RuleLine}
-
-pub pointwise-is : (x y : Text) → pointwise eqb x y ≡ same_text x y
-pointwise-is [] [] = refl
-pointwise-is [] (d ∷ y) = refl
-pointwise-is (b ∷ x) [] = refl
-pointwise-is (b ∷ x) (d ∷ y) = ap (λ r. eqb b d && r) (pointwise-is x y)
 
 -- the first bytes of a line compared with a word
 word-told : (l w : Text) (a : ℕ) {s : Text} {r : Bool} → s ≡ w → r ≡ not (pointwise eqb (take a l) s) → not (same_text (part l 0 a) w) ≡ r
