@@ -41,8 +41,9 @@ fn remarked(t: Tidied, mark: Mark) -> Tidied
     ensures { result ≡ remarked_by mark t }
 {
     Tidied {
-        head: Head { mark, ..t.head },
-        ..t
+        head: t.head.under(mark),
+        top: t.top,
+        next: t.next,
     }
 }
 
@@ -50,7 +51,11 @@ fn remarked(t: Tidied, mark: Mark) -> Tidied
 fn placed(t: Tidied, top: usize, next: usize) -> Tidied
     ensures { result ≡ placed_at top next t }
 {
-    Tidied { top, next, ..t }
+    Tidied {
+        head: t.head.under(t.head.mark),
+        top,
+        next,
+    }
 }
 
 // A mark, or none where it changes nothing.
@@ -219,7 +224,7 @@ fn added(text: &[u8], stack: &mut [Head; MAX_NODES], g: Gathered, sign: Sign, t:
         };
     }
     let top = t.top - 1;
-    stack[top] = t.head;
+    stack[top] = t.head.under(t.head.mark);
     Gathered {
         last: t,
         members: g.members + 1,

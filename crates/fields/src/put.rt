@@ -3,16 +3,18 @@
 ghost use Rattle.std.specs.Prelude.{◌≡◌};
 ghost use Rattle.fields.specs.{Bytes.digits, Put.put_at, Put.put_end};
 
-// Writes the bytes at `at`, as many as there is room for, and gives the place behind them.
+// Writes the bytes at `at`, as many as there is room for, and gives the place behind them. Byte by byte: `copy_from_slice` would have C callers link with
+// `memmove`.
 pub fn put(buffer: &mut [u8], at: usize, bytes: &[u8]) -> usize
     ensures value { result ≡ put_end buffer.old at bytes.now }
     ensures buffer_after { buffer.new ≡ put_at buffer.old at bytes.now }
 {
     let start = at.min(buffer.len());
     let count = bytes.len().min(buffer.len() - start);
-    let end = start + count;
-    buffer[start..end].copy_from_slice(&bytes[..count]);
-    end
+    for i in 0..count {
+        buffer[start + i] = bytes[i];
+    }
+    start + count
 }
 
 // Of a number of 64 bits.

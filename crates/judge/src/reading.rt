@@ -12,6 +12,7 @@ use crate::packed::{WORDS, no_rule, unpack};
 use crate::reader::read_whole;
 use crate::reply::{TextMisread, read_children};
 use crate::table::{Entry, Table};
+use fields::bytes::same_bytes;
 use model::rule::{MAX_ATOMS, NameNumber, Rule};
 
 // Where a name stands in the text.
@@ -103,7 +104,7 @@ pub fn number_of(text: &[u8], names: Names, name: &[u8]) -> NameNumber
     for (i, place) in names.places[..n].iter().enumerate() {
         let start = (place.start as usize).min(text.len());
         let end = (place.start as usize + place.len as usize).min(text.len());
-        if &text[start..end] == name {
+        if same_bytes(&text[start..end], name) {
             return NameNumber((i + 1) as u16);
         }
     }

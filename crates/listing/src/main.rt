@@ -46,15 +46,15 @@ fn with_both(rt: &impl Print, sheet: &[u8], cues: &[u8]) -> io::Result<()> {
 fn with_sheet(rt: &(impl Print + Files), sheet: &[u8]) -> io::Result<()> {
     let mut cues = [0u8; ROOM];
     match read_file(rt, b"cues.txt", &mut cues) {
-        Some(n) => with_both(rt, sheet, &cues[..n]),
-        None => without_cues(rt, sheet),
+        Ok(n) => with_both(rt, sheet, &cues[..n]),
+        Err(_) => without_cues(rt, sheet),
     }
 }
 
 fn main(rt: HostRuntime) -> io::Result<()> {
     let mut sheet = [0u8; ROOM];
     match read_file(&rt, b"sheet.txt", &mut sheet) {
-        Some(n) => with_sheet(&rt, &sheet[..n]),
-        None => refuse(&rt, no_file(Source::Sheet)),
+        Ok(n) => with_sheet(&rt, &sheet[..n]),
+        Err(_) => refuse(&rt, no_file(Source::Sheet)),
     }
 }

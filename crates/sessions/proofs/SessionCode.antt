@@ -1,22 +1,17 @@
 -- How the answers of the methods come from what their calls give.
-use mathlib.Core.{Path.◌≡◌, Path.refl, Bool.true, List.[], List.◌∷◌}
-use Rattle.std.specs.Prelude.{ℕ, ◌≤◌, ◌<◌, leb, eqb, length, take, Ok}
+use mathlib.Core.{Path.◌≡◌, Bool.true}
+use Rattle.std.specs.Prelude.{ℕ, ◌≤◌, ◌<◌, leb, length, take, Ok}
 use native.Mathlib.{Omega.arith}
 use Rattle.std.proofs.Common.{length-take}
 use borrow.Author.Tests.{le-leb, ltb-true}
-use Rattle.std.specs.List.{list_all}
 use Rattle.judge.specs.{Row.row_tested, Row.judged, Row.upto, Row.Laws.upto-tells, Next.next_judged}
 use Rattle.judge.specs.declared.fault.JudgeFault.TheVariants.{UnknownName, NoRoom, NothingToTakeBack}
 use Rattle.sessions.specs.Book.{adding, taking_back, room}
 use Rattle.model.specs.{Rule.names, Check.readable}
 use Rattle.sessions.specs.{declared.session.Session.Session, Session.Laws.intact-tells, Session.Laws.checked-done, Session.Laws.check_done}
 use Rattle.sessions.specs.Session.Laws.{then-done, next-by-asked}
-use Rattle.sessions.specs.Session.{Trail, free, all_free, intact, check, checked, outcome, asked, next_asked}
+use Rattle.sessions.specs.Session.{Trail, intact, check, checked, outcome, asked, next_asked}
 use Rattle.fields.specs.{Limits.max_row, Tests.by-test}
-
-pub all-free-is : (t : Trail) → list_all (λ x. eqb x free) t ≡ all_free t
-all-free-is [] = refl
-all-free-is (x ∷ t) = rw (all-free-is t)
 
 -- the children of an intact trail stand within it
 pub intact-fits : (k m : ℕ) (t : Trail) → intact k m t ≡ true → k ≤ length t

@@ -31,10 +31,15 @@ fn room_in(places: usize) -> usize
     places.min(MAX_ROW)
 }
 
+// Without a branch the loop is compiled to vectors: a trail may have many more places than children.
 fn all_free(places: &[u16]) -> bool
     ensures { result ≡ all_free places.now }
 {
-    places.iter().all(|place| *place == FREE)
+    let mut free = true;
+    for &place in places {
+        free = free & (place == FREE);
+    }
+    free
 }
 
 // The session as it then stands, and what the call was answered. Refused, the session and the trail stay as they were.
@@ -80,7 +85,9 @@ impl Session {
         if !is_readable(self.rule) {
             return Err(JudgeFault::Unreadable);
         }
-        self.filled(trail)?;
+        if !self.is_intact(trail) {
+            return Err(JudgeFault::BadTrail);
+        }
         Ok(())
     }
 

@@ -8,6 +8,7 @@ ghost use Rattle.sheet.specs.Sheet.Line.{line_checked, line_read, read_of};
 ghost use Rattle.sheet.specs.Sheet.{sheet_with, sheet_lines, sheet_by, sheet_read};
 
 use crate::whole::check_whole;
+use fields::bytes::same_bytes;
 use fields::children::is_name;
 use fields::fault::AtLine;
 use fields::lines::lines_of;
@@ -98,7 +99,7 @@ fn check_line(text: &[u8], kinds: Names, line: &[u8], ends: Heads) -> Result<(),
 {
     if line.len() <= ends.second
         || ends.third != line.len()
-        || &line[..ends.first] != b"rule".as_slice()
+        || !same_bytes(&line[..ends.first], b"rule")
     {
         return Err(SheetFault::BadFields);
     }

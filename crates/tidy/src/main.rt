@@ -39,7 +39,7 @@ fn with_sheet(rt: &impl Print, sheet: &[u8]) -> io::Result<()> {
 fn main(rt: HostRuntime) -> io::Result<()> {
     let mut sheet = [0; MAX_FILE + 1];
     match read_file(&rt, b"sheet.txt", &mut sheet) {
-        Some(n) => with_sheet(&rt, &sheet[..n]),
-        None => refuse(&rt, NO_SHEET),
+        Ok(n) => with_sheet(&rt, &sheet[..n]),
+        Err(_) => refuse(&rt, NO_SHEET),
     }
 }

@@ -9,7 +9,7 @@ use lib.{Dec.T, Dec.eqb, Dec.leb, Dec.ltb, Seq.drop-cons}
 use Rattle.std.proofs.Math.ListN.{length}
 use Rattle.std.specs.Prelude.{take, drop, get_or, Result, Ok, Err}
 use mir.Mem.{Loc}
-use borrow.Author.Tests.{ne_eqb, eqb-false, leb-true, lt-leb, ltb-true}
+use borrow.Author.Tests.{ne_eqb, eqb-false, leb-true, lt-leb, ltb-true, ltb-false}
 use Rattle.fields.specs.{Tests.by-test, Bytes.Text, Limits.max_row, Limits.max_file, Limits.max_atoms, declared.fault.CueFault.CueFault}
 use Rattle.fields.specs.{Children.all_names, Children.children_of}
 use Rattle.fields.specs.declared.fault.CueFault.TheVariants.{LongFile, NoName, ManyChildren, NoChild}
@@ -62,13 +62,13 @@ module _ (c : Text) (k : ℕ) where
       go (b ∷ y) = let e : eqb (length (b ∷ y)) 0 ≡ false = ne_eqb (length (b ∷ y)) 0 (λ z. omega arith) in rw e (counted (split tab (b ∷ y)))
 
   -- a child that is asked for is there
-  pub asked-within : asked_of c k ≡ Ok tt → (1 ≤ k) × (k ≤ length (split tab c)) × (length c ≡ 0 → ⊥)
+  pub asked-within : asked_of c k ≡ Ok tt → (1 ≤ k) × (k ≤ length (split tab c)) × (length c ≤ max_file) × (length c ≡ 0 → ⊥)
   asked-within e =
       by-test (ltb max_file (length c))
       (λ t. let z : Err LongFile ≡ Ok tt = rw t at e in absurd cc)
       (λ t. by-test (eqb (length c) 0)
       (λ u. let z : Err NoChild ≡ Ok tt = rw (t, u) at e in absurd cc)
-      (λ u. let w = there (split tab c) (rw (t, u) at e) in (w.0, w.1, eqb-false (length c) 0 u)))
+      (λ u. let w = there (split tab c) (rw (t, u) at e) in (w.0, w.1, ltb-false max_file (length c) t, eqb-false (length c) 0 u)))
     where
       there : (cs : List Text) → asked_count (children_of cs) k ≡ Ok tt → (1 ≤ k) × (k ≤ length cs)
       there cs d =
@@ -155,7 +155,7 @@ module _ (c : Text) (k : ℕ) {at end : ℕ} (a : asked_of c k ≡ Ok tt) (r : C
 
   pub hands_field : (children : Loc) → HandsField c k children (take (end - at) (drop at c)) (children.0, at + children.1)
   hands_field children =
-      let s = children-some c (asked-within c k a).2 in
+      let s = children-some c (asked-within c k a).3 in
       let b = field_ends in
       record {
         asked = a;

@@ -12,7 +12,8 @@ use Rattle.model.specs.{Model.Types.type-conflict-free}
 use Rattle.model.proofs.AcceptLaws.{accepted-within, accepted-counts}
 use Rattle.model.specs.declared.verdict.Verdict.TheVariants.{Complete, Open, Dead}
 use Rattle.model.proofs.FaultAnswered.{number-injective, number-over, number-under}
-use Rattle.judge.specs.{Reply.Laws.cue-injective, Reply.Laws.judges-exactly}
+use Rattle.judge.specs.{declared.fault.JudgeFault.JudgeFault, Row.judge_number, Reply.Laws.cue-injective, Reply.Laws.judges-exactly}
+use Rattle.judge.specs.declared.fault.JudgeFault.TheVariants.{Unreadable, LongRow, BadTrail, UnknownName, NoRoom, NothingToTakeBack, ShortRow}
 use Rattle.judge.specs.FirstFault.{upper_counts, ChildrenFaultStands, children_fault}
 use Rattle.judge.proofs.FirstFaultLaws.{fault-place, fault-replies-exactly}
 use Rattle.judge.specs.Reply.{Reply, model_refused, children_refused, good, ChildrenJudges, children_reply, result_of, children_in, row_in, many_children}
@@ -20,8 +21,9 @@ use Rattle.judge.specs.Next.{NextReply, next_listed, next_refused, NextInto, all
 use Rattle.judge.specs.Next.Laws.{list-exactly, next-few, next-replies-exactly}
 use Rattle.desk.specs.Desk.{reply_number, verdict_number, desk_answer, refusal_base, based_number, next_number, desk_next, fault_number, desk_fault, PlaceFits}
 use Rattle.desk.specs.Desk.{write_reply_number, desk_canonical}
-use Rattle.canonical.specs.{Canonical.Reply.written-short}
-use Rattle.canonical.specs.Canonical.{WriteReply, wrote, refused_write, write_reply, written_of, Writes}
+use Rattle.canonical.specs.{declared.fault.WriteFault.WriteFault, Canonical.Reply.written-short}
+use Rattle.canonical.specs.declared.fault.WriteFault.TheVariants.{Model, LongText}
+use Rattle.canonical.specs.Canonical.{WriteReply, wrote, refused_write, write_reply, write_number, written_of, Writes}
 use Rattle.canonical.specs.Ends.{writes-exactly}
 
 -- those of the model text are 10 to 19, those of the children text 30 to 37, verdicts below 3
@@ -37,6 +39,15 @@ cue-under NotAbove = (omega arith, omega arith)
 cue-under NoName = (omega arith, omega arith)
 cue-under ManyChildren = (omega arith, omega arith)
 cue-under NoChild = (omega arith, omega arith)
+
+pub judge-under : (f : JudgeFault) → judge_number f < 47
+judge-under Unreadable = omega arith
+judge-under LongRow = omega arith
+judge-under BadTrail = omega arith
+judge-under UnknownName = omega arith
+judge-under NoRoom = omega arith
+judge-under NothingToTakeBack = omega arith
+judge-under ShortRow = omega arith
 
 verdict-under : (v : Verdict) → verdict_number v < 3
 verdict-under Complete = omega arith
@@ -154,6 +165,11 @@ module _ (m c : Text) where
       go (children_refused f) h e = absurd (cc)
       go (good (Some q)) h e = let z : p ≡ q = cc in omega arith
       go (good None) h e = absurd (cc)
+
+-- the canonical text: 51, and the model text's own
+pub write_under : (f : WriteFault) → write_number f < 52
+write_under (Model f) = omega (arith, model-under f)
+write_under LongText = omega arith
 
 -- the canonical text
 pub canonical-exactly : (m : Text) (k n : ℕ) → (desk_canonical m k ≡ n) ↔ ((r : WriteReply) × Writes m k r × (write_reply_number r ≡ n))

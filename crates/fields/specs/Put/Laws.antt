@@ -4,7 +4,7 @@ use Rattle.std.specs.Prelude.{ℕ, ◌+◌, ◌-◌, ◌≤◌, ◌<◌, min, le
 use native.Mathlib.{Omega.arith, Numerals.add-one, Nat.min-eq_left}
 use Rattle.std.proofs.Common.{length-append, length-take, length-drop, drop_of_length-le, take_at, drop_at, drop-drop, take_all, take-add}
 use Rattle.std.proofs.lemmas.List.{set_split}
-use Rattle.std.proofs.Math.Seq.{take-length}
+use Rattle.std.proofs.Math.Seq.{take-length, paste}
 use borrow.Rule.Slice.PartMut.{put_mid}
 use Rattle.fields.specs.{Bytes.Text, Put.Put, Put.put_start, Put.put_count, Put.put_end, Put.put_at, Put.Begun}
 
@@ -51,11 +51,11 @@ put_one old at b h =
       text_is = set_split old at b h ∙ ap (λ n. take at old ++ (b ∷ drop n old)) (sym (add-one at));
     }
 
--- what `put` leaves, where the bytes were copied into the part of the buffer from start on
-pub put-done : (old s : Text) (at start count size : ℕ) → start ≡ put_start old at → count ≡ put_count old at s → size ≡ count
-    → put_mid start size old (take count s) ≡ put_at old at s
-unfolding put_at
-put-done old s at start count size p n e = rw (e, drop-drop, p, n)
+-- what the loop of `put` ends in
+pub put-done : (old new s : Text) (at start count : ℕ) → start ≡ put_start old at → count ≡ put_count old at s → new ≡ paste old start s count
+    → (start + count ≡ put_end old at s) × (new ≡ put_at old at s)
+unfolding put_end put_at
+put-done old new s at start count p n e = (rw (p, n), e ∙ append_assoc (take start old) (take count s) (drop (start + count) old) ∙ rw (p, n))
 
 -- `put`, where there is room
 pub put-fits : (old new : Text) (at : ℕ) (s : Text) (end : ℕ) → at + length s ≤ length old → end ≡ put_end old at s → new ≡ put_at old at s

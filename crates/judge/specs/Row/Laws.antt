@@ -1,7 +1,6 @@
 -- Every row has one answer, and `judged` computes it.
-use mathlib.Core.{Path.◌≡◌, Path.refl, Path.sym, Path.ap, Bool.Bool, Bool.true, Bool.false, Bool.and-eq-true_iff, List.[], List.◌∷◌}
+use mathlib.Core.{Path.◌≡◌, Path.refl, Path.sym, Path.ap, Bool.true, Bool.and-eq-true_iff, List.[], List.◌∷◌}
 use Rattle.std.specs.Prelude.{ℕ, zero, suc, ◌<◌, ◌≤◌, Result, Ok}
-use Rattle.std.specs.{Bool.MatchBool, List.AllWithin, List.HoldsAt}
 use Rattle.std.proofs.Common.{arith, leb-true, le-leb}
 use lib.{Dec.leb, ListN.length, ListN.get_or}
 use Rattle.model.specs.{declared.rule.Rule.Rule, Word.Word, Rule.names, Rule.rule_type, Rule.Means}
@@ -23,17 +22,6 @@ pub upto-at : (m : ℕ) (w : Word) → upto m w ≡ true → (i : ℕ) → i < l
 upto-at m [] e i h = absurd (omega arith)
 upto-at m (x ∷ w) e zero h = leb-true x m ((and-eq-true_iff (leb x m) (upto m w)).0 e).0
 upto-at m (x ∷ w) e (suc i) h = upto-at m w ((and-eq-true_iff (leb x m) (upto m w)).0 e).1 i (omega arith)
-
--- what a walk over the numbers tells, which stops at the first above m
-pub upto-walked : (m : ℕ) (w : Word) (r : Bool) → MatchBool r (AllWithin (λ x. x ≤ m) w 0 (length w)) ((k : ℕ) × (k < length w) × HoldsAt (λ x. m < x) w k)
-    → r ≡ upto m w
-upto-walked m w true h = sym (all-upto m w (λ k l. h k 0 (omega arith) l))
-  where
-    all-upto : (m : ℕ) (w : Word) → ((k : ℕ) → k < length w → get_or w k 0 ≤ m) → upto m w ≡ true
-    all-upto m [] g = refl
-    all-upto m (x ∷ w) g =
-        (and-eq-true_iff (leb x m) (upto m w)).1 (le-leb x m (g 0 (omega arith)), all-upto m w (λ k l. g (suc k) (omega arith)))
-upto-walked m w false (k, l, h) = by-test (upto m w) (λ e. absurd (omega (arith, upto-at m w e k l, h 0))) (λ e. sym e)
 
 pub upto-more : (m n : ℕ) (w : Word) → m ≤ n → upto m w ≡ true → upto n w ≡ true
 upto-more m n [] h e = refl

@@ -1,7 +1,7 @@
 -- A listing is refused exactly as the table says.
-use mathlib.Core.{Path.◌≡◌, Path.refl, Logic.◌↔◌}
-use Rattle.std.specs.Prelude.{Result, Ok, Err, ℕ}
-use Rattle.std.proofs.Common.{leb-true, leb-false, le-leb}
+use mathlib.Core.{Path.◌≡◌, Path.refl, Logic.◌↔◌, Bool.Bool, Bool.true, Bool.false, Bool.cond}
+use Rattle.std.specs.Prelude.{Result, Ok, Err, ℕ, ◌≤◌}
+use Rattle.std.proofs.Common.{arith, leb-true, leb-false, le-leb}
 use lib.{Dec.leb, ListN.length}
 use Rattle.std.proofs.lemmas.Bool.{lt-leb}
 use Rattle.fields.specs.{Tests.by-test, Bytes.Text, Split.lines}
@@ -32,3 +32,16 @@ module _ (s c : Text) (size : ℕ) where
   listed-is r =
       let listed-lists = lists-by (sheet_outcome s) ((sheet-exactly s (sheet_outcome s)).0 refl) (cues_read c) ((cues-exactly c (cues_read c)).0 refl) in
       (λ e. rw e at listed-lists, lists-only r)
+
+-- what is written is no longer than the buffer
+pub written-fits : (s c : Text) (room : ℕ) {n : ℕ} → Ok n ≡ listed s c room → n ≤ room
+written-fits s c room {n} e =
+    let m = length (listing s c) in
+    go (sheet_outcome s) (cues_read c) (leb m room) m (leb-true m room) e
+  where
+    go : (o : Result Unit (AtLine SheetFault)) (q : Result ℕ (AtLine CueFault)) (t : Bool) (m : ℕ) → (t ≡ true → m ≤ room)
+        → Ok n ≡ by_sheet o (by_cues q (cond t (Ok m) (Err TooLong))) → n ≤ room
+    go (Err f) q t m h e = absurd (cc)
+    go (Ok _) (Err f) t m h e = absurd (cc)
+    go (Ok _) (Ok k) false m h e = absurd (cc)
+    go (Ok _) (Ok k) true m h e = let z : n ≡ m = cc in omega (arith, z, h refl)

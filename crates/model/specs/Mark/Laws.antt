@@ -19,6 +19,11 @@ numbered-mark Plain = refl
 numbered-mark Optional = refl
 numbered-mark Nonempty = refl
 
+pub few-marks : (m : Mark) → mark_number m < 3
+few-marks Plain = omega arith
+few-marks Optional = omega arith
+few-marks Nonempty = omega arith
+
 -- behind the text there is none
 pub mark-inside : (x : Text) (p : ℕ) → is_plain (mark_at x p) ≡ false → p < length x
 mark-inside x p e =

@@ -1,6 +1,6 @@
 -- How a sheet is tidied: the lines one behind the other, and the answer.
 use mathlib.Core.{Path.◌≡◌, Path.refl, Logic.inl, Logic.inr, Logic.by_cases, Logic.◌↔◌}
-use mathlib.Core.{Bool.cond}
+use mathlib.Core.{Bool.Bool, Bool.true, Bool.false, Bool.cond}
 use Rattle.std.specs.Prelude.{ℕ, suc, ◌*◌, ◌≤◌, ◌<◌, length, get_or, List, [], ◌∷◌, Result, Ok, Err}
 use native.Mathlib.{Decide.dec_le, Omega.arith}
 use lib.{Dec.eqb, Dec.leb}
@@ -8,10 +8,10 @@ use Rattle.std.proofs.Common.{length-append, eqb-true, leb-true, leb-false, le-l
 use Rattle.std.proofs.lemmas.Bool.{eqb-false, lt-leb}
 use Rattle.fields.specs.{Tests.by-test, Tests.untold, Bytes.Text, Bytes.bytes, Bytes.same_text}
 use Rattle.fields.specs.{Bytes.Laws.same_text-is, Limits.max_file, Least.NoFault, Children.short_name}
-use Rattle.fields.specs.Split.{lines, fields, field}
+use Rattle.fields.specs.Split.{lines, behind, fields, field}
 use Rattle.sheet.specs.{declared.sheet.SheetFault.SheetFault, Refusal.Line, Refusal.SheetStands, Refusal.SheetAnswers}
 use Rattle.sheet.specs.{Sheet.kind, Sheet.sheet_outcome}
-use Rattle.sheet.proofs.{Ends.sheet-exactly, SheetGood.line-accepted}
+use Rattle.sheet.proofs.{Ends.sheet-exactly, SheetGood.lines-read, SheetGood.line-accepted}
 use Rattle.sheet.specs.declared.sheet.SheetFault.TheVariants.{LongFile, BadFields, NoKind}
 use Rattle.fields.specs.declared.fault.AtLine.{AtLine}
 use Rattle.tidying.specs.declared.write.TidyFault.{TidyFault, TheVariants.Sheet, TheVariants.TooLong}
@@ -25,6 +25,7 @@ rest-fit l ls f i h = f (suc i) (omega arith)
 
 -- a sheet that was read
 pub record GoodSheet (x : Text) : Type 0 where
+  pub ended : behind x ≡ []
   pub short : length x ≤ max_file
   pub fit : AllFit (lines x)
 
@@ -56,6 +57,7 @@ module _ (x : Text) (read : sheet_outcome x ≡ Ok tt) where
 
   pub good-sheet : GoodSheet x
   good-sheet = record {
+    ended = (lines-read x read).0;
     short = by_cases (dec_le (length x) max_file) (λ h. h) (λ h. absurd (clear LongFile 0 (refl, omega arith)));
     fit = line-fits;
   }
@@ -74,3 +76,14 @@ module _ (x : Text) (size : ℕ) where
 
   pub tidied-is : (r : Result ℕ TidyFault) → (sheet_tidied x size ≡ r) ↔ TidiedAnswers x size r
   tidied-is r = (λ e. rw e at (tidies-by (sheet_outcome x) ((sheet-exactly x (sheet_outcome x)).0 refl)), tidies-only r)
+
+-- what is written is no longer than the buffer
+pub tidied-fits : (x : Text) (room : ℕ) {n : ℕ} → Ok n ≡ sheet_tidied x room → n ≤ room
+tidied-fits x room {n} e =
+    let m = length (tidy_sheet x) in
+    go (sheet_outcome x) (leb m room) m (leb-true m room) e
+  where
+    go : (o : Result Unit (AtLine SheetFault)) (t : Bool) (m : ℕ) → (t ≡ true → m ≤ room) → Ok n ≡ tidied_by o (cond t (Ok m) (Err TooLong)) → n ≤ room
+    go (Err f) t m h e = absurd (cc)
+    go (Ok _) false m h e = absurd (cc)
+    go (Ok _) true m h e = let z : n ≡ m = cc in omega (arith, z, h refl)
