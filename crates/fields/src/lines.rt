@@ -3,13 +3,12 @@
 ghost use Rattle.std.specs.Prelude.{◌≡◌, ◌==◌, ◌≤◌, length, position};
 ghost use Rattle.fields.specs.{Lines.lines_left, Split.lines, Split.line_feed};
 
-use crate::split::{LINE_FEED, part_end};
+use crate::split::LINE_FEED;
 
 fn line_end(text: &[u8]) -> Option<usize>
     ensures { result ≡ position (λ b. b == line_feed) text.now }
 {
-    let end = part_end(text, 0, LINE_FEED);
-    (end < text.len()).then_some(end)
+    text.iter().position(|b| *b == LINE_FEED)
 }
 
 // Each line without its line feed. What stands behind the last line feed is no line.
