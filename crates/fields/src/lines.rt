@@ -3,12 +3,13 @@
 ghost use Rattle.std.specs.Prelude.{◌≡◌, ◌==◌, ◌≤◌, length, position};
 ghost use Rattle.fields.specs.{Lines.lines_left, Split.lines, Split.line_feed};
 
-use crate::split::LINE_FEED;
+use crate::split::{LINE_FEED, part_end};
 
 fn line_end(text: &[u8]) -> Option<usize>
     ensures { result ≡ position (λ b. b == line_feed) text.now }
 {
-    text.iter().position(|b| *b == LINE_FEED)
+    let end = part_end(text, 0, LINE_FEED);
+    (end < text.len()).then_some(end)
 }
 
 // Each line without its line feed. What stands behind the last line feed is no line.
